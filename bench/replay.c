@@ -1,0 +1,144 @@
+// The plain C version behind the protocol of tests/PROTOCOL.md, so that the generator's requests check it too.
+
+#include "plain.h"
+
+#include <inttypes.h>
+#include <stdio.h>
+
+enum { READ = 1, WRITE, CENTRAL };
+enum { MOST_FILE = 4096, MOST_MASKS = 32, MOST_BYTES = 8192 };
+
+struct request {
+    uint32_t call, a, b, c;
+    uint64_t v;
+};
+
+static uint8_t given[MOST_BYTES], lent[MOST_BYTES];
+static uint64_t masks[MOST_MASKS];
+
+static uint64_t little_endian(const uint8_t *bytes, int count)
+{
+    uint64_t value = 0;
+    while (count-- > 0)
+        value = value << 8 | bytes[count];
+    return value;
+}
+
+static void fill_lent(uint32_t count)
+{
+    for (uint32_t i = 0; i < count; i++)
+        lent[i] = (uint8_t)(i % 251 + 1);
+}
+
+static void fill_masks(uint32_t count)
+{
+    for (uint32_t i = 0; i < count; i++)
+        masks[i] = (i + 1) * UINT64_C(72340172838076673);
+}
+
+static uint64_t hashed(uint64_t hash, uint8_t byte)
+{
+    return (hash * 257 + byte + 1) % UINT64_C(4294967291);
+}
+
+static void print_lent(uint32_t count)
+{
+    uint64_t hash = 1;
+    for (uint32_t i = 0; i < count; i++)
+        hash = hashed(hash, lent[i]);
+    printf(" %" PRIu64 "\n", hash);
+}
+
+static void print_masks(uint32_t count)
+{
+    uint64_t hash = 1;
+    for (uint32_t i = 0; i < 8 * count; i++)
+        hash = hashed(hash, (uint8_t)(masks[i / 8] >> i % 8 * 8));
+    printf(" %" PRIu64, hash);
+}
+
+static int take(void *bytes, size_t count)
+{
+    return fread(bytes, 1, count, stdin) == count;
+}
+
+static int answer_read(struct request r)
+{
+    uint64_t boards, propositions, nodes;
+    if (r.a > MOST_FILE || r.b > MOST_MASKS || r.c > MOST_BYTES || !take(given, r.a))
+        return 0;
+    fill_masks(r.b);
+    fill_lent(r.c);
+    uint32_t number = plain_read(given, r.a, masks, r.b, lent, r.c, &boards, &propositions, &nodes);
+    printf("%" PRIu32, number);
+    if (number == 0)
+        printf(" %" PRIu64 " %" PRIu64 " %" PRIu64, boards, propositions, nodes);
+    print_masks(r.b);
+    print_lent(r.c);
+    return 1;
+}
+
+static int answer_write(struct request r)
+{
+    uint64_t length;
+    uint8_t mask[8];
+    if (r.a > MOST_MASKS || r.b > MOST_BYTES || r.c > MOST_BYTES)
+        return 0;
+    for (uint32_t i = 0; i < r.a; i++) {
+        if (!take(mask, 8))
+            return 0;
+        masks[i] = little_endian(mask, 8);
+    }
+    if (!take(given, r.b))
+        return 0;
+    fill_lent(r.c);
+    uint32_t number = plain_write(masks, r.a, r.v, given, r.b, lent, r.c, &length);
+    printf("%" PRIu32, number);
+    if (number == 0)
+        printf(" %" PRIu64, length);
+    print_lent(r.c);
+    return 1;
+}
+
+static int answer_central(struct request r)
+{
+    uint32_t verdict;
+    uint64_t length;
+    if (r.a > MOST_BYTES || r.c > MOST_BYTES || !take(given, r.a))
+        return 0;
+    fill_lent(r.c);
+    uint32_t number = plain_central(given, r.a, r.v, lent, r.c, &verdict, &length);
+    printf("%" PRIu32, number);
+    if (number == 0)
+        printf(" %" PRIu32 " %" PRIu64, verdict, length);
+    print_lent(r.c);
+    return 1;
+}
+
+static int answer(const uint8_t *header)
+{
+    struct request r = {(uint32_t)little_endian(header, 4), (uint32_t)little_endian(header + 4, 4),
+                        (uint32_t)little_endian(header + 8, 4), (uint32_t)little_endian(header + 12, 4), little_endian(header + 16, 8)};
+    switch (r.call) {
+    case READ:
+        return answer_read(r);
+    case WRITE:
+        return answer_write(r);
+    case CENTRAL:
+        return answer_central(r);
+    default:
+        return 0;
+    }
+}
+
+int main(void)
+{
+    uint8_t header[24];
+    size_t got;
+    while ((got = fread(header, 1, sizeof header, stdin)) != 0)
+        if (got != sizeof header || !answer(header)) {
+            puts("bad request");
+            return 0;
+        }
+    return 0;
+}

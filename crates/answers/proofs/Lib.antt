@@ -1,0 +1,2 @@
+-- Laws of answers and refusals, for every call.
+pub mod Answers

@@ -1,0 +1,2 @@
+-- What the calls' promises say of their answers.
+pub mod Said

@@ -1,0 +1,4 @@
+-- Laws of central progression over bytes.
+pub mod Progresses
+pub mod Outcomes
+pub mod Determined

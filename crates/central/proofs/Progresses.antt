@@ -1,0 +1,138 @@
+-- Unfolding into the output, resolving there, moving the result to the front and clearing the rest is progression:
+-- `progress-done`. `verdict-first`: the first byte of a formula says its verdict. Assumes nothing.
+use mathlib.Core.Path.{_≡_, refl, sym, ap, ap₂, _∙_, subst}
+use mathlib.Core.Bool.{Bool, true, false}
+use mathlib.Core.List.{List, [], _∷_, _++_, append-assoc, append-nil}
+use Prim.Native.Nat.{ℕ, zero, suc, _+_, _-_, _/_, _%_, _^_, _<_, _≤_}
+use native.Mathlib.Nat.{zero-div}
+use native.Mathlib.Omega.{arith}
+use lib.ListN.{length, getD, take, drop, replicate, length-append, length-drop, length-replicate}
+use lib.Seq.{take-at, drop-at}
+use lib.Dec.{eqb}
+use borrow.Author.Tests.{eq-eqb, ne-eqb}
+use Rattle.lists.specs.Tests.{pick, bit}
+use Rattle.lists.specs.Runs.{tail, padded}
+use Rattle.lists.proofs.Parts.{tail-is, handed-tail}
+use Rattle.kinds.specs.declared.Leaf.{Leaf}
+use Rattle.kinds.specs.declared.Leaf.the-variants.{Const, Prop, Hold}
+use Rattle.kinds.specs.declared.Unary.the-variants.{Not, Next, Eventually, Always}
+use Rattle.kinds.specs.declared.Binary.the-variants.{Joined, Until}
+use Rattle.answers.specs.declared.Verdict.{Verdict}
+use Rattle.answers.specs.declared.Verdict.the-variants.{False, True, Pending}
+use Rattle.ltl.specs.Formula.{Formula, leaf, one, two, join, size, encode, Within}
+use Rattle.ltl.specs.Meaning.{Event}
+use Rattle.ltl.specs.Progression.{unfolded, resolved, progressed, verdictOf, filled, filledBy}
+use Rattle.ltl.proofs.Texts.{size-some, length-encode}
+use Rattle.nodes.specs.Begins.{Front, Begins}
+use Rattle.resolving.specs.declared.Seen.{Seen}
+use Rattle.resolving.specs.declared.Settled.{Settled}
+use Rattle.resolving.specs.Settles.{heldBy, settled, Stands, Makes}
+use Rattle.resolving.proofs.Firsts.{first, first-is, unary-high, binary-high}
+use Rattle.resolving.proofs.Places.{stands-length, stands-bounds}
+use Rattle.unfolding.specs.Unfolds.{UnfoldedTo}
+use Rattle.central.specs.Central.{verdictByte}
+
+-- ---- the verdict
+pub verdict-first : (g : Formula) → verdictByte (first g) ≡ verdictOf g
+unfolding verdictByte pick
+verdict-first (leaf (Const true)) = refl
+verdict-first (leaf (Const false)) = refl
+verdict-first (leaf (Prop i)) = rw (ne-eqb (64 + i) 0 (λ e. omega arith), ne-eqb (64 + i) 1 (λ e. omega arith))
+verdict-first (leaf (Hold k)) = rw (ne-eqb (128 + k) 0 (λ e. omega arith), ne-eqb (128 + k) 1 (λ e. omega arith))
+verdict-first (one o f) = let h = unary-high o in rw (ne-eqb (first (one o f)) 0 (λ e. omega arith), ne-eqb (first (one o f)) 1 (λ e. omega arith))
+verdict-first (two o f g) = let h = binary-high o in rw (ne-eqb (first (two o f g)) 0 (λ e. omega arith), ne-eqb (first (two o f g)) 1 (λ e. omega arith))
+
+-- the first byte of an output that holds a formula
+pub first-of : (g : Formula) (out zeros : List ℕ) → out ≡ encode g ++ zeros → getD out 0 0 ≡ first g
+first-of g out zeros e = ap (λ (l : List ℕ). getD l 0 0) e ∙ first-is g zeros
+
+-- ---- unfolding keeps every number within its codes
+pub unfolded-coded : (p s : ℕ) (f : Formula) → Within p s f → Within p s (unfolded f)
+unfolded-coded p s (leaf a) w = w
+unfolded-coded p s (one Not f) w = unfolded-coded p s f w
+unfolded-coded p s (one Next f) w = w
+unfolded-coded p s (one Eventually f) w = (unfolded-coded p s f w, w)
+unfolded-coded p s (one Always f) w = (unfolded-coded p s f w, w)
+unfolded-coded p s (two (Joined j) f g) w = (unfolded-coded p s f (w .0), unfolded-coded p s g (w .1))
+unfolded-coded p s (two Until f g) w = (unfolded-coded p s g (w .1), (unfolded-coded p s f (w .0), w))
+
+-- ---- where nothing is held, settling is resolving
+filled-none : (held : ℕ → Verdict) → ((k : ℕ) → held k ≡ Pending) → (f : Formula) → filled held f ≡ f
+filled-none held h (leaf (Const v)) = refl
+filled-none held h (leaf (Prop i)) = refl
+filled-none held h (leaf (Hold k)) = ap (λ (v : Verdict). leaf (filledBy v k)) (h k)
+filled-none held h (one Not f) = ap (one Not) (filled-none held h f)
+filled-none held h (one Next f) = refl
+filled-none held h (one Eventually f) = refl
+filled-none held h (one Always f) = refl
+filled-none held h (two (Joined j) f g) = ap₂ (join j) (filled-none held h f) (filled-none held h g)
+filled-none held h (two Until f g) = refl
+
+no-bit : (k : ℕ) → bit 0 k ≡ false
+unfolding bit
+no-bit k = rw (zero-div (2 ^ k))
+
+abbrev pub alone : Event → Seen
+alone event = record { event = event; yes = 0; no = 0 }
+
+settled-alone : (event : Event) (f : Formula) → settled (alone event) f ≡ resolved event f
+unfolding pick
+settled-alone event f = ap (resolved event) (filled-none (heldBy (alone event)) (λ k. rw (no-bit k)) f)
+
+-- ---- from the unfolded formula in the output to the progressed one, and zeros
+module _ (event : Event) (f : Formula) (out out₁ out₂ : List ℕ) (at : Settled) (coded : Within 64 64 f) (read written : ℕ)
+    (u : UnfoldedTo f out out₁ read written) (m : Makes (settled (alone event)) 0 out₁ out₂ at) where
+  abbrev rest : List ℕ
+  rest = drop (size (unfolded f)) out
+
+  pub unfolded-front : Front (drop 0 out₁) (unfolded f) rest
+  unfolded-front = record { coded = unfolded-coded 64 64 f coded; bytes = u .leaves }
+
+  stood : Stands (progressed event f) out₂ rest at
+  stood = subst (λ (g : Formula). Stands g out₂ rest at) (settled-alone event (unfolded f)) (m (unfolded f) rest unfolded-front .stands)
+
+  pub record Result : Type 0 where
+    pub order : at .start ≤ at .end
+    pub length-is : at .end - at .start ≡ size (progressed event f)
+    pub within : at .end ≤ length out₂
+    pub some : 0 < at .end - at .start
+
+  pub result : Result
+  result =
+      let b = stands-bounds (progressed event f) out₂ rest at stood in
+      let l = stands-length (progressed event f) out₂ rest at stood in
+      let e = stood .end-is in
+      let z = size-some (progressed event f) in
+      record { order = omega arith; length-is = omega arith; within = omega arith; some = omega arith }
+
+  pub moved : (n : ℕ) (out₃ : List ℕ) → n ≡ at .end - at .start → out₃ ≡ take n (drop (at .start) out₂) ++ drop n out₂
+      → out₃ ≡ encode (progressed event f) ++ drop (size (progressed event f)) out₂
+  moved n out₃ k e =
+      let g = progressed event f in
+      let r = result in
+      let q : n ≡ size g = k ∙ r .length-is in
+      e ∙ ap (λ (i : ℕ). take i (drop (at .start) out₂) ++ drop i out₂) q
+      ∙ ap (_++ drop (size g) out₂)
+      (ap (take (size g)) (ap (drop (at .start)) (stood .bytes) ∙ drop-at (stood .low) (encode g ++ (stood .high ++ rest)) (at .start) (sym (stood .start-is)))
+      ∙ take-at (encode g) (stood .high ++ rest) (size g) (length-encode g))
+
+-- the rest cleared
+pub cleared : (g : Formula) (out₃ z more : List ℕ) (n : ℕ) → out₃ ≡ encode g ++ more → n ≡ size g → z ≡ replicate (length (tail n out₃)) 0
+    → take n out₃ ++ (z ++ drop (length out₃ - n) (drop n out₃)) ≡ padded (length out₃) (encode g)
+cleared g out₃ z more n e k q =
+    let l = length-encode g in
+    let a = handed-tail out₃ (encode g) more n e (l ∙ sym k) z in
+    let t : length (tail n out₃) ≡ length out₃ - length (encode g) = ap length (tail-is n out₃) ∙ length-drop n out₃ ∙ ap (length out₃ -_) (k ∙ sym l) in
+    a ∙ ap (encode g ++_) (q ∙ ap (λ (i : ℕ). replicate i 0) t)
+
+-- all of it: the result at the front, and zeros up to the output's end
+pub progress-done : (event : Event) (f : Formula) (out out₁ out₂ out₃ z : List ℕ) (at : Settled) (n read written : ℕ) → Within 64 64 f
+    → UnfoldedTo f out out₁ read written → Makes (settled (alone event)) 0 out₁ out₂ at
+    → n ≡ at .end - at .start → out₃ ≡ take n (drop (at .start) out₂) ++ drop n out₂ → z ≡ replicate (length (tail n out₃)) 0 → length out₃ ≡ length out
+    → (take n out₃ ++ (z ++ drop (length out₃ - n) (drop n out₃)) ≡ padded (length out) (encode (progressed event f))) × (n ≡ size (progressed event f))
+progress-done event f out out₁ out₂ out₃ z at n read written c u m k e q l =
+    let g = progressed event f in
+    let r = result event f out out₁ out₂ at c read written u m in
+    let b = moved event f out out₁ out₂ at c read written u m n out₃ k e in
+    let i : n ≡ size g = k ∙ r .length-is in
+    (cleared g out₃ z (drop (size g) out₂) n b i q ∙ ap (λ (j : ℕ). padded j (encode g)) l, i)

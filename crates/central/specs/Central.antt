@@ -1,0 +1,80 @@
+-- Progressing a whole rule in one place: the answer and the lent buffer. Assumes nothing: these are definitions.
+use mathlib.Core.Path.{_≡_}
+use Prim.Native.Nat.{ℕ, _≤_}
+use mathlib.Core.Bool.{Bool, false}
+use mathlib.Core.List.{List, [], _∷_}
+use mathlib.Core.Option.{Option, none, some}
+use lib.ListN.{length}
+use lib.Dec.{leb, eqb}
+use Rattle.lists.specs.Tests.{pick, both}
+use Rattle.lists.specs.Runs.{padded}
+use Rattle.answers.specs.Said.{Said, accepted, refused, left, numberOf, verdictNumber, check, inOrder}
+use Rattle.answers.specs.declared.Verdict.{Verdict}
+use Rattle.answers.specs.declared.Verdict.the-variants.{False, True, Pending}
+use Rattle.ltl.specs.Formula.{Formula, constant, size, encode}
+use Rattle.ltl.specs.Meaning.{Event}
+use Rattle.ltl.specs.Progression.{unfolded, progressed, verdictOf}
+use Rattle.ltl.specs.Text.{textOf, ruleText}
+use Rattle.nodes.specs.Begins.{Front, Begins}
+use Rattle.central.specs.declared.Progress.{Progress}
+use Rattle.central.specs.declared.CentralAnswer.{CentralAnswer}
+use Rattle.central.specs.declared.CentralAnswer.the-variants.{Refused, Progressed}
+
+-- the most bytes of a formula and of what it unfolds to, and the length of the output
+abbrev pub nodesMost : ℕ
+nodesMost = 4096
+
+-- the most propositions
+abbrev pub propositionsMost : ℕ
+propositionsMost = 64
+
+-- 1: the formula has 1 to 4,096 bytes and the output 4,096
+unfoldable pub lengthsOk : ℕ → ℕ → Bool
+lengthsOk formula room = both (leb 1 formula) (both (leb formula nodesMost) (eqb room nodesMost))
+
+-- the formula that some bytes are; what bytes that are none would be does not matter, since they are refused
+abbrev pub someFormula : Option Formula → Formula
+someFormula none = constant false
+someFormula (some f) = f
+
+abbrev pub formulaOf : List ℕ → Formula
+formulaOf bytes = someFormula (textOf bytes)
+
+-- what the call answers of the progressed formula
+abbrev pub answerOf : Formula → List ℕ
+answerOf g = verdictNumber (verdictOf g) ∷ size g ∷ []
+
+unfoldable pub centralSays : List ℕ → Event → ℕ → Said
+centralSays formula event room =
+    inOrder
+    (check 1 (lengthsOk (length formula) room)
+    ∷ check 6 (ruleText propositionsMost formula)
+    ∷ check 8 (leb (size (unfolded (formulaOf formula))) nodesMost)
+    ∷ [])
+    (accepted (answerOf (progressed event (formulaOf formula))))
+
+-- the enum's cases by number and values
+abbrev pub saidCentral : CentralAnswer → Said
+saidCentral (Refused why) = refused (numberOf why)
+saidCentral (Progressed p) = accepted (verdictNumber (p .verdict) ∷ p .length ∷ [])
+
+-- the promise: the answer, and the lent output, zero past the formula
+pub record Centrally (formula : List ℕ) (event : Event) (output output′ : List ℕ) (answer : CentralAnswer) : Type 0 where
+  pub says : saidCentral answer ≡ centralSays formula event (length output)
+  pub leaves : output′ ≡ left (centralSays formula event (length output)) (padded nodesMost (encode (progressed event (formulaOf formula)))) output
+
+-- ---- what the functions below the call ask and give
+-- the verdict of a formula by its first byte
+unfoldable pub verdictByte : ℕ → Verdict
+verdictByte b = pick (eqb b 0) False (pick (eqb b 1) True Pending)
+
+-- the bytes are one formula, and there is room for what it unfolds to
+pub record Progressable (output formula : List ℕ) : Type 0 where
+  pub whole : Formula
+  pub front : Front formula whole []
+  pub room : size (unfolded whole) ≤ length output
+
+-- the progressed formula stands in the output, zero past it
+pub record ProgressedTo (formula : List ℕ) (event : Event) (output output′ : List ℕ) (n : ℕ) : Type 0 where
+  pub bytes : (f : Formula) → Front formula f [] → output′ ≡ padded (length output) (encode (progressed event f))
+  pub count : (f : Formula) → Front formula f [] → n ≡ size (progressed event f)

@@ -1,0 +1,2 @@
+-- What the contracts of `central` cite.
+pub mod Central

@@ -1,0 +1,92 @@
+// The call `central`: a whole rule progressed in one place. One walk counts what the formula unfolds to, one unfolds it into the
+// output, and one resolves it there.
+ghost use mathlib.Core.Path.{_≡_};
+ghost use Prim.Native.Nat.{ℕ, _≤_};
+ghost use lib.ListN.{length};
+ghost use Rattle.central.specs.Central.{lengthsOk, verdictByte, Progressable, ProgressedTo, Centrally};
+use answers::Refusal;
+use answers::Verdict;
+use resolving::Seen;
+use unfolding::NODES_MOST;
+
+pub struct Progress {
+    pub verdict: Verdict,
+    pub length: usize,
+}
+
+pub enum CentralAnswer {
+    Refused(Refusal),
+    Progressed(Progress),
+}
+
+// Propositions have numbers below this.
+const PROPOSITIONS_MOST: u64 = 64;
+
+// A formula of 1 to 4,096 bytes, and an output of 4,096.
+fn lengths_ok(formula: usize, output: usize) -> bool
+    ensures { λ r. ⌜ r ≡ lengthsOk formula output ⌝ }
+{
+    if formula < 1 {
+        return false;
+    }
+    if NODES_MOST < formula {
+        return false;
+    }
+    output == NODES_MOST
+}
+
+// The verdict of the formula whose first byte is b.
+fn verdict(b: u8) -> Verdict
+    ensures { λ r. ⌜ r ≡ verdictByte b ⌝ }
+{
+    if b == 0 {
+        return Verdict::False;
+    }
+    if b == 1 {
+        return Verdict::True;
+    }
+    Verdict::Pending
+}
+
+// Progresses the formula into the output, zero past the result, and answers the result's length.
+fn progress_into(output: &mut [u8], formula: &[u8], event: u64) -> usize
+    requires { ⌜ Progressable (now output) (now formula) ⌝ }
+    ensures { λ r. ⌜ ProgressedTo (now (formula .entry)) event (now (output .entry)) (now (output .exit)) r ⌝ }
+{
+    unfolding::unfold_into(output, formula);
+    let at = resolving::resolve(
+        output,
+        0,
+        Seen {
+            event: event,
+            yes: 0,
+            no: 0,
+        },
+    );
+    let start = at.start;
+    let n = at.end - start;
+    runs::slide(output, start, n);
+    runs::clear(&mut output[n..]);
+    n
+}
+
+// Progresses a formula over one event.
+pub fn central(formula: &[u8], event: u64, output: &mut [u8]) -> CentralAnswer
+    ensures { λ r. ⌜ Centrally (now (formula .entry)) event (now (output .entry)) (now (output .exit)) r ⌝ }
+{
+    if !lengths_ok(formula.len(), output.len()) {
+        return CentralAnswer::Refused(Refusal::Length);
+    }
+    if !texts::is_rule(formula, PROPOSITIONS_MOST) {
+        return CentralAnswer::Refused(Refusal::Formula);
+    }
+    let unfolded = unfolding::count_unfolded(formula);
+    if NODES_MOST < unfolded.written {
+        return CentralAnswer::Refused(Refusal::Nodes);
+    }
+    let n = progress_into(output, formula, event);
+    CentralAnswer::Progressed(Progress {
+        verdict: verdict(output[0]),
+        length: n,
+    })
+}

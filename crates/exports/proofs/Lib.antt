@@ -1,0 +1,2 @@
+-- Laws of the values behind references.
+pub mod Values

@@ -1,0 +1,2 @@
+-- What the contracts of the exported functions cite.
+pub mod Exported

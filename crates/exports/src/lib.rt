@@ -1,0 +1,71 @@
+// The calls for programs in C and other languages: numbers and slices alone. Each answers 0 or the refusal's number, and writes
+// the values behind the references only where it answers 0.
+ghost use Rattle.exports.specs.Exported.{ReadExported, WriteExported, CentralExported};
+use central::CentralAnswer;
+use rules::ReadAnswer;
+use rules::WriteAnswer;
+
+#[no_mangle]
+pub extern "C" fn vydrulka_read(
+    file: &[u8],
+    masks: &mut [u64],
+    formula: &mut [u8],
+    boards: &mut u64,
+    propositions: &mut u64,
+    nodes: &mut u64,
+) -> u32
+    ensures { λ r. ⌜ ReadExported (now (file .entry)) (now (masks .entry)) (now (formula .entry)) (now (masks .exit)) (now (formula .exit)) (now (boards .entry)) (now (propositions .entry)) (now (nodes .entry)) (now (boards .exit)) (now (propositions .exit)) (now (nodes .exit)) r ⌝ }
+{
+    let answer = rules::read(file, masks, formula);
+    match answer {
+        ReadAnswer::Refused(why) => why.number(),
+        ReadAnswer::Rule(c) => {
+            *boards = c.boards;
+            *propositions = c.propositions;
+            *nodes = c.nodes;
+            0
+        }
+    }
+}
+
+#[no_mangle]
+pub extern "C" fn vydrulka_write(
+    masks: &[u64],
+    propositions: u64,
+    formula: &[u8],
+    file: &mut [u8],
+    written: &mut u64,
+) -> u32
+    ensures { λ r. ⌜ WriteExported (now (masks .entry)) propositions (now (formula .entry)) (now (file .entry)) (now (file .exit)) (now (written .entry)) (now (written .exit)) r ⌝ }
+{
+    let answer = rules::write(masks, propositions, formula, file);
+    match answer {
+        WriteAnswer::Refused(why) => why.number(),
+        WriteAnswer::Written(n) => {
+            *written = n as u64;
+            0
+        }
+    }
+}
+
+#[no_mangle]
+pub extern "C" fn vydrulka_central(
+    formula: &[u8],
+    event: u64,
+    output: &mut [u8],
+    verdict: &mut u32,
+    nodes: &mut u64,
+) -> u32
+    ensures { λ r. ⌜ CentralExported (now (formula .entry)) event (now (output .entry)) (now (output .exit)) (now (verdict .entry)) (now (nodes .entry)) (now (verdict .exit)) (now (nodes .exit)) r ⌝ }
+{
+    let answer = central::central(formula, event, output);
+    match answer {
+        CentralAnswer::Refused(why) => why.number(),
+        CentralAnswer::Progressed(p) => {
+            let v = p.verdict;
+            *verdict = v.number();
+            *nodes = p.length as u64;
+            0
+        }
+    }
+}

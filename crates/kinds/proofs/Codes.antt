@@ -1,0 +1,112 @@
+-- The kinds of the bytes by range, and that each node's own byte has its kind. Others use the `kind-..` laws. Assumes nothing.
+use mathlib.Core.Path.{_≡_, refl, sym, ap, _∙_}
+use mathlib.Core.Bool.{Bool, true, false}
+use Prim.Native.Nat.{ℕ, zero, suc, _+_, _-_, _<_, _≤_}
+use native.Mathlib.Omega.{arith}
+use lib.ListN.{length, getD, List·getD-eq-default}
+use lib.Dec.{ltb}
+use borrow.Author.Tests.{lt-ltb, le-ltb, ltb-true, ltb-false}
+use Rattle.kinds.specs.declared.Leaf.{Leaf}
+use Rattle.kinds.specs.declared.Leaf.the-variants.{Const, Prop, Hold}
+use Rattle.kinds.specs.declared.Unary.{Unary}
+use Rattle.kinds.specs.declared.Unary.the-variants.{Not, Next, Eventually, Always}
+use Rattle.kinds.specs.declared.Join.{Join}
+use Rattle.kinds.specs.declared.Join.the-variants.{And, Or}
+use Rattle.kinds.specs.declared.Binary.{Binary}
+use Rattle.kinds.specs.declared.Binary.the-variants.{Joined, Until}
+use Rattle.kinds.specs.declared.Kind.{Kind}
+use Rattle.kinds.specs.declared.Kind.the-variants.{Zero, One, Two, NoCode}
+use Rattle.lists.specs.Tests.{pick}
+use Rattle.kinds.specs.Kinds.{named, kindOf, leafCode, unaryCode, joinCode, binaryCode}
+
+-- ---- by range
+pub kind-low : (b : ℕ) → 9 ≤ b → b < 64 → kindOf b ≡ NoCode
+unfolding kindOf pick
+kind-low b h k = rw (lt-ltb b 64 k) (List·getD-eq-default named NoCode {n = b} h)
+
+pub kind-prop : (b : ℕ) → 64 ≤ b → b < 128 → kindOf b ≡ Zero (Prop (b - 64))
+unfolding kindOf pick
+kind-prop b h k = rw (le-ltb b 64 h, lt-ltb b 128 k)
+
+pub kind-hold : (b : ℕ) → 128 ≤ b → b < 192 → kindOf b ≡ Zero (Hold (b - 128))
+unfolding kindOf pick
+kind-hold b h k = let l : 64 ≤ b = omega arith in rw (le-ltb b 64 l, le-ltb b 128 h, lt-ltb b 192 k)
+
+pub kind-high : (b : ℕ) → 192 ≤ b → kindOf b ≡ NoCode
+unfolding kindOf pick
+kind-high b h = let l : 64 ≤ b = omega arith in let m : 128 ≤ b = omega arith in rw (le-ltb b 64 l, le-ltb b 128 m, le-ltb b 192 h)
+
+-- ---- none of the named codes: in two steps, since `omega` splits at most six times
+past-4 : (b : ℕ) → (b ≡ 0 → ⊥) → (b ≡ 1 → ⊥) → (b ≡ 2 → ⊥) → (b ≡ 3 → ⊥) → (b ≡ 4 → ⊥) → 5 ≤ b
+past-4 b h₀ h₁ h₂ h₃ h₄ = omega arith
+
+past-8 : (b : ℕ) → 5 ≤ b → (b ≡ 5 → ⊥) → (b ≡ 6 → ⊥) → (b ≡ 7 → ⊥) → (b ≡ 8 → ⊥) → 9 ≤ b
+past-8 b h h₅ h₆ h₇ h₈ = omega arith
+
+pub unnamed : (b : ℕ) → (b ≡ 0 → ⊥) → (b ≡ 1 → ⊥) → (b ≡ 2 → ⊥) → (b ≡ 3 → ⊥) → (b ≡ 4 → ⊥) → (b ≡ 5 → ⊥) → (b ≡ 6 → ⊥) → (b ≡ 7 → ⊥) → (b ≡ 8 → ⊥) → 9 ≤ b
+unnamed b h₀ h₁ h₂ h₃ h₄ h₅ h₆ h₇ h₈ = past-8 b (past-4 b h₀ h₁ h₂ h₃ h₄) h₅ h₆ h₇ h₈
+
+-- ---- a node's own byte has its kind
+pub kind-const : (v : Bool) → kindOf (leafCode (Const v)) ≡ Zero (Const v)
+unfolding kindOf pick
+kind-const false = refl
+kind-const true = refl
+
+pub kind-prop-code : (i : ℕ) → i < 64 → kindOf (64 + i) ≡ Zero (Prop i)
+kind-prop-code i h = let e : 64 + i - 64 ≡ i = omega arith in kind-prop (64 + i) (omega arith) (omega arith) ∙ rw e
+
+pub kind-hold-code : (k : ℕ) → k < 64 → kindOf (128 + k) ≡ Zero (Hold k)
+kind-hold-code k h = let e : 128 + k - 128 ≡ k = omega arith in kind-hold (128 + k) (omega arith) (omega arith) ∙ rw e
+
+pub kind-unary : (o : Unary) → kindOf (unaryCode o) ≡ One o
+unfolding kindOf pick
+kind-unary Not = refl
+kind-unary Next = refl
+kind-unary Eventually = refl
+kind-unary Always = refl
+
+pub kind-binary : (o : Binary) → kindOf (binaryCode o) ≡ Two o
+unfolding kindOf pick
+kind-binary (Joined And) = refl
+kind-binary (Joined Or) = refl
+kind-binary Until = refl
+
+-- ---- what a byte's kind says of the byte: it is that node's own byte, and a proposition's or a place holder's number is below 64
+abbrev pub below64 : Leaf → Type 0
+below64 (Const v) = Unit {0}
+below64 (Prop i) = i < 64
+below64 (Hold k) = k < 64
+
+pub data CodeOf (b : ℕ) : Kind → Type 0 where
+  isZero : {a : Leaf} → b ≡ leafCode a → below64 a → CodeOf b (Zero a)
+  isOne : {o : Unary} → b ≡ unaryCode o → CodeOf b (One o)
+  isTwo : {o : Binary} → b ≡ binaryCode o → CodeOf b (Two o)
+  isNone : CodeOf b NoCode
+
+low-code : (b : ℕ) → CodeOf b (getD named b NoCode)
+low-code zero = isZero {a = Const false} refl tt
+low-code (suc zero) = isZero {a = Const true} refl tt
+low-code (suc (suc zero)) = isOne {o = Not} refl
+low-code (suc (suc (suc zero))) = isTwo {o = Joined And} refl
+low-code (suc (suc (suc (suc zero)))) = isTwo {o = Joined Or} refl
+low-code (suc (suc (suc (suc (suc zero))))) = isOne {o = Next} refl
+low-code (suc (suc (suc (suc (suc (suc zero)))))) = isTwo {o = Until} refl
+low-code (suc (suc (suc (suc (suc (suc (suc zero))))))) = isOne {o = Eventually} refl
+low-code (suc (suc (suc (suc (suc (suc (suc (suc zero)))))))) = isOne {o = Always} refl
+low-code (suc (suc (suc (suc (suc (suc (suc (suc (suc b))))))))) = isNone
+
+pub code : (b : ℕ) → CodeOf b (kindOf b)
+unfolding kindOf pick
+code b = go (ltb b 64) refl (ltb b 128) refl (ltb b 192) refl
+  where
+    go : (x : Bool) → ltb b 64 ≡ x → (y : Bool) → ltb b 128 ≡ y → (z : Bool) → ltb b 192 ≡ z
+        → CodeOf b (pick x (getD named b NoCode) (pick y (Zero (Prop (b - 64))) (pick z (Zero (Hold (b - 128))) NoCode)))
+    go true p y q z r = low-code b
+    go false p true q z r = let h = ltb-false b 64 p in let k = ltb-true b 128 q in isZero {a = Prop (b - 64)} (omega arith) (omega arith)
+    go false p false q true r = let h = ltb-false b 128 q in let k = ltb-true b 192 r in isZero {a = Hold (b - 128)} (omega arith) (omega arith)
+    go false p false q false r = isNone
+
+pub kind-leaf : (a : Leaf) → below64 a → kindOf (leafCode a) ≡ Zero a
+kind-leaf (Const v) h = kind-const v
+kind-leaf (Prop i) h = kind-prop-code i h
+kind-leaf (Hold k) h = kind-hold-code k h

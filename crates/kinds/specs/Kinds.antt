@@ -1,0 +1,51 @@
+-- The codes of the rule language, one byte a node. Others use `kindOf` and the three code functions.
+-- Assumes nothing: these are definitions.
+use Prim.Native.Nat.{ℕ, _+_, _-_}
+use mathlib.Core.Bool.{Bool, true, false}
+use mathlib.Core.List.{List, [], _∷_}
+use lib.ListN.{getD}
+use lib.Dec.{ltb}
+use Rattle.lists.specs.Tests.{pick}
+use Rattle.kinds.specs.declared.Leaf.{Leaf}
+use Rattle.kinds.specs.declared.Leaf.the-variants.{Const, Prop, Hold}
+use Rattle.kinds.specs.declared.Unary.{Unary}
+use Rattle.kinds.specs.declared.Unary.the-variants.{Not, Next, Eventually, Always}
+use Rattle.kinds.specs.declared.Join.{Join}
+use Rattle.kinds.specs.declared.Join.the-variants.{And, Or}
+use Rattle.kinds.specs.declared.Binary.{Binary}
+use Rattle.kinds.specs.declared.Binary.the-variants.{Joined, Until}
+use Rattle.kinds.specs.declared.Kind.{Kind}
+use Rattle.kinds.specs.declared.Kind.the-variants.{Zero, One, Two, NoCode}
+
+-- 0 false, 1 true, 2 not, 3 and, 4 or, 5 next, 6 until, 7 eventually, 8 always
+abbrev pub named : List Kind
+named =
+    Zero (Const false) ∷ Zero (Const true) ∷ One Not ∷ Two (Joined And) ∷ Two (Joined Or) ∷ One Next ∷ Two Until ∷ One Eventually ∷ One Always ∷ []
+
+-- what a byte is: the named codes, 64 to 127 propositions 0 to 63, 128 to 191 the place holders of slots 0 to 63; every other byte is no code
+unfoldable pub kindOf : ℕ → Kind
+kindOf b =
+    pick (ltb b 64) (getD named b NoCode)
+    (pick (ltb b 128) (Zero (Prop (b - 64)))
+    (pick (ltb b 192) (Zero (Hold (b - 128))) NoCode))
+
+-- the byte of a node
+abbrev pub leafCode : Leaf → ℕ
+leafCode (Const false) = 0
+leafCode (Const true) = 1
+leafCode (Prop i) = 64 + i
+leafCode (Hold k) = 128 + k
+
+abbrev pub unaryCode : Unary → ℕ
+unaryCode Not = 2
+unaryCode Next = 5
+unaryCode Eventually = 7
+unaryCode Always = 8
+
+abbrev pub joinCode : Join → ℕ
+joinCode And = 3
+joinCode Or = 4
+
+abbrev pub binaryCode : Binary → ℕ
+binaryCode (Joined j) = joinCode j
+binaryCode Until = 6

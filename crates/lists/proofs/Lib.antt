@@ -1,0 +1,5 @@
+-- Laws of lists that say nothing of rules.
+pub mod Tests
+pub mod Fill
+pub mod Parts
+pub mod Stretches

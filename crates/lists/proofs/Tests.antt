@@ -1,0 +1,47 @@
+-- Laws of tests: what a test that holds says of its parts, and a value picked by a test. Assumes nothing.
+use mathlib.Core.Path.{_≡_, refl, sym}
+use mathlib.Core.Bool.{Bool, true, false}
+use Prim.Native.Nat.{ℕ}
+use native.Mathlib.Omega.{arith}
+use Rattle.lists.specs.Tests.{pick, both, either}
+
+pub no-true : false ≡ true → ⊥
+no-true e = let z : _≡_ {A = ℕ} 0 1 = cc in omega arith
+
+-- two tests that hold together are equal
+pub test-eq : (x y : Bool) → (x ≡ true → y ≡ true) → (y ≡ true → x ≡ true) → x ≡ y
+test-eq true y h k = sym (h refl)
+test-eq false true h k = k refl
+test-eq false false h k = refl
+
+-- both of two tests
+pub both-0 : (a b : Bool) → both a b ≡ true → a ≡ true
+unfolding both
+both-0 true b e = refl
+both-0 false b e = e
+
+pub both-1 : (a b : Bool) → both a b ≡ true → b ≡ true
+unfolding both
+both-1 true b e = e
+both-1 false b e = absurd (no-true e)
+
+pub both-true : (a b : Bool) → a ≡ true → b ≡ true → both a b ≡ true
+unfolding both
+both-true a b p q = rw (p, q)
+
+-- one of two tests
+pub either-elim : (a b : Bool) (Q : Type 0) → (a ≡ true → Q) → (b ≡ true → Q) → either a b ≡ true → Q
+unfolding either
+either-elim true b Q h k e = h refl
+either-elim false b Q h k e = k e
+
+pub either-right : (x : Bool) → either x true ≡ true
+unfolding either
+either-right true = refl
+either-right false = refl
+
+-- what is picked has a property that both choices have
+pub pick-elim : {A : Type 0} (P : A → Type 0) (b : Bool) (x y : A) → (b ≡ true → P x) → (b ≡ false → P y) → P (pick b x y)
+unfolding pick
+pick-elim P true x y h k = h refl
+pick-elim P false x y h k = k refl

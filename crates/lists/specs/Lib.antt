@@ -1,0 +1,3 @@
+-- Small definitions that say nothing of rules: tests, and runs of numbers.
+pub mod Tests
+pub mod Runs

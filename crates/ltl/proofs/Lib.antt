@@ -1,0 +1,4 @@
+-- Laws of the rule language, and the soundness of progression.
+pub mod Equal
+pub mod Texts
+pub mod Soundness

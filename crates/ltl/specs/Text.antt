@@ -1,0 +1,69 @@
+-- Bytes read as a formula. Others use `textOf`, `ruleText` and their laws in proofs/Texts.antt.
+-- Assumes nothing: these are definitions.
+use Prim.Native.Nat.{ℕ, zero, suc}
+use mathlib.Core.Bool.{Bool, true, false}
+use mathlib.Core.List.{List, [], _∷_}
+use mathlib.Core.Option.{Option, none, some}
+use lib.ListN.{length}
+use Rattle.lists.specs.Tests.{pick}
+use Rattle.kinds.specs.declared.Kind.{Kind}
+use Rattle.kinds.specs.declared.Kind.the-variants.{Zero, One, Two, NoCode}
+use Rattle.kinds.specs.declared.Unary.{Unary}
+use Rattle.kinds.specs.declared.Binary.{Binary}
+use Rattle.kinds.specs.Kinds.{kindOf}
+use Rattle.ltl.specs.Formula.{Formula, leaf, one, two, over}
+
+-- a formula at the front of some bytes, and the bytes behind it; or none
+pub record Front : Type 0 where
+  pub formula : Formula
+  pub behind : List ℕ
+
+abbrev pub Reader : Type 0
+Reader = List ℕ → Option Front
+
+-- one operand more
+abbrev pub withOne : Unary → Option Front → Option Front
+withOne o none = none
+withOne o (some x) = some (record { formula = one o (x .formula); behind = x .behind })
+
+abbrev pub withSecond : Binary → Formula → Option Front → Option Front
+withSecond o f none = none
+withSecond o f (some y) = some (record { formula = two o f (y .formula); behind = y .behind })
+
+abbrev pub withTwo : Binary → Reader → Option Front → Option Front
+withTwo o operand none = none
+withTwo o operand (some x) = withSecond o (x .formula) (operand (x .behind))
+
+-- a node of this kind, its operands read one after the other from the bytes behind it
+abbrev pub node : Kind → Reader → Reader
+node (Zero a) operand l = some (record { formula = leaf a; behind = l })
+node (One o) operand l = withOne o (operand l)
+node (Two o) operand l = withTwo o operand (operand l)
+node NoCode operand l = none
+
+-- the formula at the front, of at most n levels
+abbrev pub front : ℕ → Reader
+front zero l = none
+front (suc n) [] = none
+front (suc n) (b ∷ l) = node (kindOf b) (front n) l
+
+-- the formula where nothing stands behind it
+abbrev pub before : List ℕ → Formula → Option Formula
+before [] f = some f
+before (b ∷ l) f = none
+
+abbrev pub alone : Option Front → Option Formula
+alone none = none
+alone (some x) = before (x .behind) (x .formula)
+
+-- the bytes as one whole formula: no formula has more levels than bytes
+abbrev pub textOf : List ℕ → Option Formula
+textOf l = alone (front (length l) l)
+
+-- one whole formula of the language with propositions below p alone and no place holder
+abbrev pub overAlone : ℕ → Option Formula → Bool
+overAlone p none = false
+overAlone p (some f) = over p 0 f
+
+unfoldable pub ruleText : ℕ → List ℕ → Bool
+ruleText p l = overAlone p (textOf l)

@@ -1,0 +1,27 @@
+-- `masks::low_bits` meets its contract: below 64 the shifted one does not wrap, and at 64 the answer is the largest word. No loop.
+-- Assumes nothing.
+use Prim.Native.Nat.{_<_}
+use lib.Arith.{lt-of-le-ne}
+use lib.Pow.{pow-pos}
+use Rattle.masks.proofs.Bits.{one-shifted}
+use borrow.Author.Needs.{needs}
+use Rattle.masks.proofs.low_bits.Statement.{statement}
+use Rattle.masks.proofs.low_bits.Tie as tie
+
+below : (c : tie.Else1) → c .before .args .p < 64
+below c = lt-of-le-ne (c .before .pre) (c .if1 .left)
+
+shl-result : tie.Need-shl-result
+shl-result c = search needs
+
+sub-result : tie.Need-sub-result
+sub-result c = rw (one-shifted _ (below c)) (pow-pos _)
+
+returns : tie.Need-returns
+returns c = rw (c .if1 .taken)
+
+returns-2 : tie.Need-returns-2
+returns-2 c = rw (one-shifted _ (below c))
+
+pub low-bits-spec : {M : Type 1} → statement M
+low-bits-spec = tie.close (tie.spec shl-result sub-result returns returns-2)

@@ -1,0 +1,69 @@
+-- `masks::sum_ones` meets its contract. The invariant: the sum so far, with the ones of the masks from i on, is the sum of all; and
+-- it is at most 64 for each mask passed, so that it fits. What is left of the length falls. Assumes nothing.
+use mathlib.Core.Path.{_≡_}
+use Prim.Native.Nat.{_+_, _-_, _*_, _≤_}
+use native.Mathlib.Omega.{arith}
+use lib.ListN.{length, drop, getD}
+use lib.Count.{ones}
+use Rattle.masks.specs.Masks.{onesOf, sumOnes}
+use Rattle.masks.proofs.Bits.{ones-is, ones-few, sumOnes-turn, sumOnes-done}
+use borrow.Author.Needs.{needs}
+use Rattle.masks.proofs.sum_ones.Statement.{statement}
+use Rattle.masks.proofs.sum_ones.Tie as tie
+
+abbrev Inv-loop : tie.InvT-loop
+Inv-loop masks sum₀ i₀ sum i = (i ≤ length masks) × (sum + sumOnes (drop i masks) ≡ sumOnes masks) × (sum ≤ 64 * i)
+
+abbrev μ-loop : tie.MeasureT-loop
+μ-loop masks sum₀ i₀ sum i = length masks - i
+
+-- the count of the mask at i, as the machine has it and as specs/ has it
+counted : (c : tie.After-shared-slice-known Inv-loop μ-loop)
+    → ones (getD (c .before .before .before .args .masks .now) (c .before .before .loop .i) 0) ≡ onesOf (getD (c .before .before .before .args .masks .now) (c .before .before .loop .i) 0)
+counted c = ones-is _ (c .shared-slice-known .given (c .before .before .loop .i) .fits)
+
+loop-holds : tie.Need-loop-holds Inv-loop μ-loop
+loop-holds c = omega arith
+
+mul-sum : tie.Need-mul-sum Inv-loop μ-loop
+mul-sum c = search needs
+
+shared-slice-read-sum : tie.Need-shared-slice-read-sum Inv-loop μ-loop
+shared-slice-read-sum c = search needs
+
+cast-sum : tie.Need-cast-sum Inv-loop μ-loop
+cast-sum c = rw (counted c) (omega (arith, ones-few (getD (c .before .before .before .args .masks .now) (c .before .before .loop .i) 0)))
+
+add-sum : tie.Need-add-sum Inv-loop μ-loop
+add-sum c = rw (counted c) (omega (arith, ones-few (getD (c .before .before .before .args .masks .now) (c .before .before .loop .i) 0)))
+
+add-i : tie.Need-add-i Inv-loop μ-loop
+add-i c = search needs
+
+loop-less : tie.Need-loop-less Inv-loop μ-loop
+loop-less c = search needs
+
+loop-again : tie.Need-loop-again Inv-loop μ-loop
+loop-again c =
+    let i = c .before .before .loop .i in
+    let ms = c .before .before .before .args .masks .now in
+    rw (counted c) (omega (arith, ones-few (getD ms i 0), sumOnes-turn i ms (c .before .loop-test .taken)))
+
+returns : tie.Need-returns Inv-loop μ-loop
+returns c = omega (arith, sumOnes-done (c .before .loop .i) (c .before .before .args .masks .now) (c .loop-test .left))
+
+pub sum-ones-spec : {M : Type 1} → statement M
+sum-ones-spec =
+    tie.close
+    (tie.spec
+    Inv-loop
+    μ-loop
+    loop-holds
+    mul-sum
+    shared-slice-read-sum
+    cast-sum
+    add-sum
+    add-i
+    loop-less
+    loop-again
+    returns)

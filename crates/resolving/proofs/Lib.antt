@@ -1,0 +1,7 @@
+-- Laws of resolving in place.
+pub mod Coded
+pub mod Firsts
+pub mod Places
+pub mod Members
+pub mod Sides
+pub mod Walks

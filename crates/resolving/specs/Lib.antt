@@ -1,0 +1,2 @@
+-- What the contracts of `resolving` cite.
+pub mod Settles

@@ -1,0 +1,199 @@
+-- Laws of the rule file and its parts: lengths; what a row of puts leaves (`header-put`, `held-..`, `file-put`); and both ways between
+-- a file and what it is written from: `header-fields` and `masksFrom-maskBytes` read what was written, `header-is` and
+-- `maskBytes-masksFrom` write what was read. Assumes nothing.
+use mathlib.Core.Path.{_≡_, refl, sym, ap, ap₂, _∙_}
+use mathlib.Core.List.{List, [], _∷_, _++_, append-assoc, append-nil}
+use Prim.Native.Nat.{ℕ, zero, suc, _+_, _-_, _*_, _^_, _<_, _≤_}
+use native.Mathlib.Nat.{mod-eq-of-lt}
+use native.Mathlib.Omega.{arith}
+use native.Mathlib.Numerals.{add-one}
+use lib.ListN.{length, getD, take, drop, replicate, length-append, length-drop, length-replicate}
+use lib.Seq.{take-suc, take-at}
+use Rattle.lists.specs.Runs.{tail, tailAs, padded}
+use Rattle.le.specs.Le.{le, leAt}
+use Rattle.le.proofs.Laws.{Bytes, le-length, leAt-le, le-leAt}
+use Rattle.lists.proofs.Stretches.{put-next, tail-put, tail-clear, drop-replicate, take-two}
+use Rattle.rules.specs.RuleFile.{version, boardsMost, propositionsMost, nodesMost, masksAt, formulaAt, totalOf, fileMost, header, maskBytes, fileOf, versionIn, boardsIn, propositionsIn, nodesIn, masksOffsetIn, formulaOffsetIn, totalIn, masksFrom}
+
+-- ---- the masks in a file
+pub masksFrom-length : (file : List ℕ) (at n : ℕ) → length (masksFrom file at n) ≡ n
+unfolding masksFrom
+masksFrom-length file at zero = refl
+masksFrom-length file at (suc n) = ap suc (masksFrom-length file (at + 8) n)
+
+pub masksFrom-get : (file : List ℕ) (at n i : ℕ) → i < n → getD (masksFrom file at n) i 0 ≡ leAt file (at + 8 * i) 8
+unfolding masksFrom
+masksFrom-get file at zero i h = absurd (omega arith)
+masksFrom-get file at (suc n) zero h = let e : at ≡ at + 8 * 0 = omega arith in ap (λ (x : ℕ). leAt file x 8) e
+masksFrom-get file at (suc n) (suc i) h =
+    let e : at + 8 + 8 * i ≡ at + 8 * suc i = omega arith in
+    masksFrom-get file (at + 8) n i (omega arith) ∙ ap (λ (x : ℕ). leAt file x 8) e
+
+-- ---- the bytes of masks
+pub maskBytes-length : (ms : List ℕ) → length (maskBytes ms) ≡ 8 * length ms
+unfolding maskBytes
+maskBytes-length [] = refl
+maskBytes-length (m ∷ ms) = let a = length-append (le 8 m) (maskBytes ms) in let b = le-length 8 m in let c = maskBytes-length ms in omega arith
+
+pub maskBytes-append : (ms ns : List ℕ) → maskBytes (ms ++ ns) ≡ maskBytes ms ++ maskBytes ns
+unfolding maskBytes
+maskBytes-append [] ns = refl
+maskBytes-append (m ∷ ms) ns = ap (λ (u : List ℕ). le 8 m ++ u) (maskBytes-append ms ns) ∙ sym (append-assoc (le 8 m) (maskBytes ms) (maskBytes ns))
+
+-- no mask, and one mask more
+pub maskBytes-none : (s : List ℕ) → s ≡ maskBytes [] ++ drop (8 * 0) s
+unfolding maskBytes
+maskBytes-none s = refl
+
+pub maskBytes-more : (ms : List ℕ) (i : ℕ) → i < length ms → maskBytes (take (i + 1) ms) ≡ maskBytes (take i ms) ++ le 8 (getD ms i 0)
+unfolding maskBytes
+maskBytes-more ms i h =
+    ap maskBytes (ap (λ (k : ℕ). take k ms) (add-one i) ∙ take-suc ms i 0 h)
+    ∙ maskBytes-append (take i ms) (getD ms i 0 ∷ [])
+    ∙ ap (λ (u : List ℕ). maskBytes (take i ms) ++ u) (append-nil (le 8 (getD ms i 0)))
+
+-- ---- the header
+pub header-length : (b p n : ℕ) → length (header b p n) ≡ masksAt
+unfolding le
+header-length b p n = refl
+
+-- what the puts of its seven numbers leave, one after the other
+pub header-put : (b p n : ℕ) (s s₁ s₂ s₃ s₄ s₅ s₆ s₇ : List ℕ)
+    → s₁ ≡ take 0 s ++ (le 2 version ++ drop (0 + 2) s)
+    → s₂ ≡ take 2 s₁ ++ (le 2 b ++ drop (2 + 2) s₁)
+    → s₃ ≡ take 4 s₂ ++ (le 2 p ++ drop (4 + 2) s₂)
+    → s₄ ≡ take 6 s₃ ++ (le 2 n ++ drop (6 + 2) s₃)
+    → s₅ ≡ take 8 s₄ ++ (le 2 masksAt ++ drop (8 + 2) s₄)
+    → s₆ ≡ take 10 s₅ ++ (le 2 (formulaAt b) ++ drop (10 + 2) s₅)
+    → s₇ ≡ take 12 s₆ ++ (le 4 (totalOf b n) ++ drop (12 + 4) s₆)
+    → s₇ ≡ header b p n ++ drop masksAt s
+unfolding le
+header-put b p n s s₁ s₂ s₃ s₄ s₅ s₆ s₇ e₁ e₂ e₃ e₄ e₅ e₆ e₇ =
+    let a₁ = le 2 version in
+    let a₂ = a₁ ++ le 2 b in
+    let a₃ = a₂ ++ le 2 p in
+    let a₄ = a₃ ++ le 2 n in
+    let a₅ = a₄ ++ le 2 masksAt in
+    let a₆ = a₅ ++ le 2 (formulaAt b) in
+    let d₁ = e₁ ∙ put-next s s [] a₁ 0 2 refl refl in
+    let d₂ = e₂ ∙ put-next s₁ s a₁ (le 2 b) 2 2 d₁ refl in
+    let d₃ = e₃ ∙ put-next s₂ s a₂ (le 2 p) 4 2 d₂ refl in
+    let d₄ = e₄ ∙ put-next s₃ s a₃ (le 2 n) 6 2 d₃ refl in
+    let d₅ = e₅ ∙ put-next s₄ s a₄ (le 2 masksAt) 8 2 d₄ refl in
+    let d₆ = e₆ ∙ put-next s₅ s a₅ (le 2 (formulaAt b)) 10 2 d₅ refl in
+    e₇ ∙ put-next s₆ s a₆ (le 4 (totalOf b n)) 12 4 d₆ refl
+
+-- ---- masks put into an array of zeros
+module _ (file held : List ℕ) (b : ℕ) (e : held ≡ masksFrom file masksAt b ++ drop b (replicate boardsMost 0)) where
+  pub held-length : b ≤ boardsMost → length held ≡ boardsMost
+  held-length h =
+      let z : List ℕ = replicate boardsMost 0 in
+      omega (arith, ap length e, length-append (masksFrom file masksAt b) (drop b z), masksFrom-length file masksAt b, length-drop b z, length-replicate {A = ℕ} boardsMost 0)
+
+  pub held-front : take b held ≡ masksFrom file masksAt b
+  held-front = ap (take b) e ∙ take-at (masksFrom file masksAt b) (drop b (replicate boardsMost 0)) b (masksFrom-length file masksAt b)
+
+  pub held-padded : held ≡ padded boardsMost (masksFrom file masksAt b)
+  held-padded =
+      e ∙ ap (λ (u : List ℕ). masksFrom file masksAt b ++ u) (drop-replicate b boardsMost 0 ∙ ap (λ (n : ℕ). replicate {A = ℕ} (boardsMost - n) 0) (sym (masksFrom-length file masksAt b)))
+
+-- ---- the file
+pub fileOf-length : (masks : List ℕ) (p : ℕ) (formula : List ℕ) → length (fileOf masks p formula) ≡ totalOf (length masks) (length formula)
+unfolding fileOf
+fileOf-length masks p formula =
+    let h = header (length masks) p (length formula) in
+    omega (arith, length-append h (maskBytes masks ++ formula), length-append (maskBytes masks) formula, maskBytes-length masks, header-length (length masks) p (length formula))
+
+-- what `write` leaves: the header, then the masks, the formula and zeros, each put into what is behind the last
+pub file-put : (masks : List ℕ) (p : ℕ) (formula file s x y z : List ℕ) → length file ≡ fileMost
+    → s ≡ header (length masks) p (length formula) ++ drop masksAt file
+    → x ≡ maskBytes masks ++ drop (8 * length masks) (tail masksAt s)
+    → y ≡ formula ++ drop (length formula) (tail (formulaAt (length masks)) (tailAs masksAt s x))
+    → z ≡ replicate (length (tail (totalOf (length masks) (length formula)) (tailAs (formulaAt (length masks)) (tailAs masksAt s x) y))) 0
+    → tailAs (totalOf (length masks) (length formula)) (tailAs (formulaAt (length masks)) (tailAs masksAt s x) y) z
+    ≡ padded fileMost (fileOf masks p formula)
+unfolding fileOf
+file-put masks p formula file s x y z room e₁ e₂ e₃ e₄ =
+    let b = length masks in
+    let n = length formula in
+    let h = header b p n in
+    let m = maskBytes masks in
+    let hl = header-length b p n in
+    let ml = maskBytes-length masks in
+    let l₂ = length-append h m in
+    let l₃ = length-append (h ++ m) formula in
+    let t = tailAs masksAt s x in
+    let u = tailAs (formulaAt b) t y in
+    let r₁ = drop masksAt file in
+    let r₂ = drop (8 * b) r₁ in
+    let r₃ = drop n r₂ in
+    let d₂ = tail-put s h r₁ masksAt e₁ hl m x (8 * b) e₂ in
+    let d₃ = tail-put t (h ++ m) r₂ (formulaAt b) d₂ (omega arith) formula y n e₃ in
+    let d₄ = tail-clear u ((h ++ m) ++ formula) r₃ (totalOf b n) d₃ (omega arith) z e₄ in
+    let k = fileOf-length masks p formula in
+    let rest : length r₃ ≡ fileMost - length (h ++ (m ++ formula)) = omega (arith, length-drop masksAt file, length-drop (8 * b) r₁, length-drop n r₂) in
+    d₄ ∙ ap₂ _++_ (append-assoc h m formula) (ap (λ (i : ℕ). replicate {A = ℕ} i 0) rest)
+
+-- ---- what a written file's fields are
+pub record Fields (file : List ℕ) (b p n : ℕ) : Type 0 where
+  pub version-is : versionIn file ≡ version
+  pub boards-is : boardsIn file ≡ b
+  pub propositions-is : propositionsIn file ≡ p
+  pub nodes-is : nodesIn file ≡ n
+  pub masks-offset-is : masksOffsetIn file ≡ masksAt
+  pub formula-offset-is : formulaOffsetIn file ≡ formulaAt b
+  pub total-is : totalIn file ≡ totalOf b n
+
+pub header-fields : (b p n : ℕ) (rest : List ℕ) → b ≤ boardsMost → p ≤ propositionsMost → n ≤ nodesMost → Fields (header b p n ++ rest) b p n
+unfolding le leAt
+header-fields b p n rest hb hp hn =
+    record {
+      version-is = omega arith;
+      boards-is = omega arith;
+      propositions-is = omega arith;
+      nodes-is = omega arith;
+      masks-offset-is = omega arith;
+      formula-offset-is = omega arith;
+      total-is = omega arith;
+    }
+
+pub masksFrom-maskBytes : (a ms rest : List ℕ) (at : ℕ) → length a ≡ at → ((i : ℕ) → getD ms i 0 < 2 ^ 64)
+    → masksFrom (a ++ (maskBytes ms ++ rest)) at (length ms) ≡ ms
+unfolding masksFrom maskBytes
+masksFrom-maskBytes a [] rest at e h = refl
+masksFrom-maskBytes a (m ∷ ms) rest at e h =
+    let tail = maskBytes ms ++ rest in
+    let s = ap (λ (u : List ℕ). a ++ u) (append-assoc (le 8 m) (maskBytes ms) rest) in
+    let l = length-append a (le 8 m) in
+    let k = le-length 8 m in
+    ap₂ _∷_
+    (ap (λ (u : List ℕ). leAt u at 8) s ∙ leAt-le a tail at 8 m e ∙ mod-eq-of-lt (h 0))
+    (ap (λ (u : List ℕ). masksFrom u (at + 8) (length ms)) (s ∙ sym (append-assoc a (le 8 m) tail))
+    ∙ masksFrom-maskBytes (a ++ le 8 m) ms rest (at + 8) (omega arith) (λ i. h (suc i)))
+
+-- ---- what a file is written from
+module _ (file : List ℕ) (bytes : Bytes file) (headed : masksAt ≤ length file) where
+  field-is : (at n v : ℕ) → at + n ≤ masksAt → leAt file at n ≡ v → le n v ≡ take n (drop at file)
+  field-is at n v h e = ap (le n) (sym e) ∙ le-leAt file at n bytes (omega arith)
+
+  field-then : (at n v m : ℕ) (xs : List ℕ) → at + n ≤ masksAt → leAt file at n ≡ v → xs ≡ take m (drop (at + n) file)
+      → le n v ++ xs ≡ take (n + m) (drop at file)
+  field-then at n v m xs h e k = ap₂ _++_ (field-is at n v h e) k ∙ sym (take-two file at n m)
+
+  pub header-is : (b p n : ℕ) → Fields file b p n → header b p n ≡ take masksAt file
+  header-is b p n k =
+      let f₇ = field-is 12 4 (totalOf b n) (omega arith) (k .total-is) in
+      let f₆ = field-then 10 2 (formulaAt b) 4 _ (omega arith) (k .formula-offset-is) f₇ in
+      let f₅ = field-then 8 2 masksAt 6 _ (omega arith) (k .masks-offset-is) f₆ in
+      let f₄ = field-then 6 2 n 8 _ (omega arith) (k .nodes-is) f₅ in
+      let f₃ = field-then 4 2 p 10 _ (omega arith) (k .propositions-is) f₄ in
+      let f₂ = field-then 2 2 b 12 _ (omega arith) (k .boards-is) f₃ in
+      field-then 0 2 version 14 _ (omega arith) (k .version-is) f₂
+
+pub maskBytes-masksFrom : (file : List ℕ) (at n : ℕ) → Bytes file → at + 8 * n ≤ length file → maskBytes (masksFrom file at n) ≡ take (8 * n) (drop at file)
+unfolding masksFrom maskBytes
+maskBytes-masksFrom file at zero w h = refl
+maskBytes-masksFrom file at (suc n) w h =
+    let e : 8 + 8 * n ≡ 8 * suc n = omega arith in
+    ap₂ _++_ (le-leAt file at 8 w (omega arith)) (maskBytes-masksFrom file (at + 8) n w (omega arith))
+    ∙ sym (take-two file at 8 (8 * n)) ∙ ap (λ (i : ℕ). take i (drop at file)) e

@@ -1,0 +1,161 @@
+-- Reading and writing together, as the promises `Reads` and `Writes` say it. `written-read`: a file that was written is read back as
+-- the rule that it was written from. `read-written`: a rule that was read is written back as the file's bytes. Assumes nothing.
+use mathlib.Core.Path.{_≡_, refl, sym, ap, ap₂, _∙_, subst}
+use mathlib.Core.Bool.{true}
+use mathlib.Core.List.{List, _++_, append-assoc}
+use Prim.Native.Nat.{ℕ, _-_, _*_, _^_, _<_, _≤_}
+use native.Mathlib.Omega.{arith}
+use lib.ListN.{length, getD, take, drop, replicate, length-append, length-drop, take-append-drop}
+use lib.Seq.{take-at, drop-at, drop-drop}
+use borrow.Author.Tests.{eq-eqb, eqb-true, le-leb}
+use Rattle.lists.specs.Runs.{padded}
+use Rattle.answers.specs.Said.{Said}
+use Rattle.ltl.specs.Text.{ruleText}
+use Rattle.lists.proofs.Tests.{both-true}
+use Rattle.masks.specs.Masks.{masksRule}
+use Rattle.le.specs.Le.{leAt}
+use Rattle.le.proofs.Laws.{Bytes}
+use Rattle.rules.specs.declared.reading.Counts.{Counts}
+use Rattle.rules.specs.declared.reading.ReadAnswer.{ReadAnswer}
+use Rattle.rules.specs.declared.reading.ReadAnswer.the-variants.{Rule}
+use Rattle.rules.specs.declared.writing.WriteAnswer.{WriteAnswer}
+use Rattle.rules.specs.declared.writing.WriteAnswer.the-variants.{Written}
+use Rattle.rules.specs.RuleFile.{version, boardsMost, nodesMost, masksAt, formulaAt, fileMost, header, maskBytes, fileOf, countsOk, totalOf, boardsIn, propositionsIn, nodesIn, masksIn, formulaIn, masksFrom}
+use Rattle.rules.specs.Read.{lengthsOk, offsetsOk, saidRead, Reads}
+use Rattle.rules.specs.Write.{saidWrite, Writes}
+use Rattle.rules.proofs.Files.{Fields, masksFrom-length, maskBytes-length, header-length, fileOf-length, header-fields, masksFrom-maskBytes, header-is, maskBytes-masksFrom}
+use Rattle.rules.proofs.Outcomes.{sized, Counted, counted, placed, ReadPassed, read-passed, read-rule, write-passed, write-written}
+use Rattle.rules.proofs.Determined.{reads-determined, writes-determined}
+
+-- ---- the file of a rule is read as the rule
+module _ (masks : List ℕ) (p : ℕ) (formula : List ℕ) (words : (i : ℕ) → getD masks i 0 < 2 ^ 64) (counts : Counted (length masks) p (length formula)) where
+  file-fields : Fields (fileOf masks p formula) (length masks) p (length formula)
+  unfolding fileOf
+  file-fields = header-fields (length masks) p (length formula) (maskBytes masks ++ formula) (counts .boards-few) (counts .propositions-few) (counts .nodes-few)
+
+  file-masks : masksIn (fileOf masks p formula) ≡ masks
+  unfolding fileOf
+  file-masks =
+      let h = header (length masks) p (length formula) in
+      ap (λ (b : ℕ). masksFrom (fileOf masks p formula) masksAt b) (file-fields .boards-is)
+      ∙ masksFrom-maskBytes h masks formula masksAt (header-length (length masks) p (length formula)) words
+
+  file-formula : formulaIn (fileOf masks p formula) ≡ formula
+  unfolding fileOf
+  file-formula =
+      let b = length masks in
+      let h = header b p (length formula) in
+      let l = length-append h (maskBytes masks) in
+      let hl = header-length b p (length formula) in
+      let ml = maskBytes-length masks in
+      ap₂ (λ (i : ℕ) (u : List ℕ). drop (formulaAt i) u) (file-fields .boards-is) (sym (append-assoc h (maskBytes masks) formula))
+      ∙ drop-at (h ++ maskBytes masks) formula (formulaAt b) (omega arith)
+
+  file-passed : masksRule p masks ≡ true → ruleText p formula ≡ true → countsOk (length masks) p (length formula) ≡ true
+      → ReadPassed (fileOf masks p formula) boardsMost nodesMost
+  unfolding lengthsOk offsetsOk
+  file-passed rule text ok =
+      let k = file-fields in
+      let l = fileOf-length masks p formula in
+      let whole : length (fileOf masks p formula) ≡ leAt (fileOf masks p formula) 12 4 = omega arith in
+      let headed : masksAt ≤ length (fileOf masks p formula) = omega arith in
+      record {
+        lengths = both-true _ _ refl (both-true _ _ refl (both-true _ _ (le-leb _ _ headed) (eq-eqb _ _ whole)));
+        version = eq-eqb _ _ (k .version-is);
+        counts = rw (k .boards-is, k .propositions-is, k .nodes-is) ok;
+        offsets = rw (k .boards-is, k .nodes-is) (both-true _ _ (eq-eqb _ _ (k .masks-offset-is)) (both-true _ _ (eq-eqb _ _ (k .formula-offset-is)) (eq-eqb _ _ (k .total-is))));
+        masks = ap₂ masksRule (k .propositions-is) file-masks ∙ rule;
+        formula = ap₂ ruleText (k .propositions-is) file-formula ∙ text;
+      }
+
+pub written-read : (masks : List ℕ) (p : ℕ) (formula file file′ : List ℕ) (n : ℕ) → ((i : ℕ) → getD masks i 0 < 2 ^ 64)
+    → Writes masks p formula file file′ (Written n)
+    → (m f m′ f′ : List ℕ) (answer : ReadAnswer) → length m ≡ boardsMost → length f ≡ nodesMost → Reads (take n file′) m f m′ f′ answer
+    → (answer ≡ Rule (record { boards = length masks; propositions = p; nodes = length formula })) × (m′ ≡ padded boardsMost masks) × (f′ ≡ padded nodesMost formula)
+written-read masks p formula file file′ n words w m f m′ f′ answer em ef r =
+    let q = write-passed masks p formula (length file) (sym (ap (λ (s : Said). s .number) (w .says))) in
+    let F = fileOf masks p formula in
+    let d = writes-determined masks p formula file file′ (padded fileMost F) (Written n) _ w
+    (write-written masks p formula file (q .space) (q .counts) (q .rule) (q .text) (padded fileMost F) refl) in
+    let total : n ≡ totalOf (length masks) (length formula) = ap (λ (a : WriteAnswer). getD (saidWrite a .values) 0 0) (d .0) in
+    let whole : take n file′ ≡ F = ap₂ take total (d .1) ∙ take-at F (replicate (fileMost - length F) 0) _ (fileOf-length masks p formula) in
+    let c = counted _ _ _ (q .counts) in
+    let o = file-passed masks p formula words c (q .rule) (q .text) (q .counts) in
+    let k = file-fields masks p formula words c in
+    let ok : lengthsOk F (length m) (length f) ≡ true = ap₂ (lengthsOk F) em ef ∙ o .lengths in
+    let built = read-rule F m f ok (o .version) (o .counts) (o .offsets) (o .masks) (o .formula)
+    (record { boards = length masks; propositions = p; nodes = length formula }) (padded boardsMost masks) (padded nodesMost formula)
+    (sym (k .boards-is)) (sym (k .propositions-is)) (sym (k .nodes-is))
+    (sym (ap (padded boardsMost) (file-masks masks p formula words c))) (sym (ap (padded nodesMost) (file-formula masks p formula words c))) in
+    reads-determined F m f m′ f′ _ _ answer _ (subst (λ (u : List ℕ). Reads u m f m′ f′ answer) whole r) built
+
+-- ---- the file of a rule that was read is the file
+module _ (file m f : List ℕ) (bytes : Bytes file) (o : ReadPassed file (length m) (length f)) where
+  formula-length : length (formulaIn file) ≡ nodesIn file
+  formula-length =
+      let s = sized file (length m) (length f) (o .lengths) in
+      let t = placed file (o .offsets) in
+      omega (arith, length-drop (formulaAt (boardsIn file)) file)
+
+  read-fields : Fields file (boardsIn file) (propositionsIn file) (nodesIn file)
+  read-fields =
+      let t = placed file (o .offsets) in
+      record {
+        version-is = eqb-true _ _ (o .version);
+        boards-is = refl;
+        propositions-is = refl;
+        nodes-is = refl;
+        masks-offset-is = t .masks-offset;
+        formula-offset-is = t .formula-offset;
+        total-is = t .total;
+      }
+
+  read-file : fileOf (masksIn file) (propositionsIn file) (formulaIn file) ≡ file
+  unfolding fileOf
+  read-file =
+      let s = sized file (length m) (length f) (o .lengths) in
+      let t = placed file (o .offsets) in
+      let b = boardsIn file in
+      let h = ap₂ (λ (i j : ℕ). header i (propositionsIn file) j) (masksFrom-length file masksAt b) formula-length
+      ∙ header-is file bytes (s .headed) b (propositionsIn file) (nodesIn file) read-fields in
+      let v : maskBytes (masksIn file) ++ formulaIn file ≡ drop masksAt file =
+      ap₂ _++_ (maskBytes-masksFrom file masksAt b bytes (omega arith)) (sym (drop-drop (8 * b) masksAt file)) ∙ take-append-drop (8 * b) (drop masksAt file) in
+      ap₂ _++_ h v ∙ take-append-drop masksAt file
+
+  read-total : totalOf (length (masksIn file)) (length (formulaIn file)) ≡ length file
+  read-total =
+      let s = sized file (length m) (length f) (o .lengths) in
+      let t = placed file (o .offsets) in
+      omega (arith, masksFrom-length file masksAt (boardsIn file), formula-length)
+
+pub read-written : (file m f m′ f′ : List ℕ) (c : Counts) → Bytes file → Reads file m f m′ f′ (Rule c)
+    → (out out′ : List ℕ) (answer : WriteAnswer) → length out ≡ fileMost
+    → Writes (take (c .boards) m′) (c .propositions) (take (c .nodes) f′) out out′ answer
+    → (answer ≡ Written (length file)) × (take (length file) out′ ≡ file)
+read-written file m f m′ f′ c bytes r out out′ answer room w =
+    let o = read-passed file (length m) (length f) (sym (ap (λ (s : Said). s .number) (r .says))) in
+    let ms = masksIn file in
+    let p = propositionsIn file in
+    let fs = formulaIn file in
+    let fl = formula-length file m f bytes o in
+    let ml = masksFrom-length file masksAt (boardsIn file) in
+    let d = reads-determined file m f m′ f′ (padded boardsMost ms) (padded nodesMost fs) (Rule c) _ r
+    (read-rule file m f (o .lengths) (o .version) (o .counts) (o .offsets) (o .masks) (o .formula)
+    (record { boards = boardsIn file; propositions = p; nodes = nodesIn file }) (padded boardsMost ms) (padded nodesMost fs) refl refl refl refl refl) in
+    let v = ap (λ (a : ReadAnswer). saidRead a .values) (d .0) in
+    let eb : c .boards ≡ boardsIn file = ap (λ (l : List ℕ). getD l 0 0) v in
+    let ep : c .propositions ≡ p = ap (λ (l : List ℕ). getD l 1 0) v in
+    let en : c .nodes ≡ nodesIn file = ap (λ (l : List ℕ). getD l 2 0) v in
+    let em : take (c .boards) m′ ≡ ms = ap₂ take eb (d .1) ∙ take-at ms (replicate (boardsMost - length ms) 0) (boardsIn file) ml in
+    let ef : take (c .nodes) f′ ≡ fs = ap₂ take en (d .2) ∙ take-at fs (replicate (nodesMost - length fs) 0) (nodesIn file) fl in
+    let w₁ = subst (λ (u : List ℕ). Writes u (c .propositions) (take (c .nodes) f′) out out′ answer) em w in
+    let w₂ = subst (λ (u : ℕ). Writes ms u (take (c .nodes) f′) out out′ answer) ep w₁ in
+    let w₃ = subst (λ (u : List ℕ). Writes ms p u out out′ answer) ef w₂ in
+    let counts : countsOk (length ms) p (length fs) ≡ true = ap₂ (λ (i j : ℕ). countsOk i p j) ml fl ∙ o .counts in
+    let F = fileOf ms p fs in
+    let whole = read-file file m f bytes o in
+    let e = writes-determined ms p fs out out′ (padded fileMost F) answer _ w₃
+    (write-written ms p fs out (eq-eqb _ _ room) counts (o .masks) (o .formula) (padded fileMost F) refl) in (
+      e .0 ∙ ap Written (read-total file m f bytes o),
+      ap (take (length file)) (e .1 ∙ ap (padded fileMost) whole) ∙ take-at file (replicate (fileMost - length file) 0) (length file) refl,
+    )

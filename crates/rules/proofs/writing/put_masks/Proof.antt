@@ -1,0 +1,87 @@
+-- `rules::writing::put_masks` meets its contract. The invariant: the list has the bytes of the first i masks in front, then what it
+-- had before. Each turn puts the next mask, so what is left of the masks falls. Assumes nothing.
+use mathlib.Core.Path.{_≡_, refl, sym, ap₂, _∙_}
+use mathlib.Core.List.{List, _++_}
+use Prim.Native.Nat.{ℕ, _+_, _-_, _*_, _≤_}
+use native.Mathlib.Omega.{arith}
+use lib.ListN.{length, getD, take, drop}
+use lib.Seq.{take-all, length-take-le}
+use Rattle.le.specs.Le.{le}
+use Rattle.rules.specs.RuleFile.{maskBytes}
+use Rattle.lists.proofs.Stretches.{put-next}
+use Rattle.rules.proofs.Files.{maskBytes-length, maskBytes-none, maskBytes-more}
+use borrow.Author.Needs.{needs}
+use Rattle.rules.proofs.writing.put_masks.Statement.{statement}
+use Rattle.rules.proofs.writing.put_masks.Tie as tie
+
+abbrev Inv-loop : tie.InvT-loop
+Inv-loop out₀ masks i₀ out i =
+    (i ≤ length masks) × (out ≡ maskBytes (take i masks) ++ drop (8 * i) out₀) × (length out ≡ length out₀)
+
+abbrev μ-loop : tie.MeasureT-loop
+μ-loop out₀ masks i₀ out i = length masks - i
+
+loop-holds : tie.Need-loop-holds Inv-loop μ-loop
+loop-holds c = (search needs, maskBytes-none (c .before .before .args .out .now), refl)
+
+mul-put-u64 : tie.Need-mul-put-u64 Inv-loop μ-loop
+mul-put-u64 c = search needs
+
+mul-put-u64-2 : tie.Need-mul-put-u64-2 Inv-loop μ-loop
+mul-put-u64-2 c = search needs
+
+shared-slice-read-put-u64 : tie.Need-shared-slice-read-put-u64 Inv-loop μ-loop
+shared-slice-read-put-u64 c = search needs
+
+put-u64-requires : tie.Need-put-u64-requires Inv-loop μ-loop
+put-u64-requires c κs = search needs
+
+add-i : tie.Need-add-i Inv-loop μ-loop
+add-i c = search needs
+
+loop-less : tie.Need-loop-less Inv-loop μ-loop
+loop-less c = search needs
+
+loop-again : tie.Need-loop-again Inv-loop μ-loop
+loop-again c =
+    let k = c .before .before .before .before .before .before .loop .inv in
+    let i = c .before .before .before .before .before .before .loop .i in
+    let ms = c .before .before .before .before .before .before .before .before .before .args .masks .now in
+    let out = c .before .before .before .before .before .before .before .before .before .args .out .now in
+    let l = maskBytes-length (take i ms) in
+    let m = length-take-le i ms (k .0) in
+    let e : 8 * i + 8 ≡ 8 * (i + 1) = omega arith in (
+      omega arith,
+      c .before .before .put-u64 .ensures
+          ∙ put-next (c .before .before .before .before .before .before .loop .out) out (maskBytes (take i ms)) (le 8 (getD ms i 0)) (8 * i) 8 (k .1) (omega arith)
+          ∙ ap₂ (λ (u : List ℕ) (j : ℕ). u ++ drop j out) (sym (maskBytes-more ms i (c .before .before .before .before .before .loop-test .taken))) e,
+      c .before .before .put-u64 .kept .0 ∙ k .2,
+    )
+
+same-length : tie.Need-same-length Inv-loop μ-loop
+same-length c = c .before .loop .inv .2
+
+returns : tie.Need-returns Inv-loop μ-loop
+returns c =
+    let k = c .before .loop .inv in
+    let i = c .before .loop .i in
+    let ms = c .before .before .before .before .args .masks .now in
+    let e : i ≡ length ms = omega arith in
+    k .1 ∙ ap₂ (λ (u : List ℕ) (j : ℕ). maskBytes u ++ drop (8 * j) (c .before .before .before .before .args .out .now)) (take-all i ms (omega arith)) e
+
+pub put-masks-spec : {M : Type 1} → statement M
+put-masks-spec =
+    tie.close
+    (tie.spec
+    Inv-loop
+    μ-loop
+    loop-holds
+    mul-put-u64
+    mul-put-u64-2
+    shared-slice-read-put-u64
+    put-u64-requires
+    add-i
+    loop-less
+    loop-again
+    same-length
+    returns)

@@ -1,0 +1,91 @@
+-- The rule file: a header of 16 bytes of counts and offsets, a mask of 64 bits for each board, the formula.
+-- Assumes nothing: these are definitions.
+use Prim.Native.Nat.{ℕ, zero, suc, _+_, _*_}
+use mathlib.Core.Bool.{Bool}
+use mathlib.Core.List.{List, [], _∷_, _++_}
+use lib.ListN.{length, drop}
+use lib.Dec.{leb}
+use Rattle.lists.specs.Tests.{both}
+use Rattle.le.specs.Le.{le, leAt}
+
+-- ---- limits and sizes
+abbrev pub version : ℕ
+version = 1
+
+abbrev pub boardsMost : ℕ
+boardsMost = 16
+
+abbrev pub propositionsMost : ℕ
+propositionsMost = 64
+
+abbrev pub nodesMost : ℕ
+nodesMost = 1024
+
+-- the header's length, where the masks begin
+abbrev pub masksAt : ℕ
+masksAt = 16
+
+-- where the formula begins, after b masks
+abbrev pub formulaAt : ℕ → ℕ
+formulaAt b = masksAt + 8 * b
+
+-- the length of the file of b boards and n nodes
+abbrev pub totalOf : ℕ → ℕ → ℕ
+totalOf b n = formulaAt b + n
+
+-- the longest file, and the buffer that one is written into
+abbrev pub fileMost : ℕ
+fileMost = 1168
+
+abbrev pub inRange : ℕ → ℕ → Bool
+inRange most n = both (leb 1 n) (leb n most)
+
+-- the counts b of boards, p of propositions and n of nodes are in range
+unfoldable pub countsOk : ℕ → ℕ → ℕ → Bool
+countsOk b p n = both (inRange boardsMost b) (both (inRange propositionsMost p) (inRange nodesMost n))
+
+-- ---- the file of a rule
+abbrev pub header : ℕ → ℕ → ℕ → List ℕ
+header b p n =
+    le 2 version ++ (le 2 b ++ (le 2 p ++ (le 2 n ++ (le 2 masksAt ++ (le 2 (formulaAt b) ++ le 4 (totalOf b n))))))
+
+unfoldable pub maskBytes : List ℕ → List ℕ
+maskBytes [] = []
+maskBytes (m ∷ ms) = le 8 m ++ maskBytes ms
+
+-- the masks, the number of propositions, the formula
+unfoldable pub fileOf : List ℕ → ℕ → List ℕ → List ℕ
+fileOf masks p formula = header (length masks) p (length formula) ++ (maskBytes masks ++ formula)
+
+-- ---- a file's fields
+abbrev pub versionIn : List ℕ → ℕ
+versionIn file = leAt file 0 2
+
+abbrev pub boardsIn : List ℕ → ℕ
+boardsIn file = leAt file 2 2
+
+abbrev pub propositionsIn : List ℕ → ℕ
+propositionsIn file = leAt file 4 2
+
+abbrev pub nodesIn : List ℕ → ℕ
+nodesIn file = leAt file 6 2
+
+abbrev pub masksOffsetIn : List ℕ → ℕ
+masksOffsetIn file = leAt file 8 2
+
+abbrev pub formulaOffsetIn : List ℕ → ℕ
+formulaOffsetIn file = leAt file 10 2
+
+abbrev pub totalIn : List ℕ → ℕ
+totalIn file = leAt file 12 4
+
+-- n masks from a place on
+unfoldable pub masksFrom : List ℕ → ℕ → ℕ → List ℕ
+masksFrom file at zero = []
+masksFrom file at (suc n) = leAt file at 8 ∷ masksFrom file (at + 8) n
+
+abbrev pub masksIn : List ℕ → List ℕ
+masksIn file = masksFrom file masksAt (boardsIn file)
+
+abbrev pub formulaIn : List ℕ → List ℕ
+formulaIn file = drop (formulaAt (boardsIn file)) file

@@ -1,0 +1,10 @@
+// Rule files: the calls `read` and `write`.
+mod counts;
+mod reading;
+mod writing;
+
+pub use reading::Counts;
+pub use reading::ReadAnswer;
+pub use reading::read;
+pub use writing::WriteAnswer;
+pub use writing::write;

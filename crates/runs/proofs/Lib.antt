@@ -1,0 +1,2 @@
+-- Laws of runs of bytes.
+pub mod Turns

@@ -1,0 +1,2 @@
+-- What the contracts of `runs` cite.
+pub mod Starts

@@ -1,0 +1,1 @@
+// No code: the worked values that are proved, as one table.

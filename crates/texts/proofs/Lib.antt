@@ -1,0 +1,2 @@
+-- Laws of the pass over a formula's bytes.
+pub mod Scans

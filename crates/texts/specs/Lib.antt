@@ -1,0 +1,2 @@
+-- What the contracts of `texts` cite.
+pub mod Scan

@@ -1,0 +1,55 @@
+// Whether bytes are one whole formula of a rule: one pass with a count of the operands still owed.
+ghost use mathlib.Core.Path.{_≡_};
+ghost use Prim.Native.Nat.{ℕ, _+_, _<_, _^_};
+ghost use Rattle.kinds.specs.Kinds.{kindOf};
+ghost use Rattle.ltl.specs.Text.{ruleText};
+ghost use Rattle.texts.specs.Scan.{owedAfter};
+use kinds::Kind;
+use kinds::Leaf;
+
+// How many operands are still owed behind a node, or that no rule has the node.
+pub enum Owed {
+    Operands(usize),
+    Broken,
+}
+
+// What is owed behind a node of kind k that was itself owed, with `others` operands owed beside it. The rule's propositions are below p.
+fn after(k: Kind, others: usize, p: u64) -> Owed
+    requires { ⌜ others + 2 < 2 ^ 64 ⌝ }
+    ensures { λ r. ⌜ r ≡ owedAfter p k others ⌝ }
+{
+    match k {
+        Kind::Zero(a) => match a {
+            Leaf::Const(_) => Owed::Operands(others),
+            Leaf::Prop(i) => if (i as u64) < p {
+                Owed::Operands(others)
+            } else {
+                Owed::Broken
+            },
+            Leaf::Hold(_) => Owed::Broken,
+        },
+        Kind::One(_) => Owed::Operands(others + 1),
+        Kind::Two(_) => Owed::Operands(others + 2),
+        Kind::NoCode => Owed::Broken,
+    }
+}
+
+// One whole formula of the language with propositions below p alone and no place holder.
+pub fn is_rule(s: &[u8], p: u64) -> bool
+    ensures { λ r. ⌜ r ≡ ruleText p (now (s .entry)) ⌝ }
+{
+    let mut owed: usize = 1;
+    let mut i: usize = 0;
+    while i < s.len() {
+        if owed == 0 {
+            return false;
+        }
+        let next = after(Kind::of(s[i]), owed - 1, p);
+        let Owed::Operands(n) = next else {
+            return false;
+        };
+        owed = n;
+        i += 1;
+    }
+    owed == 0
+}

@@ -1,0 +1,4 @@
+-- Laws of unfolding over plain lists.
+pub mod Operands
+pub mod Counts
+pub mod Unfoldings

@@ -1,0 +1,2 @@
+-- What the contracts of `unfolding` cite.
+pub mod Unfolds

@@ -1,0 +1,24 @@
+# What the scripts of tests/ and bench/ share; they source it from the project's root.
+
+# Compiles the generator and the second program into target/tests/, and runs the second program on 01's worked values.
+build_tests() {
+    mkdir -p target/tests
+    rustc -O --edition 2021 -o target/tests/generate tests/generate.rs
+    rustc -O --edition 2021 -o target/tests/second tests/second.rs
+    rustc --test --edition 2021 -o target/tests/worked tests/second.rs
+    target/tests/worked -q >target/tests/worked.log || { cat target/tests/worked.log; return 1; }
+}
+
+# The kit's tools for this machine: the guide that rt names stands in the kit's docs/.
+kit_tools() {
+    echo "$(cd "$(dirname "$(rt doc)")/.." && pwd -P)/on/$(uname -m)/toolchain"
+}
+
+# Runs a program that rt built, as rt does: with the kit's loader and C library, and where the machine is no x86-64
+# under the kit's emulator.
+run_rattle() {
+    tools=$(kit_tools)
+    emulator=$tools/bin/qemu-x86_64
+    [ -x "$emulator" ] || emulator=
+    ${emulator:+"$emulator"} "$tools/lib/ld-linux-x86-64.so.2" --library-path "$tools/lib" "$@"
+}

@@ -1,0 +1,36 @@
+// One request of PROTOCOL.md and its bytes.
+
+pub struct Request {
+    call: u8,
+    a: usize,
+    b: usize,
+    c: usize,
+    v: u64,
+    payload: Vec<u8>,
+}
+
+impl Request {
+    pub fn read(file: Vec<u8>, masks_lent: usize, formula_lent: usize) -> Request {
+        Request { call: 1, a: file.len(), b: masks_lent, c: formula_lent, v: 0, payload: file }
+    }
+
+    pub fn write(masks: &[u64], propositions: u64, formula: &[u8], file_lent: usize) -> Request {
+        let mut payload: Vec<u8> = masks.iter().flat_map(|mask| mask.to_le_bytes()).collect();
+        payload.extend(formula);
+        Request { call: 2, a: masks.len(), b: formula.len(), c: file_lent, v: propositions, payload }
+    }
+
+    pub fn central(formula: Vec<u8>, event: u64, output_lent: usize) -> Request {
+        Request { call: 3, a: formula.len(), b: 0, c: output_lent, v: event, payload: formula }
+    }
+
+    pub fn bytes(&self) -> Vec<u8> {
+        let mut bytes = vec![self.call, 0, 0, 0];
+        for number in [self.a, self.b, self.c] {
+            bytes.extend((number as u32).to_le_bytes());
+        }
+        bytes.extend(self.v.to_le_bytes());
+        bytes.extend(&self.payload);
+        bytes
+    }
+}
