@@ -36,6 +36,9 @@ pub fn slide(p: &mut [u8], from: usize, n: usize)
     requires { ⌜ from + n ≤ length (now p) ⌝ }
     ensures { λ _. ⌜ now (p .exit) ≡ take n (drop from (now (p .entry))) ++ drop n (now (p .entry)) ⌝ }
 {
+    if from == 0 {
+        return;
+    }
     let mut i: usize = 0;
     while i < n {
         p[i] = p[from + i];

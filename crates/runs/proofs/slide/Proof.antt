@@ -1,13 +1,12 @@
 -- proof
 use native.Mathlib.Omega.{arith}
 use borrow.Author.Needs.{needs}
-use mathlib.Core.Path.{_≡_, refl, sym, ap, _∙_}
+use mathlib.Core.Path.{_≡_, sym, ap, _∙_}
 use mathlib.Core.List.{List}
-use Prim.Native.Nat.{ℕ, _+_, _-_, _≤_, _<_}
-use lib.ListN.{length, getD, set, take, drop, replicate, length-set, length-replicate, length-drop}
-use lib.Seq.{getD-drop}
-use Rattle.lists.proofs.Fill.{filled, filled-length, filled-more, filled-behind, filled-all, filled-whole}
-use Rattle.runs.proofs.Turns.{cleared-more, slid-more, starts-same, starts-other, starts-short, starts-end}
+use Prim.Native.Nat.{ℕ, _+_, _-_, _≤_}
+use lib.ListN.{length, getD, set, drop, length-set, length-drop, take-append-drop}
+use Rattle.lists.proofs.Fill.{filled}
+use Rattle.runs.proofs.Turns.{slid-more}
 use Rattle.runs.proofs.slide.Statement.{statement}
 use Rattle.runs.proofs.slide.Tie as tie
 use Rattle.runs.proofs.slide.Reads as reads
@@ -19,46 +18,50 @@ Inv-loop p₀ from n i₀ p i = (i ≤ n) × (p ≡ filled i (drop from p₀) p�
 abbrev μ-loop : tie.MeasureT-loop
 μ-loop p₀ from n i₀ p i = n - i
 
--- src/lib.rt:40:5
+-- src/lib.rt:40:9
+returns : tie.Need-returns Inv-loop μ-loop
+returns c = rw (c .if1 .taken) (sym (take-append-drop (c .before .args .n) (c .before .args .p .now)))
+
+-- src/lib.rt:43:5
 loop-holds : tie.Need-loop-holds Inv-loop μ-loop
 loop-holds c = search needs
 
--- src/lib.rt:41:18
+-- src/lib.rt:44:18
 add-p : tie.Need-add-p Inv-loop μ-loop
 add-p c = search needs
 
--- src/lib.rt:41:16
+-- src/lib.rt:44:16
 slice-read-p : tie.Need-slice-read-p Inv-loop μ-loop
 slice-read-p c = omega arith
 
--- src/lib.rt:41:9
+-- src/lib.rt:44:9
 slice-write-p : tie.Need-slice-write-p Inv-loop μ-loop
 slice-write-p c = omega arith
 
--- src/lib.rt:42:9
+-- src/lib.rt:45:9
 add-i : tie.Need-add-i Inv-loop μ-loop
 add-i c = search needs
 
--- src/lib.rt:40:5
+-- src/lib.rt:43:5
 loop-less : tie.Need-loop-less Inv-loop μ-loop
 loop-less c = search needs
 
--- src/lib.rt:40:5
+-- src/lib.rt:43:5
 loop-again : tie.Need-loop-again Inv-loop μ-loop
-loop-again c =
+loop-again c = 
     let k = c .before .before .loop .inv in
-    let d = length-drop (c .before .before .before .args .from) (c .before .before .before .args .p .now) in
-    (omega arith, ap (λ (x : List ℕ). set x (c .before .before .loop .i) (getD x (c .before .before .before .args .from + c .before .before .loop .i) 0)) (k .1) ∙ slid-more (c .before .before .before .args .p .now) (c .before .before .before .args .from) (c .before .before .loop .i) (omega arith), simp length-set (k .2))
+    let d = length-drop (c .before .before .before .before .args .from) (c .before .before .before .before .args .p .now) in
+    (omega arith, ap (λ (x : List ℕ). set x (c .before .before .loop .i) (getD x (c .before .before .before .before .args .from + c .before .before .loop .i) 0)) (k .1) ∙ slid-more (c .before .before .before .before .args .p .now) (c .before .before .before .before .args .from) (c .before .before .loop .i) (omega arith), simp length-set (k .2))
 
 -- src/lib.rt:35:1
 same-length : tie.Need-same-length Inv-loop μ-loop
 same-length c = c .before .loop .inv .2
 
 -- src/lib.rt:35:1
-returns : tie.Need-returns Inv-loop μ-loop
-returns c =
-    let e : c .before .loop .i ≡ c .before .before .args .n = omega arith in
-    c .before .loop .inv .1 ∙ ap (λ (i : ℕ). filled i (drop (c .before .before .args .from) (c .before .before .args .p .now)) (c .before .before .args .p .now)) e
+returns-2 : tie.Need-returns-2 Inv-loop μ-loop
+returns-2 c = 
+    let e : c .before .loop .i ≡ c .before .before .before .args .n = omega arith in
+    c .before .loop .inv .1 ∙ ap (λ (i : ℕ). filled i (drop (c .before .before .before .args .from) (c .before .before .before .args .p .now)) (c .before .before .before .args .p .now)) e
 
 pub slide-spec : {M : Type 1} → statement M
 slide-spec =
@@ -66,6 +69,7 @@ slide-spec =
     (tie.spec
     Inv-loop
     μ-loop
+    returns
     loop-holds
     add-p
     slice-read-p
@@ -74,4 +78,4 @@ slide-spec =
     loop-less
     loop-again
     same-length
-    returns)
+    returns-2)
