@@ -1,14 +1,13 @@
 -- The promise leaves no choice: `centrally-determined` says that any two outcomes that it allows of the same inputs are equal.
 -- Assumes nothing.
-use mathlib.Core.Path.{_≡_, refl, sym, ap, ap₂, _∙_}
-use mathlib.Core.List.{List, [], _∷_}
-use Prim.Native.Nat.{ℕ, _<_}
+use mathlib.Core.Path.{_≡_, sym, ap, _∙_}
+use mathlib.Core.List.{List}
+use Prim.Native.Nat.{ℕ}
 use native.Mathlib.Omega.{arith}
 use lib.ListN.{getD}
-use Rattle.answers.specs.Said.{Said, verdictNumber}
+use Rattle.answers.specs.Said.{Said}
 use Rattle.answers.proofs.Answers.{number-injective, number-some, verdict-injective}
 use Rattle.ltl.specs.Meaning.{Event}
-use Rattle.central.specs.declared.Progress.{Progress}
 use Rattle.central.specs.declared.CentralAnswer.{CentralAnswer}
 use Rattle.central.specs.declared.CentralAnswer.the-variants.{Refused, Progressed}
 use Rattle.central.specs.Central.{saidCentral, Centrally}

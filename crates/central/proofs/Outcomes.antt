@@ -1,18 +1,17 @@
 -- What `central` answers and leaves, one law for each outcome, over plain lists. Assumes nothing.
-use mathlib.Core.Path.{_≡_, refl, sym, ap, _∙_, subst}
-use mathlib.Core.Bool.{Bool, true, false}
-use mathlib.Core.List.{List, [], _∷_, append-nil}
-use mathlib.Core.Option.{Option, none, some}
+use mathlib.Core.Path.{_≡_, sym, ap, _∙_}
+use mathlib.Core.Bool.{true, false}
+use mathlib.Core.List.{List, [], append-nil}
+use mathlib.Core.Option.{some}
 use Prim.Native.Nat.{ℕ, _<_, _≤_, min}
 use native.Mathlib.Omega.{arith}
 use lib.ListN.{length}
-use lib.Dec.{leb, eqb}
 use borrow.Author.Tests.{le-leb, lt-leb, leb-true, eqb-true}
 use Rattle.lists.specs.Runs.{padded}
 use Rattle.answers.specs.declared.Refusal.{Refusal}
 use Rattle.answers.specs.declared.Refusal.the-variants.{Length, Formula, Nodes}
 use Rattle.answers.specs.declared.Verdict.{Verdict}
-use Rattle.answers.specs.Said.{Said, accepted, refused, left, numberOf, verdictNumber}
+use Rattle.answers.specs.Said.{Said, accepted, refused, left, numberOf}
 use Rattle.answers.proofs.Answers.{left-refused, left-accepted, order-ok, order-refused, order-done}
 use Rattle.ltl.specs.Formula.{size, encode}
 use Rattle.ltl.specs.Formula as formula
@@ -20,12 +19,11 @@ use Rattle.ltl.specs.Meaning.{Event}
 use Rattle.ltl.specs.Progression.{unfolded, progressed, verdictOf}
 use Rattle.ltl.specs.Text.{textOf, ruleText}
 use Rattle.lists.proofs.Tests.{both-0, both-1}
-use Rattle.ltl.proofs.Texts.{RuleText, rule-is, text-of, wider}
-use Rattle.nodes.specs.Begins.{Front, Begins}
+use Rattle.ltl.proofs.Texts.{rule-is, text-of, wider}
+use Rattle.nodes.specs.Begins.{Front}
 use Rattle.unfolding.specs.Unfolds.{Counted}
-use Rattle.central.specs.declared.Progress.{Progress}
 use Rattle.central.specs.declared.CentralAnswer.the-variants.{Refused, Progressed}
-use Rattle.central.specs.Central.{lengthsOk, formulaOf, someFormula, answerOf, centralSays, saidCentral, Centrally, ProgressedTo}
+use Rattle.central.specs.Central.{lengthsOk, formulaOf, someFormula, answerOf, centralSays, Centrally, ProgressedTo}
 
 -- ---- what the checks tell
 pub record Sized (n room : ℕ) : Type 0 where

@@ -11,22 +11,14 @@ use Rattle.lists.specs.Runs.{padded}
 use Rattle.answers.specs.Said.{Said, accepted, refused, left, numberOf, verdictNumber, check, inOrder}
 use Rattle.answers.specs.declared.Verdict.{Verdict}
 use Rattle.answers.specs.declared.Verdict.the-variants.{False, True, Pending}
+use Rattle.ltl.specs.Limits.{propositionsMost, nodesMost}
 use Rattle.ltl.specs.Formula.{Formula, constant, size, encode}
 use Rattle.ltl.specs.Meaning.{Event}
 use Rattle.ltl.specs.Progression.{unfolded, progressed, verdictOf}
 use Rattle.ltl.specs.Text.{textOf, ruleText}
-use Rattle.nodes.specs.Begins.{Front, Begins}
-use Rattle.central.specs.declared.Progress.{Progress}
+use Rattle.nodes.specs.Begins.{Front}
 use Rattle.central.specs.declared.CentralAnswer.{CentralAnswer}
 use Rattle.central.specs.declared.CentralAnswer.the-variants.{Refused, Progressed}
-
--- the most bytes of a formula and of what it unfolds to, and the length of the output
-abbrev pub nodesMost : ℕ
-nodesMost = 4096
-
--- the most propositions
-abbrev pub propositionsMost : ℕ
-propositionsMost = 64
 
 -- 1: the formula has 1 to 4,096 bytes and the output 4,096
 unfoldable pub lengthsOk : ℕ → ℕ → Bool

@@ -5,12 +5,13 @@ use Prim.Native.Nat.{ℕ}
 use mathlib.Core.List.{List}
 use lib.ListN.{length, getD}
 use lib.Dec.{eqb}
+use Rattle.ltl.specs.Limits.{boardsMost, ruleNodesMost, nodesMost}
 use Rattle.lists.specs.Tests.{pick}
 use Rattle.lists.specs.Runs.{padded}
 use Rattle.answers.specs.Said.{Said, left}
 use Rattle.ltl.specs.Formula.{encode}
 use Rattle.ltl.specs.Progression.{progressed}
-use Rattle.rules.specs.RuleFile.{boardsMost, nodesMost, fileMost, masksIn, formulaIn, fileOf}
+use Rattle.rules.specs.RuleFile.{fileMost, masksIn, formulaIn, fileOf}
 use Rattle.rules.specs.Read.{readSays}
 use Rattle.rules.specs.Write.{writeSays}
 use Rattle.central.specs.Central.{formulaOf, centralSays}
@@ -22,7 +23,7 @@ valueAt s i before = pick (eqb (s .number) 0) (getD (s .values) i 0) before
 pub record ReadExported (file masks formula masks′ formula′ : List ℕ) (boards propositions nodes boards′ propositions′ nodes′ answer : ℕ) : Type 0 where
   pub says : answer ≡ readSays file (length masks) (length formula) .number
   pub leaves-masks : masks′ ≡ left (readSays file (length masks) (length formula)) (padded boardsMost (masksIn file)) masks
-  pub leaves-formula : formula′ ≡ left (readSays file (length masks) (length formula)) (padded nodesMost (formulaIn file)) formula
+  pub leaves-formula : formula′ ≡ left (readSays file (length masks) (length formula)) (padded ruleNodesMost (formulaIn file)) formula
   pub gives-boards : boards′ ≡ valueAt (readSays file (length masks) (length formula)) 0 boards
   pub gives-propositions : propositions′ ≡ valueAt (readSays file (length masks) (length formula)) 1 propositions
   pub gives-nodes : nodes′ ≡ valueAt (readSays file (length masks) (length formula)) 2 nodes
@@ -34,6 +35,6 @@ pub record WriteExported (masks : List ℕ) (p : ℕ) (formula file file′ : Li
 
 pub record CentralExported (formula : List ℕ) (event : ℕ) (output output′ : List ℕ) (verdict nodes verdict′ nodes′ answer : ℕ) : Type 0 where
   pub says : answer ≡ centralSays formula event (length output) .number
-  pub leaves : output′ ≡ left (centralSays formula event (length output)) (padded 4096 (encode (progressed event (formulaOf formula)))) output
+  pub leaves : output′ ≡ left (centralSays formula event (length output)) (padded nodesMost (encode (progressed event (formulaOf formula)))) output
   pub gives-verdict : verdict′ ≡ valueAt (centralSays formula event (length output)) 0 verdict
   pub gives-length : nodes′ ≡ valueAt (centralSays formula event (length output)) 1 nodes

@@ -1,23 +1,22 @@
 -- The kinds of the bytes by range, and that each node's own byte has its kind. Others use the `kind-..` laws. Assumes nothing.
-use mathlib.Core.Path.{_≡_, refl, sym, ap, _∙_}
+use mathlib.Core.Path.{_≡_, refl, _∙_}
 use mathlib.Core.Bool.{Bool, true, false}
 use Prim.Native.Nat.{ℕ, zero, suc, _+_, _-_, _<_, _≤_}
 use native.Mathlib.Omega.{arith}
-use lib.ListN.{length, getD, List·getD-eq-default}
+use lib.ListN.{getD, List·getD-eq-default}
 use lib.Dec.{ltb}
 use borrow.Author.Tests.{lt-ltb, le-ltb, ltb-true, ltb-false}
 use Rattle.kinds.specs.declared.Leaf.{Leaf}
 use Rattle.kinds.specs.declared.Leaf.the-variants.{Const, Prop, Hold}
 use Rattle.kinds.specs.declared.Unary.{Unary}
 use Rattle.kinds.specs.declared.Unary.the-variants.{Not, Next, Eventually, Always}
-use Rattle.kinds.specs.declared.Join.{Join}
 use Rattle.kinds.specs.declared.Join.the-variants.{And, Or}
 use Rattle.kinds.specs.declared.Binary.{Binary}
 use Rattle.kinds.specs.declared.Binary.the-variants.{Joined, Until}
 use Rattle.kinds.specs.declared.Kind.{Kind}
 use Rattle.kinds.specs.declared.Kind.the-variants.{Zero, One, Two, NoCode}
 use Rattle.lists.specs.Tests.{pick}
-use Rattle.kinds.specs.Kinds.{named, kindOf, leafCode, unaryCode, joinCode, binaryCode}
+use Rattle.kinds.specs.Kinds.{named, leafWithin, kindOf, leafCode, unaryCode, binaryCode}
 
 -- ---- by range
 pub kind-low : (b : ℕ) → 9 ≤ b → b < 64 → kindOf b ≡ NoCode
@@ -72,13 +71,8 @@ kind-binary (Joined Or) = refl
 kind-binary Until = refl
 
 -- ---- what a byte's kind says of the byte: it is that node's own byte, and a proposition's or a place holder's number is below 64
-abbrev pub below64 : Leaf → Type 0
-below64 (Const v) = Unit {0}
-below64 (Prop i) = i < 64
-below64 (Hold k) = k < 64
-
 pub data CodeOf (b : ℕ) : Kind → Type 0 where
-  isZero : {a : Leaf} → b ≡ leafCode a → below64 a → CodeOf b (Zero a)
+  isZero : {a : Leaf} → b ≡ leafCode a → leafWithin 64 64 a → CodeOf b (Zero a)
   isOne : {o : Unary} → b ≡ unaryCode o → CodeOf b (One o)
   isTwo : {o : Binary} → b ≡ binaryCode o → CodeOf b (Two o)
   isNone : CodeOf b NoCode
@@ -106,7 +100,7 @@ code b = go (ltb b 64) refl (ltb b 128) refl (ltb b 192) refl
     go false p false q true r = let h = ltb-false b 128 q in let k = ltb-true b 192 r in isZero {a = Hold (b - 128)} (omega arith) (omega arith)
     go false p false q false r = isNone
 
-pub kind-leaf : (a : Leaf) → below64 a → kindOf (leafCode a) ≡ Zero a
+pub kind-leaf : (a : Leaf) → leafWithin 64 64 a → kindOf (leafCode a) ≡ Zero a
 kind-leaf (Const v) h = kind-const v
 kind-leaf (Prop i) h = kind-prop-code i h
 kind-leaf (Hold k) h = kind-hold-code k h

@@ -1,7 +1,7 @@
 -- The codes of the rule language, one byte a node. Others use `kindOf` and the three code functions.
 -- Assumes nothing: these are definitions.
-use Prim.Native.Nat.{ℕ, _+_, _-_}
-use mathlib.Core.Bool.{Bool, true, false}
+use Prim.Native.Nat.{ℕ, _+_, _-_, _<_}
+use mathlib.Core.Bool.{true, false}
 use mathlib.Core.List.{List, [], _∷_}
 use lib.ListN.{getD}
 use lib.Dec.{ltb}
@@ -56,3 +56,9 @@ joinCode Or = 4
 abbrev pub binaryCode : Binary → ℕ
 binaryCode (Joined j) = joinCode j
 binaryCode Until = 6
+
+-- a proposition's number is below p, a place holder's below s
+abbrev pub leafWithin : ℕ → ℕ → Leaf → Type 0
+leafWithin p s (Const v) = Unit {0}
+leafWithin p s (Prop i) = i < p
+leafWithin p s (Hold k) = k < s

@@ -1,5 +1,5 @@
 -- Laws of lists that say nothing of rules.
 pub mod Tests
-pub mod Fill
+pub mod Overlay
 pub mod Parts
 pub mod Stretches

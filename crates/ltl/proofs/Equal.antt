@@ -1,9 +1,7 @@
 -- The test `same` is equality. Assumes nothing.
 use mathlib.Core.Path.{_≡_, refl, sym, ap, ap₂, _∙_}
 use mathlib.Core.Bool.{Bool, true, false}
-use Prim.Native.Nat.{ℕ}
 use borrow.Author.Tests.{eqb-true, eq-eqb}
-use lib.Dec.{eqb}
 use Rattle.lists.specs.Tests.{both}
 use Rattle.lists.proofs.Tests.{no-true, both-0, both-1, both-true}
 use Rattle.kinds.specs.declared.Leaf.{Leaf}
@@ -12,9 +10,8 @@ use Rattle.kinds.specs.declared.Unary.{Unary}
 use Rattle.kinds.specs.declared.Join.{Join}
 use Rattle.kinds.specs.declared.Binary.{Binary}
 use Rattle.kinds.specs.declared.Binary.the-variants.{Joined}
-use Rattle.kinds.specs.declared.Kind.{Kind}
 use Rattle.kinds.specs.declared.Kind.the-variants.{One, Two}
-use Rattle.kinds.specs.Kinds.{kindOf, unaryCode, joinCode, binaryCode}
+use Rattle.kinds.specs.Kinds.{kindOf, unaryCode, binaryCode}
 use Rattle.kinds.proofs.Codes.{kind-unary, kind-binary}
 use Rattle.ltl.specs.Formula.{Formula, leaf, one, two, sameBool, sameLeaf, sameUnary, sameJoin, sameBinary, same}
 

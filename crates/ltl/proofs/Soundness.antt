@@ -3,7 +3,7 @@
 -- some events gives true, every endless continuation of them meets the rule, and where it gives false, none does.
 -- The rules for and, or and not are each an equivalence (`joined-keeps`, `negated-keeps`); the member rule because a member
 -- follows from an and and implies an or. Assumes nothing.
-use mathlib.Core.Path.{_≡_, refl, sym, ap, _∙_, subst}
+use mathlib.Core.Path.{_≡_, refl, sym, subst}
 use mathlib.Core.Bool.{Bool, true, false, not}
 use mathlib.Core.List.{List, [], _∷_}
 use mathlib.Core.Logic.{_⊎_, inl, inr, ⊎-elim, _↔_, Iff·rfl, Iff·trans, Iff·symm}
@@ -18,7 +18,7 @@ use Rattle.kinds.specs.declared.Join.the-variants.{And, Or}
 use Rattle.kinds.specs.declared.Binary.the-variants.{Joined, Until}
 use Rattle.ltl.specs.Formula.{Formula, leaf, one, two, constant, join, sameBool, sameJoin, same}
 use Rattle.ltl.specs.Meaning.{Event, Trace, Meets, Satisfies, continued}
-use Rattle.ltl.specs.Progression.{unfolded, isConstant, negated, deciding, member, joined, resolved, progressed, progressedOver}
+use Rattle.ltl.specs.Progression.{isConstant, negated, deciding, member, joined, progressed, progressedOver}
 use Rattle.lists.proofs.Tests.{no-true, either-elim, pick-elim}
 use Rattle.ltl.proofs.Equal.{same-eq, join-eq}
 

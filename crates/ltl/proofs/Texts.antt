@@ -2,25 +2,22 @@
 -- `rule-of`: the same of a rule's formula; `one-way`: no formula's bytes begin another's. `Within 64 64 f` says that every
 -- number of a proposition or place holder has a code. Assumes nothing.
 use mathlib.Core.Path.{_≡_, refl, sym, ap, ap₂, _∙_, subst}
-use mathlib.Core.Bool.{Bool, true, false}
+use mathlib.Core.Bool.{true}
 use mathlib.Core.List.{List, [], _∷_, _++_, append-assoc, append-nil}
 use mathlib.Core.Option.{Option, none, some}
 use Prim.Native.Nat.{ℕ, zero, suc, _+_, _<_, _≤_}
 use native.Mathlib.Omega.{arith}
 use lib.ListN.{length, length-append}
-use lib.Dec.{ltb}
 use borrow.Author.Tests.{ltb-true, lt-ltb}
-use Rattle.lists.specs.Tests.{both}
 use Rattle.kinds.specs.declared.Leaf.{Leaf}
 use Rattle.kinds.specs.declared.Leaf.the-variants.{Const, Prop, Hold}
 use Rattle.kinds.specs.declared.Unary.{Unary}
 use Rattle.kinds.specs.declared.Binary.{Binary}
 use Rattle.kinds.specs.declared.Kind.{Kind}
-use Rattle.kinds.specs.declared.Kind.the-variants.{Zero, One, Two, NoCode}
-use Rattle.kinds.specs.Kinds.{kindOf, leafCode, unaryCode, binaryCode}
-use Rattle.kinds.proofs.Codes.{below64, CodeOf, isZero, isOne, isTwo, isNone, code, kind-leaf, kind-unary, kind-binary}
-use Rattle.ltl.specs.Formula.{Formula, leaf, one, two, size, encode, leafWithin, Within, leafOver, over}
-use Rattle.ltl.specs.Text.{Front, Reader, withOne, withSecond, withTwo, node, front, before, alone, textOf, overAlone, ruleText}
+use Rattle.kinds.specs.Kinds.{leafWithin, unaryCode, binaryCode}
+use Rattle.kinds.proofs.Codes.{CodeOf, isZero, isOne, isTwo, isNone, code, kind-leaf, kind-unary, kind-binary}
+use Rattle.ltl.specs.Formula.{Formula, leaf, one, two, size, encode, Within, leafOver, over}
+use Rattle.ltl.specs.Text.{Parsed, Reader, withOne, withSecond, withTwo, node, parse, before, alone, textOf, overAlone, ruleText}
 use Rattle.lists.proofs.Tests.{no-true, both-0, both-1, both-true}
 
 -- ---- sizes
@@ -35,74 +32,64 @@ length-encode (one o f) = let e = length-encode f in omega arith
 length-encode (two o f g) = let d = length-encode f in let e = length-encode g in let a = length-append (encode f) (encode g) in omega arith
 
 -- ---- a formula's bytes are read as the formula, whatever stands behind them
-at-code : (a : Leaf) → leafWithin 64 64 a → kindOf (leafCode a) ≡ Zero a
-at-code (Const v) w = kind-leaf (Const v) tt
-at-code (Prop i) w = kind-leaf (Prop i) w
-at-code (Hold k) w = kind-leaf (Hold k) w
-
-pub front-encode : (f : Formula) (n : ℕ) (l : List ℕ) → Within 64 64 f → size f ≤ n → front n (encode f ++ l) ≡ some (record { formula = f; behind = l })
-front-encode f zero l w h = let s = size-some f in absurd (omega arith)
-front-encode (leaf a) (suc n) l w h = rw (at-code a w)
-front-encode (one o f) (suc n) l w h = rw (kind-unary o, front-encode f n l w (omega arith))
-front-encode (two o f g) (suc n) l w h =
-    rw (kind-binary o, append-assoc (encode f) (encode g) l, front-encode f n (encode g ++ l) (w .0) (omega arith), front-encode g n l (w .1) (omega arith))
+pub parse-encode : (f : Formula) (n : ℕ) (l : List ℕ) → Within 64 64 f → size f ≤ n → parse n (encode f ++ l) ≡ some (record { formula = f; behind = l })
+parse-encode f zero l w h = let s = size-some f in absurd (omega arith)
+parse-encode (leaf a) (suc n) l w h = rw (kind-leaf a w)
+parse-encode (one o f) (suc n) l w h = rw (kind-unary o, parse-encode f n l w (omega arith))
+parse-encode (two o f g) (suc n) l w h =
+    rw (kind-binary o, append-assoc (encode f) (encode g) l, parse-encode f n (encode g ++ l) (w .0) (omega arith), parse-encode g n l (w .1) (omega arith))
 
 -- ---- and only its bytes are
-abbrev Read : List ℕ → Option Front → Type 0
+abbrev Read : List ℕ → Option Parsed → Type 0
 Read l none = Unit {0}
 Read l (some x) = Within 64 64 (x .formula) × (l ≡ encode (x .formula) ++ x .behind)
 
-leaf-within : (a : Leaf) → below64 a → leafWithin 64 64 a
-leaf-within (Const v) h = tt
-leaf-within (Prop i) h = h
-leaf-within (Hold k) h = h
-
-read-one : (o : Unary) (l : List ℕ) (x : Option Front) → Read l x → Read (unaryCode o ∷ l) (withOne o x)
+read-one : (o : Unary) (l : List ℕ) (x : Option Parsed) → Read l x → Read (unaryCode o ∷ l) (withOne o x)
 read-one o l none h = tt
 read-one o l (some x) h = (h .0, ap (unaryCode o ∷_) (h .1))
 
-read-second : (o : Binary) (f : Formula) (l m : List ℕ) (y : Option Front) → Within 64 64 f → l ≡ encode f ++ m → Read m y → Read (binaryCode o ∷ l) (withSecond o f y)
+read-second : (o : Binary) (f : Formula) (l m : List ℕ) (y : Option Parsed) → Within 64 64 f → l ≡ encode f ++ m → Read m y → Read (binaryCode o ∷ l) (withSecond o f y)
 read-second o f l m none w e h = tt
 read-second o f l m (some y) w e h =
     ((w, h .0), ap (binaryCode o ∷_) (e ∙ ap (encode f ++_) (h .1) ∙ sym (append-assoc (encode f) (encode (y .formula)) (y .behind))))
 
-read-two : (o : Binary) (p : Reader) → ((l : List ℕ) → Read l (p l)) → (l : List ℕ) (x : Option Front) → Read l x → Read (binaryCode o ∷ l) (withTwo o p x)
+read-two : (o : Binary) (p : Reader) → ((l : List ℕ) → Read l (p l)) → (l : List ℕ) (x : Option Parsed) → Read l x → Read (binaryCode o ∷ l) (withTwo o p x)
 read-two o p ih l none h = tt
 read-two o p ih l (some x) h = read-second o (x .formula) l (x .behind) (p (x .behind)) (h .0) (h .1) (ih (x .behind))
 
 read-node : {b : ℕ} {k : Kind} (p : Reader) → ((l : List ℕ) → Read l (p l)) → (l : List ℕ) → CodeOf b k → Read (b ∷ l) (node k p l)
-read-node p ih l (isZero {a = a} e h) = (leaf-within a h, ap (_∷ l) e)
+read-node p ih l (isZero {a = a} e h) = (h, ap (_∷ l) e)
 read-node p ih l (isOne {o = o} e) = rw e (read-one o l (p l) (ih l))
 read-node p ih l (isTwo {o = o} e) = rw e (read-two o p ih l (p l) (ih l))
 read-node p ih l isNone = tt
 
-front-read : (n : ℕ) (l : List ℕ) → Read l (front n l)
-front-read zero l = tt
-front-read (suc n) [] = tt
-front-read (suc n) (b ∷ l) = read-node (front n) (λ m. front-read n m) l (code b)
+parse-read : (n : ℕ) (l : List ℕ) → Read l (parse n l)
+parse-read zero l = tt
+parse-read (suc n) [] = tt
+parse-read (suc n) (b ∷ l) = read-node (parse n) (λ m. parse-read n m) l (code b)
 
-pub front-is : (n : ℕ) (l : List ℕ) (x : Front) → front n l ≡ some x → Within 64 64 (x .formula) × (l ≡ encode (x .formula) ++ x .behind)
-front-is n l x e = subst (λ (y : Option Front). Read l y) e (front-read n l)
+pub parse-is : (n : ℕ) (l : List ℕ) (x : Parsed) → parse n l ≡ some x → Within 64 64 (x .formula) × (l ≡ encode (x .formula) ++ x .behind)
+parse-is n l x e = subst (λ (y : Option Parsed). Read l y) e (parse-read n l)
 
 -- no formula's bytes begin another's
 pub one-way : (f g : Formula) (k l : List ℕ) → Within 64 64 f → Within 64 64 g → encode f ++ k ≡ encode g ++ l → (f ≡ g) × (k ≡ l)
 one-way f g k l v w e =
     let n = size f + size g in
-    let a = front-encode f n k v (omega arith) in
-    let b = front-encode g n l w (omega arith) in
-    let c : _≡_ {A = Option Front} (some (record { formula = f; behind = k })) (some (record { formula = g; behind = l })) = sym a ∙ ap (front n) e ∙ b in
+    let a = parse-encode f n k v (omega arith) in
+    let b = parse-encode g n l w (omega arith) in
+    let c : _≡_ {A = Option Parsed} (some (record { formula = f; behind = k })) (some (record { formula = g; behind = l })) = sym a ∙ ap (parse n) e ∙ b in
     (formulas c, rests c)
   where
-    formulas : _≡_ {A = Option Front} (some (record { formula = f; behind = k })) (some (record { formula = g; behind = l })) → f ≡ g
-    formulas c = let d : _≡_ {A = Front} (record { formula = f; behind = k }) (record { formula = g; behind = l }) = cc in ap (λ (x : Front). x .formula) d
+    formulas : _≡_ {A = Option Parsed} (some (record { formula = f; behind = k })) (some (record { formula = g; behind = l })) → f ≡ g
+    formulas c = let d : _≡_ {A = Parsed} (record { formula = f; behind = k }) (record { formula = g; behind = l }) = cc in ap (λ (x : Parsed). x .formula) d
 
-    rests : _≡_ {A = Option Front} (some (record { formula = f; behind = k })) (some (record { formula = g; behind = l })) → k ≡ l
-    rests c = let d : _≡_ {A = Front} (record { formula = f; behind = k }) (record { formula = g; behind = l }) = cc in ap (λ (x : Front). x .behind) d
+    rests : _≡_ {A = Option Parsed} (some (record { formula = f; behind = k })) (some (record { formula = g; behind = l })) → k ≡ l
+    rests c = let d : _≡_ {A = Parsed} (record { formula = f; behind = k }) (record { formula = g; behind = l }) = cc in ap (λ (x : Parsed). x .behind) d
 
 -- ---- one whole formula
 pub text-of : (f : Formula) → Within 64 64 f → textOf (encode f) ≡ some f
 text-of f w =
-    let e = ap₂ front (length-encode f) (sym (append-nil (encode f))) ∙ front-encode f (size f) [] w (omega arith) in
+    let e = ap₂ parse (length-encode f) (sym (append-nil (encode f))) ∙ parse-encode f (size f) [] w (omega arith) in
     ap alone e
 
 empty-behind : (l : List ℕ) (f g : Formula) → before l f ≡ some g → (l ≡ []) × (f ≡ g)
@@ -113,12 +100,12 @@ empty-behind (b ∷ l) f g e = absurd (no-some e)
     no-some e = let z : _≡_ {A = ℕ} 0 1 = cc in omega arith
 
 pub text-is : (l : List ℕ) (f : Formula) → textOf l ≡ some f → Within 64 64 f × (l ≡ encode f)
-text-is l f e = go (front (length l) l) refl e
+text-is l f e = go (parse (length l) l) refl e
   where
-    go : (x : Option Front) → front (length l) l ≡ x → alone x ≡ some f → Within 64 64 f × (l ≡ encode f)
+    go : (x : Option Parsed) → parse (length l) l ≡ x → alone x ≡ some f → Within 64 64 f × (l ≡ encode f)
     go none p q = absurd (let z : _≡_ {A = ℕ} 0 1 = cc in omega arith)
     go (some x) p q =
-        let r = front-is (length l) l x p in
+        let r = parse-is (length l) l x p in
         let t = empty-behind (x .behind) (x .formula) f q in
         (subst (λ (g : Formula). Within 64 64 g) (t .1) (r .0), r .1 ∙ ap₂ (λ (g : Formula) (m : List ℕ). encode g ++ m) (t .1) (t .0) ∙ append-nil (encode f))
 

@@ -1,6 +1,6 @@
 -- A formula as a tree, by the number of each node's operands, and its bytes in prefix order.
 -- Assumes nothing: these are definitions.
-use Prim.Native.Nat.{ℕ, _+_, _<_}
+use Prim.Native.Nat.{ℕ, _+_}
 use mathlib.Core.Bool.{Bool, true, false}
 use mathlib.Core.List.{List, [], _∷_, _++_}
 use lib.Dec.{eqb, ltb}
@@ -11,7 +11,7 @@ use Rattle.kinds.specs.declared.Unary.{Unary}
 use Rattle.kinds.specs.declared.Join.{Join}
 use Rattle.kinds.specs.declared.Binary.{Binary}
 use Rattle.kinds.specs.declared.Binary.the-variants.{Joined}
-use Rattle.kinds.specs.Kinds.{leafCode, unaryCode, joinCode, binaryCode}
+use Rattle.kinds.specs.Kinds.{leafCode, unaryCode, joinCode, binaryCode, leafWithin}
 
 pub data Formula : Type 0 where
   leaf : Leaf → Formula
@@ -77,11 +77,6 @@ same (two o f f′) (two p g g′) = both (sameBinary o p) (both (same f g) (sam
 
 -- ---- which nodes a formula has
 -- the numbers of its propositions are below p and those of its place holders below s
-abbrev pub leafWithin : ℕ → ℕ → Leaf → Type 0
-leafWithin p s (Const v) = Unit {0}
-leafWithin p s (Prop i) = i < p
-leafWithin p s (Hold k) = k < s
-
 abbrev pub Within : ℕ → ℕ → Formula → Type 0
 Within p s (leaf a) = leafWithin p s a
 Within p s (one o f) = Within p s f

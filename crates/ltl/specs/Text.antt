@@ -1,11 +1,10 @@
 -- Bytes read as a formula. Others use `textOf`, `ruleText` and their laws in proofs/Texts.antt.
 -- Assumes nothing: these are definitions.
 use Prim.Native.Nat.{ℕ, zero, suc}
-use mathlib.Core.Bool.{Bool, true, false}
+use mathlib.Core.Bool.{Bool, false}
 use mathlib.Core.List.{List, [], _∷_}
 use mathlib.Core.Option.{Option, none, some}
 use lib.ListN.{length}
-use Rattle.lists.specs.Tests.{pick}
 use Rattle.kinds.specs.declared.Kind.{Kind}
 use Rattle.kinds.specs.declared.Kind.the-variants.{Zero, One, Two, NoCode}
 use Rattle.kinds.specs.declared.Unary.{Unary}
@@ -14,23 +13,23 @@ use Rattle.kinds.specs.Kinds.{kindOf}
 use Rattle.ltl.specs.Formula.{Formula, leaf, one, two, over}
 
 -- a formula at the front of some bytes, and the bytes behind it; or none
-pub record Front : Type 0 where
+pub record Parsed : Type 0 where
   pub formula : Formula
   pub behind : List ℕ
 
 abbrev pub Reader : Type 0
-Reader = List ℕ → Option Front
+Reader = List ℕ → Option Parsed
 
 -- one operand more
-abbrev pub withOne : Unary → Option Front → Option Front
+abbrev pub withOne : Unary → Option Parsed → Option Parsed
 withOne o none = none
 withOne o (some x) = some (record { formula = one o (x .formula); behind = x .behind })
 
-abbrev pub withSecond : Binary → Formula → Option Front → Option Front
+abbrev pub withSecond : Binary → Formula → Option Parsed → Option Parsed
 withSecond o f none = none
 withSecond o f (some y) = some (record { formula = two o f (y .formula); behind = y .behind })
 
-abbrev pub withTwo : Binary → Reader → Option Front → Option Front
+abbrev pub withTwo : Binary → Reader → Option Parsed → Option Parsed
 withTwo o operand none = none
 withTwo o operand (some x) = withSecond o (x .formula) (operand (x .behind))
 
@@ -42,23 +41,23 @@ node (Two o) operand l = withTwo o operand (operand l)
 node NoCode operand l = none
 
 -- the formula at the front, of at most n levels
-abbrev pub front : ℕ → Reader
-front zero l = none
-front (suc n) [] = none
-front (suc n) (b ∷ l) = node (kindOf b) (front n) l
+abbrev pub parse : ℕ → Reader
+parse zero l = none
+parse (suc n) [] = none
+parse (suc n) (b ∷ l) = node (kindOf b) (parse n) l
 
 -- the formula where nothing stands behind it
 abbrev pub before : List ℕ → Formula → Option Formula
 before [] f = some f
 before (b ∷ l) f = none
 
-abbrev pub alone : Option Front → Option Formula
+abbrev pub alone : Option Parsed → Option Formula
 alone none = none
 alone (some x) = before (x .behind) (x .formula)
 
 -- the bytes as one whole formula: no formula has more levels than bytes
 abbrev pub textOf : List ℕ → Option Formula
-textOf l = alone (front (length l) l)
+textOf l = alone (parse (length l) l)
 
 -- one whole formula of the language with propositions below p alone and no place holder
 abbrev pub overAlone : ℕ → Option Formula → Bool

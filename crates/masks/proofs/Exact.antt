@@ -1,7 +1,7 @@
 -- The masks' rule, read bit by bit. `exact`: where masks follow the rule, each bit below p is in exactly one of them, and no other bit
 -- is in any. `owners` counts the masks that have a bit. Assumes nothing.
 use mathlib.Core.Path.{_≡_, refl, sym, ap, _∙_}
-use mathlib.Core.Bool.{Bool, true, false}
+use mathlib.Core.Bool.{true}
 use mathlib.Core.List.{List, [], _∷_}
 use Prim.Native.Nat.{ℕ, zero, suc, _+_, _-_, _/_, _%_, _^_, _<_, _≤_, max, min}
 use native.Mathlib.Nat.{div-eq-of-lt, zero-div, lt-of-lt-of-le, pow-succ'}
@@ -12,7 +12,7 @@ use lib.Pow.{pow-pos, pow-mono, ones-split, ones-lt, high}
 use lib.Bits.{bitOr}
 use borrow.Author.Tests.{lt-ltb, le-ltb, eqb-true}
 use Rattle.lists.proofs.Tests.{both-0, both-1}
-use Rattle.lists.specs.Tests.{pick, both}
+use Rattle.lists.specs.Tests.{pick}
 use Rattle.masks.specs.Masks.{bitAt, sumTo, onesOf, sumOnes, unionWith, masksRule}
 use Rattle.masks.proofs.Bits.{bit-less, or-bit}
 

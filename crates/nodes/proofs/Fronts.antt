@@ -1,24 +1,23 @@
 -- A formula in front of some bytes, by its first byte: `parts` gives the operands and where they stand. Every walk over formula
 -- bytes takes its formula apart by it. Assumes nothing.
-use mathlib.Core.Path.{_≡_, refl, sym, ap, ap₂, _∙_, subst}
-use mathlib.Core.List.{List, [], _∷_, _++_, append-assoc, append-nil}
-use Prim.Native.Nat.{ℕ, zero, suc, _+_, _-_, _<_, _≤_}
+use mathlib.Core.Path.{_≡_, refl, sym, ap, _∙_, subst}
+use mathlib.Core.List.{List, _∷_, _++_, append-assoc}
+use Prim.Native.Nat.{ℕ, _+_, _<_}
 use native.Mathlib.Omega.{arith}
-use lib.ListN.{length, getD, take, drop, length-append, length-drop}
-use lib.Seq.{take-all, take-at, drop-at}
+use lib.ListN.{length, getD, take, drop, length-append}
+use lib.Seq.{take-at, drop-at}
 use Rattle.lists.specs.Runs.{tail}
 use Rattle.lists.proofs.Parts.{tail-is}
 use Rattle.kinds.specs.declared.Leaf.{Leaf}
-use Rattle.kinds.specs.declared.Leaf.the-variants.{Const, Prop, Hold}
 use Rattle.kinds.specs.declared.Unary.{Unary}
 use Rattle.kinds.specs.declared.Binary.{Binary}
 use Rattle.kinds.specs.declared.Kind.{Kind}
 use Rattle.kinds.specs.declared.Kind.the-variants.{Zero, One, Two, NoCode}
-use Rattle.kinds.specs.Kinds.{kindOf, leafCode, unaryCode, binaryCode}
+use Rattle.kinds.specs.Kinds.{leafWithin, kindOf, leafCode, unaryCode, binaryCode}
 use Rattle.kinds.proofs.Codes.{kind-leaf, kind-unary, kind-binary}
-use Rattle.ltl.specs.Formula.{Formula, leaf, one, two, size, encode, leafWithin, Within}
+use Rattle.ltl.specs.Formula.{Formula, leaf, one, two, size, encode}
 use Rattle.ltl.proofs.Texts.{size-some, length-encode, one-way}
-use Rattle.nodes.specs.Begins.{Front, Begins, Ends}
+use Rattle.nodes.specs.Begins.{Front, Begins}
 
 -- ---- how long
 pub front-length : (s : List ℕ) (f : Formula) (rest : List ℕ) → Front s f rest → length s ≡ size f + length rest
@@ -45,18 +44,13 @@ pub data Parts (s rest : List ℕ) : Formula → Kind → Type 0 where
   isOne : {o : Unary} {f : Formula} → s ≡ unaryCode o ∷ drop 1 s → Front (drop 1 s) f rest → Parts s rest (one o f) (One o)
   isTwo : {o : Binary} {f g : Formula} → s ≡ binaryCode o ∷ drop 1 s → Front (drop 1 s) f (encode g ++ rest) → Front (drop (1 + size f) s) g rest → Parts s rest (two o f g) (Two o)
 
-leaf-kind : (a : Leaf) → leafWithin 64 64 a → kindOf (leafCode a) ≡ Zero a
-leaf-kind (Const v) w = kind-leaf (Const v) tt
-leaf-kind (Prop i) w = kind-leaf (Prop i) w
-leaf-kind (Hold k) w = kind-leaf (Hold k) w
-
 -- what stands from the byte behind the first on
 second : (b : ℕ) (s l : List ℕ) → s ≡ b ∷ l → drop 1 s ≡ l
 second b s l e = ap (drop 1) e
 
 pub parts : (s : List ℕ) (f : Formula) (rest : List ℕ) → Front s f rest → Parts s rest f (kindOf (getD s 0 0))
 parts s (leaf a) rest x =
-    let e : kindOf (getD s 0 0) ≡ Zero a = ap (λ (l : List ℕ). kindOf (getD l 0 0)) (x .bytes) ∙ leaf-kind a (x .coded) in
+    let e : kindOf (getD s 0 0) ≡ Zero a = ap (λ (l : List ℕ). kindOf (getD l 0 0)) (x .bytes) ∙ kind-leaf a (x .coded) in
     rw e (isZero (x .coded) (x .bytes))
 parts s (one o f) rest x =
     let e : kindOf (getD s 0 0) ≡ One o = ap (λ (l : List ℕ). kindOf (getD l 0 0)) (x .bytes) ∙ kind-unary o in

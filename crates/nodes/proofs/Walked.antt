@@ -1,15 +1,15 @@
 -- The walk to a formula's end: at each place stands an operand that ends where the formula does. Assumes nothing.
 use mathlib.Core.Path.{_≡_, refl, sym, ap, _∙_, subst}
-use mathlib.Core.List.{List, [], _∷_, _++_}
-use Prim.Native.Nat.{ℕ, zero, suc, _+_, _-_, _<_, _≤_}
+use mathlib.Core.List.{List, _++_}
+use Prim.Native.Nat.{ℕ, _+_, _<_}
 use native.Mathlib.Omega.{arith}
-use lib.ListN.{length, getD, take, drop, length-append, length-drop}
+use lib.ListN.{length, getD, drop, length-drop}
 use lib.Seq.{getD-drop, drop-drop}
 use Rattle.lists.specs.Runs.{tail}
 use Rattle.kinds.specs.declared.Kind.{Kind}
 use Rattle.kinds.specs.Kinds.{kindOf, operandsOf}
 use Rattle.ltl.specs.Formula.{Formula, size, encode}
-use Rattle.ltl.proofs.Texts.{size-some, length-encode}
+use Rattle.ltl.proofs.Texts.{size-some}
 use Rattle.nodes.specs.Begins.{Front, Begins, Ends}
 use Rattle.nodes.proofs.Fronts.{front-length, front-tail, begins-tail, front-one-way, Parts, isZero, isOne, isTwo, parts}
 
@@ -103,5 +103,5 @@ module _ (s : List ℕ) (at : ℕ) (w : Walked s at) where
           rest = w .rest;
           whole = w .whole;
           here = subst (λ (j : ℕ). Front (drop j s) (x .right) (w .rest)) i (on (1 + size (x .left)) (x .right) (w .rest) (x .second));
-          sizes = let z = w .sizes in let y = x .more in omega arith
+          sizes = let z = w .sizes in let y = x .more in omega arith;
         }

@@ -1,8 +1,6 @@
 -- Resolving keeps every number of a proposition or place holder below 64, so that its result has a code. Assumes nothing.
-use mathlib.Core.Path.{_≡_, refl, sym, ap, _∙_, subst}
-use mathlib.Core.Bool.{Bool, true, false}
-use Prim.Native.Nat.{ℕ, _<_}
-use Rattle.lists.specs.Tests.{bit}
+use mathlib.Core.Path.{_≡_, refl, sym, subst}
+use Rattle.kinds.specs.Kinds.{leafWithin}
 use Rattle.kinds.specs.declared.Leaf.{Leaf}
 use Rattle.kinds.specs.declared.Leaf.the-variants.{Const, Prop, Hold}
 use Rattle.kinds.specs.declared.Unary.the-variants.{Not, Next, Eventually, Always}
@@ -10,7 +8,7 @@ use Rattle.kinds.specs.declared.Join.{Join}
 use Rattle.kinds.specs.declared.Binary.the-variants.{Joined, Until}
 use Rattle.answers.specs.declared.Verdict.{Verdict}
 use Rattle.answers.specs.declared.Verdict.the-variants.{False, True, Pending}
-use Rattle.ltl.specs.Formula.{Formula, leaf, one, two, leafWithin, Within}
+use Rattle.ltl.specs.Formula.{Formula, leaf, one, two, Within}
 use Rattle.ltl.specs.Progression.{negated, joined, resolved, filledBy}
 use Rattle.ltl.proofs.Soundness.{joined-elim, negated-elim}
 use Rattle.resolving.specs.declared.Seen.{Seen}

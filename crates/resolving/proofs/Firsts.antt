@@ -1,9 +1,9 @@
 -- A formula by its first byte: 0 and 1 are the constants, and nothing else begins so. `joined` and `negated` by the first bytes
 -- of their operands, as the code tells them apart. Assumes nothing.
-use mathlib.Core.Path.{_≡_, refl, sym, ap, _∙_, subst}
+use mathlib.Core.Path.{_≡_, refl, sym}
 use mathlib.Core.Bool.{Bool, true, false, not}
-use mathlib.Core.List.{List, [], _∷_, _++_}
-use Prim.Native.Nat.{ℕ, zero, suc, _+_, _-_, _<_, _≤_}
+use mathlib.Core.List.{List, _++_}
+use Prim.Native.Nat.{ℕ, zero, suc, _-_, _<_, _≤_}
 use native.Mathlib.Omega.{arith}
 use lib.ListN.{getD}
 use Rattle.lists.specs.Tests.{pick, either}
@@ -15,7 +15,7 @@ use Rattle.kinds.specs.declared.Join.{Join}
 use Rattle.kinds.specs.declared.Join.the-variants.{And, Or}
 use Rattle.kinds.specs.declared.Binary.{Binary}
 use Rattle.kinds.specs.declared.Binary.the-variants.{Joined, Until}
-use Rattle.kinds.specs.Kinds.{leafCode, unaryCode, joinCode, binaryCode}
+use Rattle.kinds.specs.Kinds.{leafCode, unaryCode, binaryCode}
 use Rattle.ltl.specs.Formula.{Formula, leaf, one, two, constant, join, sameBool, encode}
 use Rattle.ltl.specs.Progression.{isConstant, negated, deciding, member, joined}
 use Rattle.ltl.proofs.Soundness.{constant-is}

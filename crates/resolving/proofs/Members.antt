@@ -2,13 +2,12 @@
 -- members are those that are left to be compared. Comparing what bytes begin with compares formulas (`starts-same`). Assumes nothing.
 use mathlib.Core.Path.{_≡_, refl, sym, ap, ap₂, _∙_, subst}
 use mathlib.Core.Bool.{Bool, true, false}
-use mathlib.Core.List.{List, [], _∷_, _++_, append-assoc, append-nil}
-use Prim.Native.Nat.{ℕ, zero, suc, _+_, _-_, _<_, _≤_}
+use mathlib.Core.List.{List, [], _++_, append-nil}
+use Prim.Native.Nat.{ℕ, _+_, _<_}
 use native.Mathlib.Omega.{arith}
-use lib.ListN.{length, getD, take, drop, length-append, length-drop}
-use lib.Seq.{getD-drop, drop-drop, drop-at}
-use lib.Dec.{eqb}
-use borrow.Author.Tests.{eq-eqb, eqb-true}
+use lib.ListN.{length, getD, drop, length-drop}
+use lib.Seq.{getD-drop, drop-drop}
+use borrow.Author.Tests.{eq-eqb}
 use Rattle.lists.specs.Runs.{tail}
 use Rattle.lists.specs.Tests.{pick, either}
 use Rattle.lists.proofs.Tests.{test-eq}
@@ -16,16 +15,16 @@ use Rattle.lists.proofs.Parts.{tail-is}
 use Rattle.kinds.specs.declared.Join.{Join}
 use Rattle.kinds.specs.declared.Binary.the-variants.{Joined, Until}
 use Rattle.kinds.specs.declared.Kind.the-variants.{Two}
-use Rattle.kinds.specs.Kinds.{kindOf, joinCode, binaryCode}
+use Rattle.kinds.specs.Kinds.{kindOf, joinCode}
 use Rattle.kinds.proofs.Codes.{kind-binary}
 use Rattle.ltl.specs.Formula.{Formula, leaf, one, two, join, sameJoin, same, size, encode, Within}
 use Rattle.ltl.specs.Progression.{member}
 use Rattle.ltl.proofs.Equal.{same-eq, same-refl, join-eq}
-use Rattle.ltl.proofs.Texts.{one-way, size-some, length-encode}
+use Rattle.ltl.proofs.Texts.{one-way, size-some}
 use Rattle.runs.specs.Starts.{starts}
 use Rattle.runs.proofs.Turns.{starts-is, starts-of}
-use Rattle.nodes.specs.Begins.{Front, Begins, Ends}
-use Rattle.nodes.proofs.Fronts.{parts, parts-as, Double, double, front-length, front-tail, front-one-way}
+use Rattle.nodes.specs.Begins.{Front, Ends}
+use Rattle.nodes.proofs.Fronts.{parts-as, Double, double, front-length, front-tail, front-one-way}
 use Rattle.resolving.specs.Settles.{Compared, Comparable, IsMember}
 use Rattle.resolving.proofs.Firsts.{first, first-is}
 

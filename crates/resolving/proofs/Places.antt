@@ -1,22 +1,16 @@
 -- Where results stand, over plain lists. `stands-front`: what was written at the front; `stands-top`: an operator put before a
 -- result; `stands-behind`: a result in a part that begins behind some bytes. Assumes nothing.
-use mathlib.Core.Path.{_≡_, refl, sym, ap, ap₂, _∙_, subst}
-use mathlib.Core.List.{List, [], _∷_, _++_, append-assoc, append-nil}
+use mathlib.Core.Path.{_≡_, refl, sym, ap, ap₂, _∙_}
+use mathlib.Core.List.{List, [], _∷_, _++_, append-assoc}
 use Prim.Native.Nat.{ℕ, zero, suc, _+_, _-_, _<_, _≤_}
 use native.Mathlib.Omega.{arith}
-use lib.ListN.{length, getD, set, take, drop, length-append, length-drop, length-take}
-use lib.Seq.{take-at, drop-at, drop-drop, take-add, length-take-le, getD-append-add}
-use Rattle.ltl.specs.Formula.{Formula, leaf, one, two, size, encode}
+use lib.ListN.{take-append-drop, length, getD, set, take, drop, length-append, length-drop}
+use lib.Seq.{drop-at, drop-drop, length-take-le, getD-append-add}
+use Rattle.ltl.specs.Formula.{Formula, size, encode}
 use Rattle.ltl.proofs.Texts.{size-some, length-encode}
 use Rattle.resolving.specs.declared.Settled.{Settled}
 use Rattle.resolving.specs.Settles.{Stands}
 use Rattle.resolving.proofs.Firsts.{first, first-is}
-
--- ---- lists cut in two
-pub cut-at : (n : ℕ) (p : List ℕ) → p ≡ take n p ++ drop n p
-cut-at zero p = refl
-cut-at (suc n) [] = refl
-cut-at (suc n) (x ∷ p) = ap (x ∷_) (cut-at n p)
 
 -- the last of some bytes set
 pub set-last : (xs l : List ℕ) (n v : ℕ) → length xs ≡ suc n → set (xs ++ l) n v ≡ take n xs ++ (v ∷ l)
@@ -34,7 +28,7 @@ pub stands-front : (g : Formula) (p p′ rest : List ℕ) (next : ℕ) → p′ 
 stands-front g p p′ rest next e h k q =
     let m = next - size g in
     let t : size g + m ≡ next = omega arith in
-    let d : drop (size g) p ≡ take m (drop (size g) p) ++ rest = cut-at m (drop (size g) p) ∙ ap (take m (drop (size g) p) ++_) (drop-drop m (size g) p ∙ ap (λ (i : ℕ). drop i p) t ∙ k) in
+    let d : drop (size g) p ≡ take m (drop (size g) p) ++ rest = sym (take-append-drop m (drop (size g) p)) ∙ ap (take m (drop (size g) p) ++_) (drop-drop m (size g) p ∙ ap (λ (i : ℕ). drop i p) t ∙ k) in
     record {
       low = [];
       high = take m (drop (size g) p);

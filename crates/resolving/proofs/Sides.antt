@@ -1,23 +1,22 @@
 -- Two resolved operands joined, over plain lists: one law for each way out of `join`. Assumes nothing.
 use mathlib.Core.Path.{_≡_, refl, sym, ap, ap₂, _∙_, subst}
-use mathlib.Core.Bool.{Bool, true, false, not}
+use mathlib.Core.Bool.{Bool, true, false}
 use mathlib.Core.List.{List, [], _∷_, _++_, append-assoc, append-nil}
-use Prim.Native.Nat.{ℕ, zero, suc, _+_, _-_, _<_, _≤_}
+use Prim.Native.Nat.{ℕ, _+_, _-_, _<_, _≤_}
 use native.Mathlib.Omega.{arith}
-use lib.ListN.{length, getD, set, take, drop, length-append, length-drop}
+use lib.ListN.{take-append-drop, length, getD, set, take, drop, length-append, length-drop}
 use lib.Seq.{drop-drop, drop-at, take-at, length-take-le, getD-drop}
 use Rattle.lists.proofs.Stretches.{set-first}
 use Rattle.kinds.specs.declared.Leaf.the-variants.{Const}
 use Rattle.kinds.specs.declared.Join.{Join}
-use Rattle.kinds.specs.Kinds.{leafCode, joinCode}
-use Rattle.ltl.specs.Formula.{Formula, leaf, one, two, constant, join, size, encode, Within}
+use Rattle.kinds.specs.Kinds.{leafCode}
+use Rattle.ltl.specs.Formula.{Formula, one, constant, join, size, encode}
 use Rattle.ltl.specs.Progression.{isConstant, deciding, member, joined}
 use Rattle.ltl.proofs.Texts.{size-some, length-encode}
-use Rattle.nodes.specs.Begins.{Front}
 use Rattle.resolving.specs.declared.Settled.{Settled}
 use Rattle.resolving.specs.Settles.{Stands, Settles, Sides, Compared, Comparable}
 use Rattle.resolving.proofs.Firsts.{first, first-constant, first-other, first-pending, joined-right, joined-keep, joined-member, joined-both}
-use Rattle.resolving.proofs.Places.{cut-at, set-last, stands-front, stands-length, stands-bounds, stands-first, stands-rest, stands-behind}
+use Rattle.resolving.proofs.Places.{set-last, stands-front, stands-length, stands-bounds, stands-first, stands-rest, stands-behind}
 
 -- a result under another name of the formula
 pub settles-as : {f g : Formula} {read : ℕ} {p rest : List ℕ} {at : Settled} → g ≡ f → Stands f p rest at → at .next ≡ read → Settles g read p rest at
@@ -94,7 +93,7 @@ module _ (p : List ℕ) (op decide start end : ℕ) (right : Settled) (j : Join)
       (record {
         low = x .low;
         high = take (right .next) (drop end p);
-        bytes = x .bytes ∙ ap (λ (k : List ℕ). x .low ++ (encode l ++ k)) (cut-at (right .next) (drop end p) ∙ ap (take (right .next) (drop end p) ++_) (stands-rest r (drop end p) rest right (x .stands)));
+        bytes = x .bytes ∙ ap (λ (k : List ℕ). x .low ++ (encode l ++ k)) (sym (take-append-drop (right .next) (drop end p)) ∙ ap (take (right .next) (drop end p) ++_) (stands-rest r (drop end p) rest right (x .stands)));
         start-is = x .start-is;
         end-is = x .end-is;
         next-is = let t = length-take-le (right .next) (drop end p) (omega arith) in omega arith;

@@ -1,11 +1,10 @@
 -- The steps of the resolving walk over plain lists, one law for each way out of the code. Assumes nothing.
-use mathlib.Core.Path.{_≡_, refl, sym, ap, ap₂, _∙_, subst}
-use mathlib.Core.Bool.{Bool, true, false, not}
-use mathlib.Core.List.{List, [], _∷_, _++_, append-assoc, append-nil}
-use Prim.Native.Nat.{ℕ, zero, suc, _+_, _-_, _<_, _≤_}
+use mathlib.Core.Path.{_≡_, refl, sym, ap, _∙_, subst}
+use mathlib.Core.List.{List, _++_, append-assoc, _∷_}
+use Prim.Native.Nat.{ℕ, _+_, _-_, _<_, _≤_}
 use native.Mathlib.Omega.{arith}
-use lib.ListN.{length, getD, set, take, drop, length-append, length-drop}
-use lib.Seq.{drop-drop, drop-at, take-at, getD-drop, length-take-le}
+use lib.ListN.{take-append-drop, length, getD, set, take, drop, length-append, length-drop}
+use lib.Seq.{drop-drop, drop-at, getD-drop, length-take-le}
 use Rattle.lists.specs.Runs.{tail}
 use Rattle.lists.proofs.Parts.{tail-is, handed-tail}
 use Rattle.lists.proofs.Stretches.{set-first}
@@ -14,22 +13,21 @@ use Rattle.kinds.specs.declared.Leaf.the-variants.{Const}
 use Rattle.kinds.specs.declared.Unary.{Unary}
 use Rattle.kinds.specs.declared.Unary.the-variants.{Not}
 use Rattle.kinds.specs.declared.Join.{Join}
-use Rattle.kinds.specs.declared.Binary.{Binary}
 use Rattle.kinds.specs.declared.Binary.the-variants.{Joined}
 use Rattle.kinds.specs.declared.Kind.{Kind}
-use Rattle.kinds.specs.declared.Kind.the-variants.{Zero, One, Two}
-use Rattle.kinds.specs.Kinds.{kindOf, leafCode, joinCode}
-use Rattle.ltl.specs.Formula.{Formula, leaf, one, two, size, encode, leafWithin, Within}
+use Rattle.kinds.specs.declared.Kind.the-variants.{Zero}
+use Rattle.kinds.specs.Kinds.{leafWithin, kindOf, leafCode, joinCode}
+use Rattle.ltl.specs.Formula.{Formula, leaf, one, size, encode}
 use Rattle.ltl.specs.Progression.{negated, deciding, joined}
 use Rattle.ltl.proofs.Texts.{size-some, length-encode}
-use Rattle.nodes.specs.Begins.{Front, Begins, Ends}
-use Rattle.nodes.proofs.Fronts.{Parts, isZero, parts-as, Single, single, Double, double, front-length, front-tail, front-own, front-rest}
+use Rattle.nodes.specs.Begins.{Front, Ends}
+use Rattle.nodes.proofs.Fronts.{Parts, isZero, parts-as, Single, Double, front-length, front-tail, front-own, front-rest}
 use Rattle.resolving.specs.declared.Seen.{Seen}
 use Rattle.resolving.specs.declared.Settled.{Settled}
 use Rattle.resolving.specs.Settles.{settled, settledLeaf, Stands, Settles, Makes, Pair, Sides}
 use Rattle.resolving.proofs.Coded.{settled-leaf, settled-coded}
 use Rattle.resolving.proofs.Firsts.{first, first-constant, first-other, first-pending, first-negated, joined-left, joined-skip, negated-pending}
-use Rattle.resolving.proofs.Places.{cut-at, stands-front, stands-length, stands-bounds, stands-first, stands-rest, stands-behind, stands-top}
+use Rattle.resolving.proofs.Places.{stands-front, stands-length, stands-bounds, stands-first, stands-rest, stands-behind, stands-top}
 use Rattle.resolving.proofs.Sides.{settles-as, stands-constant}
 
 -- ---- a formula that stands from a place on
@@ -127,7 +125,7 @@ pub operand-done : (seen : Seen) (p q : List ℕ) (from : ℕ) (a : Settled) (f 
     → Makes (settled seen) from (tail 1 p) q a → Front (drop (from + 1) p) f rest → Operand seen p q from a f rest
 operand-done seen p q from a f rest h m x =
     let s = m f rest (front-behind-first p from f rest x) in
-    let e = handed-tail p (take 1 p) (drop 1 p) 1 (cut-at 1 p) (length-take-le 1 p h) q in
+    let e = handed-tail p (take 1 p) (drop 1 p) 1 (sym (take-append-drop 1 p)) (length-take-le 1 p h) q in
     let y = stands-behind (settled seen f) q rest a (s .stands) (take 1 p) 1 (length-take-le 1 p h) in
     let z = subst (λ (k : List ℕ). Stands (settled seen f) k rest (one-on a)) (sym e) y in
     record {

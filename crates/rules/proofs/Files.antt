@@ -1,4 +1,4 @@
--- Laws of the rule file and its parts: lengths; what a row of puts leaves (`header-put`, `held-..`, `file-put`); and both ways between
+-- Laws of the rule file and its parts: lengths; what a row of puts leaves (`header-put`, `found-..`, `file-put`); and both ways between
 -- a file and what it is written from: `header-fields` and `masksFrom-maskBytes` read what was written, `header-is` and
 -- `maskBytes-masksFrom` write what was read. Assumes nothing.
 use mathlib.Core.Path.{_≡_, refl, sym, ap, ap₂, _∙_}
@@ -9,11 +9,12 @@ use native.Mathlib.Omega.{arith}
 use native.Mathlib.Numerals.{add-one}
 use lib.ListN.{length, getD, take, drop, replicate, length-append, length-drop, length-replicate}
 use lib.Seq.{take-suc, take-at}
+use Rattle.ltl.specs.Limits.{boardsMost, propositionsMost, ruleNodesMost}
 use Rattle.lists.specs.Runs.{tail, tailAs, padded}
 use Rattle.le.specs.Le.{le, leAt}
 use Rattle.le.proofs.Laws.{Bytes, le-length, leAt-le, le-leAt}
 use Rattle.lists.proofs.Stretches.{put-next, tail-put, tail-clear, drop-replicate, take-two}
-use Rattle.rules.specs.RuleFile.{version, boardsMost, propositionsMost, nodesMost, masksAt, formulaAt, totalOf, fileMost, header, maskBytes, fileOf, versionIn, boardsIn, propositionsIn, nodesIn, masksOffsetIn, formulaOffsetIn, totalIn, masksFrom}
+use Rattle.rules.specs.RuleFile.{version, masksAt, formulaAt, totalOf, fileMost, header, maskBytes, fileOf, versionIn, boardsIn, propositionsIn, nodesIn, masksOffsetIn, formulaOffsetIn, totalIn, masksFrom}
 
 -- ---- the masks in a file
 pub masksFrom-length : (file : List ℕ) (at n : ℕ) → length (masksFrom file at n) ≡ n
@@ -84,17 +85,17 @@ header-put b p n s s₁ s₂ s₃ s₄ s₅ s₆ s₇ e₁ e₂ e₃ e₄ e₅ e
     e₇ ∙ put-next s₆ s a₆ (le 4 (totalOf b n)) 12 4 d₆ refl
 
 -- ---- masks put into an array of zeros
-module _ (file held : List ℕ) (b : ℕ) (e : held ≡ masksFrom file masksAt b ++ drop b (replicate boardsMost 0)) where
-  pub held-length : b ≤ boardsMost → length held ≡ boardsMost
-  held-length h =
+module _ (file found : List ℕ) (b : ℕ) (e : found ≡ masksFrom file masksAt b ++ drop b (replicate boardsMost 0)) where
+  pub found-length : b ≤ boardsMost → length found ≡ boardsMost
+  found-length h =
       let z : List ℕ = replicate boardsMost 0 in
       omega (arith, ap length e, length-append (masksFrom file masksAt b) (drop b z), masksFrom-length file masksAt b, length-drop b z, length-replicate {A = ℕ} boardsMost 0)
 
-  pub held-front : take b held ≡ masksFrom file masksAt b
-  held-front = ap (take b) e ∙ take-at (masksFrom file masksAt b) (drop b (replicate boardsMost 0)) b (masksFrom-length file masksAt b)
+  pub found-front : take b found ≡ masksFrom file masksAt b
+  found-front = ap (take b) e ∙ take-at (masksFrom file masksAt b) (drop b (replicate boardsMost 0)) b (masksFrom-length file masksAt b)
 
-  pub held-padded : held ≡ padded boardsMost (masksFrom file masksAt b)
-  held-padded =
+  pub found-padded : found ≡ padded boardsMost (masksFrom file masksAt b)
+  found-padded =
       e ∙ ap (λ (u : List ℕ). masksFrom file masksAt b ++ u) (drop-replicate b boardsMost 0 ∙ ap (λ (n : ℕ). replicate {A = ℕ} (boardsMost - n) 0) (sym (masksFrom-length file masksAt b)))
 
 -- ---- the file
@@ -144,7 +145,7 @@ pub record Fields (file : List ℕ) (b p n : ℕ) : Type 0 where
   pub formula-offset-is : formulaOffsetIn file ≡ formulaAt b
   pub total-is : totalIn file ≡ totalOf b n
 
-pub header-fields : (b p n : ℕ) (rest : List ℕ) → b ≤ boardsMost → p ≤ propositionsMost → n ≤ nodesMost → Fields (header b p n ++ rest) b p n
+pub header-fields : (b p n : ℕ) (rest : List ℕ) → b ≤ boardsMost → p ≤ propositionsMost → n ≤ ruleNodesMost → Fields (header b p n ++ rest) b p n
 unfolding le leAt
 header-fields b p n rest hb hp hn =
     record {

@@ -2,18 +2,19 @@
 -- one law for each outcome, over plain lists, in the order of the checks; and that an accepted call has passed them all (`read-passed`,
 -- `write-passed`; `order-passed` says it of any call). Assumes nothing.
 use mathlib.Core.Path.{_≡_, refl, sym}
-use mathlib.Core.Bool.{Bool, true, false}
+use mathlib.Core.Bool.{true, false}
 use mathlib.Core.List.{List, [], _∷_}
-use Prim.Native.Nat.{ℕ, _<_, _≤_}
+use Prim.Native.Nat.{ℕ, _≤_}
 use native.Mathlib.Omega.{arith}
 use lib.ListN.{length}
 use lib.Dec.{eqb}
 use borrow.Author.Tests.{eqb-true, leb-true}
+use Rattle.ltl.specs.Limits.{boardsMost, propositionsMost, ruleNodesMost}
 use Rattle.lists.specs.Tests.{pick}
 use Rattle.lists.specs.Runs.{padded}
 use Rattle.answers.specs.declared.Refusal.{Refusal}
 use Rattle.answers.specs.declared.Refusal.the-variants.{Length, Version, Range, Offset, Masks, Formula}
-use Rattle.answers.specs.Said.{Said, accepted, refused, left, numberOf, Check, inOrder}
+use Rattle.answers.specs.Said.{accepted, refused, left, numberOf, inOrder}
 use Rattle.ltl.specs.Text.{ruleText}
 use Rattle.lists.proofs.Tests.{both-0, both-1}
 use Rattle.answers.proofs.Answers.{order-passed}
@@ -21,14 +22,14 @@ use Rattle.masks.specs.Masks.{masksRule}
 use Rattle.rules.specs.declared.reading.Counts.{Counts}
 use Rattle.rules.specs.declared.reading.ReadAnswer.the-variants as read-answer
 use Rattle.rules.specs.declared.writing.WriteAnswer.the-variants as write-answer
-use Rattle.rules.specs.RuleFile.{version, boardsMost, propositionsMost, nodesMost, masksAt, formulaAt, fileMost, countsOk, fileOf, totalOf, versionIn, boardsIn, propositionsIn, nodesIn, masksOffsetIn, formulaOffsetIn, totalIn, masksIn, formulaIn}
+use Rattle.rules.specs.RuleFile.{version, masksAt, formulaAt, fileMost, countsOk, fileOf, totalOf, versionIn, boardsIn, propositionsIn, nodesIn, masksOffsetIn, formulaOffsetIn, totalIn, masksIn, formulaIn}
 use Rattle.rules.specs.Read.{lengthsOk, offsetsOk, readSays, Reads}
 use Rattle.rules.specs.Write.{writeSays, Writes}
 
 -- ---- what the checks tell
 pub record Sized (file : List ℕ) (m f : ℕ) : Type 0 where
   pub masks-room : m ≡ boardsMost
-  pub formula-room : f ≡ nodesMost
+  pub formula-room : f ≡ ruleNodesMost
   pub headed : masksAt ≤ length file
   pub whole : length file ≡ totalIn file
 
@@ -45,7 +46,7 @@ pub record Counted (b p n : ℕ) : Type 0 where
   pub propositions-some : 1 ≤ p
   pub propositions-few : p ≤ propositionsMost
   pub nodes-some : 1 ≤ n
-  pub nodes-few : n ≤ nodesMost
+  pub nodes-few : n ≤ ruleNodesMost
 
 pub counted : (b p n : ℕ) → countsOk b p n ≡ true → Counted b p n
 unfolding countsOk
@@ -120,7 +121,7 @@ module _ (file masks formula : List ℕ) where
 
               pub read-rule : (c : Counts) (masks′ formula′ : List ℕ)
                   → c .boards ≡ boardsIn file → c .propositions ≡ propositionsIn file → c .nodes ≡ nodesIn file
-                  → masks′ ≡ padded boardsMost (masksIn file) → formula′ ≡ padded nodesMost (formulaIn file)
+                  → masks′ ≡ padded boardsMost (masksIn file) → formula′ ≡ padded ruleNodesMost (formulaIn file)
                   → Reads file masks formula masks′ formula′ (read-answer.Rule c)
               unfolding left pick
               read-rule c masks′ formula′ b p n m f =

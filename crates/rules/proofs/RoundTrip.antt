@@ -8,6 +8,7 @@ use native.Mathlib.Omega.{arith}
 use lib.ListN.{length, getD, take, drop, replicate, length-append, length-drop, take-append-drop}
 use lib.Seq.{take-at, drop-at, drop-drop}
 use borrow.Author.Tests.{eq-eqb, eqb-true, le-leb}
+use Rattle.ltl.specs.Limits.{boardsMost, ruleNodesMost}
 use Rattle.lists.specs.Runs.{padded}
 use Rattle.answers.specs.Said.{Said}
 use Rattle.ltl.specs.Text.{ruleText}
@@ -20,7 +21,7 @@ use Rattle.rules.specs.declared.reading.ReadAnswer.{ReadAnswer}
 use Rattle.rules.specs.declared.reading.ReadAnswer.the-variants.{Rule}
 use Rattle.rules.specs.declared.writing.WriteAnswer.{WriteAnswer}
 use Rattle.rules.specs.declared.writing.WriteAnswer.the-variants.{Written}
-use Rattle.rules.specs.RuleFile.{version, boardsMost, nodesMost, masksAt, formulaAt, fileMost, header, maskBytes, fileOf, countsOk, totalOf, boardsIn, propositionsIn, nodesIn, masksIn, formulaIn, masksFrom}
+use Rattle.rules.specs.RuleFile.{version, masksAt, formulaAt, fileMost, header, maskBytes, fileOf, countsOk, totalOf, boardsIn, propositionsIn, nodesIn, masksIn, formulaIn, masksFrom}
 use Rattle.rules.specs.Read.{lengthsOk, offsetsOk, saidRead, Reads}
 use Rattle.rules.specs.Write.{saidWrite, Writes}
 use Rattle.rules.proofs.Files.{Fields, masksFrom-length, maskBytes-length, header-length, fileOf-length, header-fields, masksFrom-maskBytes, header-is, maskBytes-masksFrom}
@@ -52,7 +53,7 @@ module _ (masks : List ℕ) (p : ℕ) (formula : List ℕ) (words : (i : ℕ) �
       ∙ drop-at (h ++ maskBytes masks) formula (formulaAt b) (omega arith)
 
   file-passed : masksRule p masks ≡ true → ruleText p formula ≡ true → countsOk (length masks) p (length formula) ≡ true
-      → ReadPassed (fileOf masks p formula) boardsMost nodesMost
+      → ReadPassed (fileOf masks p formula) boardsMost ruleNodesMost
   unfolding lengthsOk offsetsOk
   file-passed rule text ok =
       let k = file-fields in
@@ -70,8 +71,8 @@ module _ (masks : List ℕ) (p : ℕ) (formula : List ℕ) (words : (i : ℕ) �
 
 pub written-read : (masks : List ℕ) (p : ℕ) (formula file file′ : List ℕ) (n : ℕ) → ((i : ℕ) → getD masks i 0 < 2 ^ 64)
     → Writes masks p formula file file′ (Written n)
-    → (m f m′ f′ : List ℕ) (answer : ReadAnswer) → length m ≡ boardsMost → length f ≡ nodesMost → Reads (take n file′) m f m′ f′ answer
-    → (answer ≡ Rule (record { boards = length masks; propositions = p; nodes = length formula })) × (m′ ≡ padded boardsMost masks) × (f′ ≡ padded nodesMost formula)
+    → (m f m′ f′ : List ℕ) (answer : ReadAnswer) → length m ≡ boardsMost → length f ≡ ruleNodesMost → Reads (take n file′) m f m′ f′ answer
+    → (answer ≡ Rule (record { boards = length masks; propositions = p; nodes = length formula })) × (m′ ≡ padded boardsMost masks) × (f′ ≡ padded ruleNodesMost formula)
 written-read masks p formula file file′ n words w m f m′ f′ answer em ef r =
     let q = write-passed masks p formula (length file) (sym (ap (λ (s : Said). s .number) (w .says))) in
     let F = fileOf masks p formula in
@@ -84,9 +85,9 @@ written-read masks p formula file file′ n words w m f m′ f′ answer em ef r
     let k = file-fields masks p formula words c in
     let ok : lengthsOk F (length m) (length f) ≡ true = ap₂ (lengthsOk F) em ef ∙ o .lengths in
     let built = read-rule F m f ok (o .version) (o .counts) (o .offsets) (o .masks) (o .formula)
-    (record { boards = length masks; propositions = p; nodes = length formula }) (padded boardsMost masks) (padded nodesMost formula)
+    (record { boards = length masks; propositions = p; nodes = length formula }) (padded boardsMost masks) (padded ruleNodesMost formula)
     (sym (k .boards-is)) (sym (k .propositions-is)) (sym (k .nodes-is))
-    (sym (ap (padded boardsMost) (file-masks masks p formula words c))) (sym (ap (padded nodesMost) (file-formula masks p formula words c))) in
+    (sym (ap (padded boardsMost) (file-masks masks p formula words c))) (sym (ap (padded ruleNodesMost) (file-formula masks p formula words c))) in
     reads-determined F m f m′ f′ _ _ answer _ (subst (λ (u : List ℕ). Reads u m f m′ f′ answer) whole r) built
 
 -- ---- the file of a rule that was read is the file
@@ -139,15 +140,15 @@ read-written file m f m′ f′ c bytes r out out′ answer room w =
     let fs = formulaIn file in
     let fl = formula-length file m f bytes o in
     let ml = masksFrom-length file masksAt (boardsIn file) in
-    let d = reads-determined file m f m′ f′ (padded boardsMost ms) (padded nodesMost fs) (Rule c) _ r
+    let d = reads-determined file m f m′ f′ (padded boardsMost ms) (padded ruleNodesMost fs) (Rule c) _ r
     (read-rule file m f (o .lengths) (o .version) (o .counts) (o .offsets) (o .masks) (o .formula)
-    (record { boards = boardsIn file; propositions = p; nodes = nodesIn file }) (padded boardsMost ms) (padded nodesMost fs) refl refl refl refl refl) in
+    (record { boards = boardsIn file; propositions = p; nodes = nodesIn file }) (padded boardsMost ms) (padded ruleNodesMost fs) refl refl refl refl refl) in
     let v = ap (λ (a : ReadAnswer). saidRead a .values) (d .0) in
     let eb : c .boards ≡ boardsIn file = ap (λ (l : List ℕ). getD l 0 0) v in
     let ep : c .propositions ≡ p = ap (λ (l : List ℕ). getD l 1 0) v in
     let en : c .nodes ≡ nodesIn file = ap (λ (l : List ℕ). getD l 2 0) v in
     let em : take (c .boards) m′ ≡ ms = ap₂ take eb (d .1) ∙ take-at ms (replicate (boardsMost - length ms) 0) (boardsIn file) ml in
-    let ef : take (c .nodes) f′ ≡ fs = ap₂ take en (d .2) ∙ take-at fs (replicate (nodesMost - length fs) 0) (nodesIn file) fl in
+    let ef : take (c .nodes) f′ ≡ fs = ap₂ take en (d .2) ∙ take-at fs (replicate (ruleNodesMost - length fs) 0) (nodesIn file) fl in
     let w₁ = subst (λ (u : List ℕ). Writes u (c .propositions) (take (c .nodes) f′) out out′ answer) em w in
     let w₂ = subst (λ (u : ℕ). Writes ms u (take (c .nodes) f′) out out′ answer) ep w₁ in
     let w₃ = subst (λ (u : List ℕ). Writes ms p u out out′ answer) ef w₂ in

@@ -5,6 +5,7 @@ use mathlib.Core.Bool.{Bool}
 use mathlib.Core.List.{List, [], _∷_}
 use lib.ListN.{length}
 use lib.Dec.{leb, eqb}
+use Rattle.ltl.specs.Limits.{boardsMost, ruleNodesMost}
 use Rattle.lists.specs.Tests.{both}
 use Rattle.lists.specs.Runs.{padded}
 use Rattle.answers.specs.Said.{Said, accepted, refused, left, numberOf, check, inOrder}
@@ -12,12 +13,12 @@ use Rattle.ltl.specs.Text.{ruleText}
 use Rattle.masks.specs.Masks.{masksRule}
 use Rattle.rules.specs.declared.reading.ReadAnswer.{ReadAnswer}
 use Rattle.rules.specs.declared.reading.ReadAnswer.the-variants.{Refused, Rule}
-use Rattle.rules.specs.RuleFile.{version, boardsMost, nodesMost, masksAt, formulaAt, totalOf, countsOk, versionIn, boardsIn, propositionsIn, nodesIn, masksOffsetIn, formulaOffsetIn, totalIn, masksIn, formulaIn}
+use Rattle.rules.specs.RuleFile.{version, masksAt, formulaAt, totalOf, countsOk, versionIn, boardsIn, propositionsIn, nodesIn, masksOffsetIn, formulaOffsetIn, totalIn, masksIn, formulaIn}
 
 -- 1: a lent output is of another length than sixteen masks and 1,024 bytes; the file is under 16 bytes or differs from its total
 unfoldable pub lengthsOk : List ℕ → ℕ → ℕ → Bool
 lengthsOk file masksRoom formulaRoom =
-    both (eqb masksRoom boardsMost) (both (eqb formulaRoom nodesMost) (both (leb masksAt (length file)) (eqb (length file) (totalIn file))))
+    both (eqb masksRoom boardsMost) (both (eqb formulaRoom ruleNodesMost) (both (leb masksAt (length file)) (eqb (length file) (totalIn file))))
 
 -- 4: an offset or the total disagrees with the counts
 unfoldable pub offsetsOk : List ℕ → Bool
@@ -46,4 +47,4 @@ saidRead (Rule c) = accepted (c .boards ∷ c .propositions ∷ c .nodes ∷ [])
 pub record Reads (file masks formula masks′ formula′ : List ℕ) (answer : ReadAnswer) : Type 0 where
   pub says : saidRead answer ≡ readSays file (length masks) (length formula)
   pub leaves-masks : masks′ ≡ left (readSays file (length masks) (length formula)) (padded boardsMost (masksIn file)) masks
-  pub leaves-formula : formula′ ≡ left (readSays file (length masks) (length formula)) (padded nodesMost (formulaIn file)) formula
+  pub leaves-formula : formula′ ≡ left (readSays file (length masks) (length formula)) (padded ruleNodesMost (formulaIn file)) formula

@@ -6,20 +6,12 @@ use mathlib.Core.List.{List, [], _∷_, _++_}
 use lib.ListN.{length, drop}
 use lib.Dec.{leb}
 use Rattle.lists.specs.Tests.{both}
+use Rattle.ltl.specs.Limits.{boardsMost, propositionsMost, ruleNodesMost}
 use Rattle.le.specs.Le.{le, leAt}
 
 -- ---- limits and sizes
 abbrev pub version : ℕ
 version = 1
-
-abbrev pub boardsMost : ℕ
-boardsMost = 16
-
-abbrev pub propositionsMost : ℕ
-propositionsMost = 64
-
-abbrev pub nodesMost : ℕ
-nodesMost = 1024
 
 -- the header's length, where the masks begin
 abbrev pub masksAt : ℕ
@@ -35,14 +27,14 @@ totalOf b n = formulaAt b + n
 
 -- the longest file, and the buffer that one is written into
 abbrev pub fileMost : ℕ
-fileMost = 1168
+fileMost = totalOf boardsMost ruleNodesMost
 
 abbrev pub inRange : ℕ → ℕ → Bool
 inRange most n = both (leb 1 n) (leb n most)
 
 -- the counts b of boards, p of propositions and n of nodes are in range
 unfoldable pub countsOk : ℕ → ℕ → ℕ → Bool
-countsOk b p n = both (inRange boardsMost b) (both (inRange propositionsMost p) (inRange nodesMost n))
+countsOk b p n = both (inRange boardsMost b) (both (inRange propositionsMost p) (inRange ruleNodesMost n))
 
 -- ---- the file of a rule
 abbrev pub header : ℕ → ℕ → ℕ → List ℕ

@@ -8,7 +8,7 @@ pub const BOARDS_MOST: usize = 16;
 
 pub const PROPOSITIONS_MOST: u64 = 64;
 
-pub const NODES_MOST: usize = 1024;
+pub const RULE_NODES_MOST: usize = 1024;
 
 // The header's length: where the masks begin.
 pub const MASKS_AT: usize = 16;
@@ -35,5 +35,5 @@ pub fn counts_ok(boards: usize, propositions: u64, nodes: usize) -> bool
     if nodes < 1 {
         return false;
     }
-    nodes <= NODES_MOST
+    nodes <= RULE_NODES_MOST
 }

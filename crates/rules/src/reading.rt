@@ -3,12 +3,13 @@ ghost use mathlib.Core.Path.{_≡_};
 ghost use mathlib.Core.List.{_++_};
 ghost use Prim.Native.Nat.{ℕ, _≤_};
 ghost use lib.ListN.{length, drop};
+ghost use Rattle.ltl.specs.Limits.{boardsMost, ruleNodesMost};
 ghost use Rattle.lists.specs.Runs.{padded};
-ghost use Rattle.rules.specs.RuleFile.{boardsMost, nodesMost, masksAt, formulaAt, boardsIn, nodesIn, masksFrom};
+ghost use Rattle.rules.specs.RuleFile.{masksAt, formulaAt, boardsIn, nodesIn, masksFrom};
 ghost use Rattle.rules.specs.Read.{lengthsOk, offsetsOk, Reads};
 use crate::counts::BOARDS_MOST;
 use crate::counts::MASKS_AT;
-use crate::counts::NODES_MOST;
+use crate::counts::RULE_NODES_MOST;
 use crate::counts::VERSION;
 use crate::counts::counts_ok;
 use answers::Refusal;
@@ -31,7 +32,7 @@ fn lengths_ok(file: &[u8], masks: usize, formula: usize) -> bool
     if masks != BOARDS_MOST {
         return false;
     }
-    if formula != NODES_MOST {
+    if formula != RULE_NODES_MOST {
         return false;
     }
     if file.len() < MASKS_AT {
@@ -42,7 +43,7 @@ fn lengths_ok(file: &[u8], masks: usize, formula: usize) -> bool
 
 // The offsets and the total are those of b boards and n nodes.
 fn offsets_ok(file: &[u8], b: usize, n: usize) -> bool
-    requires { ⌜ (masksAt ≤ length (now file)) × (b ≡ boardsIn (now file)) × (n ≡ nodesIn (now file)) × (b ≤ boardsMost) × (n ≤ nodesMost) ⌝ }
+    requires { ⌜ (masksAt ≤ length (now file)) × (b ≡ boardsIn (now file)) × (n ≡ nodesIn (now file)) × (b ≤ boardsMost) × (n ≤ ruleNodesMost) ⌝ }
     ensures { λ r. ⌜ r ≡ offsetsOk (now (file .entry)) ⌝ }
 {
     if le::u16_at(file, 8) as usize != MASKS_AT {
@@ -67,11 +68,11 @@ fn masks_of(file: &[u8], masks: &mut [u64], b: usize)
 }
 
 // The masks and the formula into the lent outputs, zero past them.
-fn hand_out(held: &[u64], text: &[u8], masks: &mut [u64], formula: &mut [u8])
-    requires { ⌜ (length (now held) ≡ length (now masks)) × (length (now text) ≤ length (now formula)) ⌝ }
-    ensures { λ _. ⌜ (now (masks .exit) ≡ now (held .entry)) × (now (formula .exit) ≡ padded (length (now (formula .entry))) (now (text .entry))) ⌝ }
+fn hand_out(found: &[u64], text: &[u8], masks: &mut [u64], formula: &mut [u8])
+    requires { ⌜ (length (now found) ≡ length (now masks)) × (length (now text) ≤ length (now formula)) ⌝ }
+    ensures { λ _. ⌜ (now (masks .exit) ≡ now (found .entry)) × (now (formula .exit) ≡ padded (length (now (formula .entry))) (now (text .entry))) ⌝ }
 {
-    runs::copy_masks(masks, held);
+    runs::copy_masks(masks, found);
     runs::copy(formula, text);
     let n = text.len();
     runs::clear(&mut formula[n..]);
@@ -95,16 +96,16 @@ pub fn read(file: &[u8], masks: &mut [u64], formula: &mut [u8]) -> ReadAnswer
     if !offsets_ok(file, b, n) {
         return ReadAnswer::Refused(Refusal::Offset);
     }
-    let mut held = [0u64; BOARDS_MOST];
-    masks_of(file, &mut held, b);
-    if !masks::follow_rule(&held[..b], p) {
+    let mut found = [0u64; BOARDS_MOST];
+    masks_of(file, &mut found, b);
+    if !masks::follow_rule(&found[..b], p) {
         return ReadAnswer::Refused(Refusal::Masks);
     }
     let at = MASKS_AT + 8 * b;
     if !texts::is_rule(&file[at..], p) {
         return ReadAnswer::Refused(Refusal::Formula);
     }
-    hand_out(&held, &file[at..], masks, formula);
+    hand_out(&found, &file[at..], masks, formula);
     ReadAnswer::Rule(Counts {
         boards: b as u64,
         propositions: p,

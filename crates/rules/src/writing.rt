@@ -3,7 +3,8 @@ ghost use mathlib.Core.Path.{_≡_};
 ghost use mathlib.Core.List.{_++_};
 ghost use Prim.Native.Nat.{ℕ, _*_, _≤_};
 ghost use lib.ListN.{length, drop};
-ghost use Rattle.rules.specs.RuleFile.{boardsMost, nodesMost, masksAt, header, maskBytes};
+ghost use Rattle.ltl.specs.Limits.{boardsMost, ruleNodesMost};
+ghost use Rattle.rules.specs.RuleFile.{masksAt, header, maskBytes};
 ghost use Rattle.rules.specs.Write.{Writes};
 use crate::counts::FILE_MOST;
 use crate::counts::MASKS_AT;
@@ -18,7 +19,7 @@ pub enum WriteAnswer {
 
 // The header of b boards, p propositions and n nodes, at the front of the file.
 fn put_header(file: &mut [u8], b: u16, p: u16, n: u16)
-    requires { ⌜ (masksAt ≤ length (now file)) × (b ≤ boardsMost) × (n ≤ nodesMost) ⌝ }
+    requires { ⌜ (masksAt ≤ length (now file)) × (b ≤ boardsMost) × (n ≤ ruleNodesMost) ⌝ }
     ensures { λ _. ⌜ now (file .exit) ≡ header b p n ++ drop masksAt (now (file .entry)) ⌝ }
 {
     let first = MASKS_AT as u16;

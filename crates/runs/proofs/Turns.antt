@@ -2,16 +2,16 @@
 use mathlib.Core.Path.{_≡_, refl, sym, ap, _∙_}
 use mathlib.Core.Bool.{Bool, true, false}
 use mathlib.Core.List.{List, [], _∷_, _++_}
-use Prim.Native.Nat.{ℕ, zero, suc, _+_, _-_, _<_, _≤_}
+use Prim.Native.Nat.{ℕ, zero, suc, _+_, _<_, _≤_}
 use native.Mathlib.Nat.{add-comm}
 use native.Mathlib.Numerals.{add-one}
 use native.Mathlib.Omega.{arith}
-use lib.ListN.{length, getD, set, take, drop, replicate, length-drop, length-replicate, drop-of-length-le}
+use lib.ListN.{length, getD, set, drop, replicate, length-drop, length-replicate, drop-of-length-le}
 use lib.Seq.{drop-cons, getD-drop}
 use lib.Dec.{eqb}
 use borrow.Author.Tests.{eq-eqb, ne-eqb, eqb-true}
 use Rattle.lists.specs.Tests.{both}
-use Rattle.lists.proofs.Fill.{filled, filled-more, filled-behind}
+use Rattle.lists.proofs.Overlay.{overlaid, overlaid-more, overlaid-behind}
 use Rattle.runs.specs.Starts.{starts}
 
 getD-zeros : (n i : ℕ) → getD (replicate {A = ℕ} n 0) i 0 ≡ 0
@@ -20,18 +20,18 @@ getD-zeros (suc n) zero = refl
 getD-zeros (suc n) (suc i) = getD-zeros n i
 
 pub cleared-more : (p : List ℕ) (i : ℕ) → i < length p
-    → set (filled i (replicate (length p) 0) p) i 0 ≡ filled (i + 1) (replicate (length p) 0) p
+    → set (overlaid i (replicate (length p) 0) p) i 0 ≡ overlaid (i + 1) (replicate (length p) 0) p
 cleared-more p i h =
     let zs : List ℕ = replicate (length p) 0 in
     let l : length zs ≡ length p = length-replicate {A = ℕ} (length p) 0 in
-    ap (λ (v : ℕ). set (filled i zs p) i v) (sym (getD-zeros (length p) i)) ∙ filled-more zs p i (omega arith) h
+    ap (λ (v : ℕ). set (overlaid i zs p) i v) (sym (getD-zeros (length p) i)) ∙ overlaid-more zs p i (omega arith) h
 
 pub slid-more : (p : List ℕ) (from i : ℕ) → from + i < length p
-    → set (filled i (drop from p) p) i (getD (filled i (drop from p) p) (from + i) 0) ≡ filled (i + 1) (drop from p) p
+    → set (overlaid i (drop from p) p) i (getD (overlaid i (drop from p) p) (from + i) 0) ≡ overlaid (i + 1) (drop from p) p
 slid-more p from i h =
     let d = length-drop from p in
-    let e = ap (λ (k : ℕ). getD (filled i (drop from p) p) k 0) (add-comm from i) ∙ filled-behind (drop from p) p i from (omega arith) ∙ ap (λ (k : ℕ). getD p k 0) (add-comm i from) ∙ sym (getD-drop from p i 0) in
-    ap (λ (v : ℕ). set (filled i (drop from p) p) i v) e ∙ filled-more (drop from p) p i (omega arith) (omega arith)
+    let e = ap (λ (k : ℕ). getD (overlaid i (drop from p) p) k 0) (add-comm from i) ∙ overlaid-behind (drop from p) p i from (omega arith) ∙ ap (λ (k : ℕ). getD p k 0) (add-comm i from) ∙ sym (getD-drop from p i 0) in
+    ap (λ (v : ℕ). set (overlaid i (drop from p) p) i v) e ∙ overlaid-more (drop from p) p i (omega arith) (omega arith)
 
 -- ---- whether a list begins with another
 module _ (l s : List ℕ) (i : ℕ) (h : i < length l) (k : i < length s) where

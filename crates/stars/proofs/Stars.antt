@@ -1,12 +1,11 @@
 -- The worked values that are proved: one table, one theorem, `stars`. Each is computed from the definitions that the promises
 -- cite. a and b are 64 and 65. Assumes nothing.
 use mathlib.Core.Path.{_≡_, refl}
-use mathlib.Core.Bool.{Bool, true, false}
 use mathlib.Core.List.{List, [], _∷_}
 use Prim.Native.Nat.{ℕ}
 use lib.ListN.{length}
 use Rattle.lists.specs.Tests.{pick, both, either, bit}
-use Rattle.answers.specs.Said.{Said, accepted, inOrder, verdictNumber}
+use Rattle.answers.specs.Said.{accepted, inOrder, verdictNumber}
 use Rattle.answers.specs.declared.Verdict.{Verdict}
 use Rattle.answers.specs.declared.Verdict.the-variants.{False, True, Pending}
 use Rattle.kinds.specs.Kinds.{kindOf}

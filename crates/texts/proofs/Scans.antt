@@ -1,6 +1,6 @@
 -- The pass over the bytes finds exactly a rule's formula: `scan-is`. A formula in front takes one operand off what is owed
--- (`scan-encode`), and where the pass succeeds a formula stands in front (`scan-front`). Assumes nothing.
-use mathlib.Core.Path.{_≡_, refl, sym, ap, _∙_, subst}
+-- (`scan-encode`), and where the pass succeeds a formula stands in front (`scan-leading`). Assumes nothing.
+use mathlib.Core.Path.{_≡_, refl, sym, ap, _∙_}
 use mathlib.Core.Bool.{Bool, true, false}
 use mathlib.Core.List.{List, [], _∷_, _++_, append-assoc, append-nil}
 use mathlib.Core.Option.{Option, none, some}
@@ -18,13 +18,12 @@ use Rattle.kinds.specs.declared.Unary.{Unary}
 use Rattle.kinds.specs.declared.Binary.{Binary}
 use Rattle.kinds.specs.declared.Kind.{Kind}
 use Rattle.kinds.specs.declared.Kind.the-variants.{Zero, One, Two, NoCode}
-use Rattle.kinds.specs.Kinds.{kindOf, leafCode, unaryCode, binaryCode}
-use Rattle.kinds.proofs.Codes.{below64, CodeOf, isZero, isOne, isTwo, isNone, code, kind-leaf, kind-unary, kind-binary}
-use Rattle.ltl.specs.Formula.{Formula, leaf, one, two, encode, leafWithin, Within, over}
+use Rattle.kinds.specs.Kinds.{leafWithin, kindOf, leafCode, unaryCode, binaryCode}
+use Rattle.kinds.proofs.Codes.{CodeOf, isZero, isOne, isTwo, isNone, code, kind-leaf, kind-unary, kind-binary}
+use Rattle.ltl.specs.Formula.{Formula, leaf, one, two, encode, Within}
 use Rattle.ltl.specs.Text.{textOf, overAlone, ruleText}
 use Rattle.lists.proofs.Tests.{no-true, test-eq}
-use Rattle.ltl.proofs.Texts.{text-of, text-is, over-within, within-over, size-some, length-encode}
-use Rattle.texts.specs.declared.Owed.{Owed}
+use Rattle.ltl.proofs.Texts.{text-of, text-is, over-within, within-over}
 use Rattle.texts.specs.declared.Owed.the-variants.{Operands, Broken}
 use Rattle.texts.specs.Scan.{owedAfter, goOn, scan}
 
@@ -62,7 +61,7 @@ scan-encode p (two o f g) n l w c =
     ∙ rw (kind-binary o, e, append-assoc (encode f) (encode g) l) (scan-encode p f (suc n) (encode g ++ l) (w .0) (c .0) ∙ scan-encode p g n l (w .1) (c .1))
 
 -- ---- and only then
-pub record Front (p n : ℕ) (l : List ℕ) : Type 0 where
+pub record Leading (p n : ℕ) (l : List ℕ) : Type 0 where
   pub formula : Formula
   pub behind : List ℕ
   pub within : Within p 0 formula
@@ -70,27 +69,22 @@ pub record Front (p n : ℕ) (l : List ℕ) : Type 0 where
   pub bytes : l ≡ encode formula ++ behind
   pub goes : scan p behind n ≡ true
 
-front-leaf : (p : ℕ) (a : Leaf) (n b : ℕ) (l : List ℕ) → b ≡ leafCode a → leafWithin 64 64 a → goOn (owedAfter p (Zero a) n) (λ m. scan p l m) ≡ true → Front p n (b ∷ l)
+leading-leaf : (p : ℕ) (a : Leaf) (n b : ℕ) (l : List ℕ) → b ≡ leafCode a → leafWithin 64 64 a → goOn (owedAfter p (Zero a) n) (λ m. scan p l m) ≡ true → Leading p n (b ∷ l)
 unfolding pick
-front-leaf p (Const v) n b l e c h = record { formula = leaf (Const v); behind = l; within = tt; coded = tt; bytes = ap (_∷ l) e; goes = h }
-front-leaf p (Prop i) n b l e c h = go (ltb i p) refl h
+leading-leaf p (Const v) n b l e c h = record { formula = leaf (Const v); behind = l; within = tt; coded = tt; bytes = ap (_∷ l) e; goes = h }
+leading-leaf p (Prop i) n b l e c h = go (ltb i p) refl h
   where
-    go : (x : Bool) → ltb i p ≡ x → goOn (pick x (Operands n) Broken) (λ m. scan p l m) ≡ true → Front p n (b ∷ l)
+    go : (x : Bool) → ltb i p ≡ x → goOn (pick x (Operands n) Broken) (λ m. scan p l m) ≡ true → Leading p n (b ∷ l)
     go true q k = record { formula = leaf (Prop i); behind = l; within = ltb-true i p q; coded = c; bytes = ap (_∷ l) e; goes = k }
     go false q k = absurd (no-true k)
-front-leaf p (Hold k) n b l e c h = absurd (no-true h)
+leading-leaf p (Hold k) n b l e c h = absurd (no-true h)
 
-coded-leaf : (a : Leaf) → below64 a → leafWithin 64 64 a
-coded-leaf (Const v) h = tt
-coded-leaf (Prop i) h = h
-coded-leaf (Hold k) h = h
-
-front-one : (p : ℕ) (o : Unary) (n b : ℕ) (l : List ℕ) → b ≡ unaryCode o → Front p n l → Front p n (b ∷ l)
-front-one p o n b l e x =
+leading-one : (p : ℕ) (o : Unary) (n b : ℕ) (l : List ℕ) → b ≡ unaryCode o → Leading p n l → Leading p n (b ∷ l)
+leading-one p o n b l e x =
     record { formula = one o (x .formula); behind = x .behind; within = x .within; coded = x .coded; bytes = rw (e, ← x .bytes); goes = x .goes }
 
-front-two : (p : ℕ) (o : Binary) (n b : ℕ) (l : List ℕ) → b ≡ binaryCode o → (x : Front p (suc n) l) → Front p n (x .behind) → Front p n (b ∷ l)
-front-two p o n b l e x y =
+leading-two : (p : ℕ) (o : Binary) (n b : ℕ) (l : List ℕ) → b ≡ binaryCode o → (x : Leading p (suc n) l) → Leading p n (x .behind) → Leading p n (b ∷ l)
+leading-two p o n b l e x y =
     record {
       formula = two o (x .formula) (y .formula);
       behind = y .behind;
@@ -100,32 +94,32 @@ front-two p o n b l e x y =
       goes = y .goes;
     }
 
-front-node : (p n m b : ℕ) (l : List ℕ) {k : Kind} → CodeOf b k → length l ≤ m
-    → ((n : ℕ) (l : List ℕ) → length l ≤ m → scan p l (suc n) ≡ true → Front p n l)
-    → goOn (owedAfter p k n) (λ m. scan p l m) ≡ true → Front p n (b ∷ l)
-front-node p n m b l (isZero {a = a} e c) q ih h = front-leaf p a n b l e (coded-leaf a c) h
-front-node p n m b l (isOne {o = o} e) q ih h = front-one p o n b l e (ih n l q (rw add-one at h))
-front-node p n m b l (isTwo {o = o} e) q ih h =
+leading-node : (p n m b : ℕ) (l : List ℕ) {k : Kind} → CodeOf b k → length l ≤ m
+    → ((n : ℕ) (l : List ℕ) → length l ≤ m → scan p l (suc n) ≡ true → Leading p n l)
+    → goOn (owedAfter p k n) (λ m. scan p l m) ≡ true → Leading p n (b ∷ l)
+leading-node p n m b l (isZero {a = a} e c) q ih h = leading-leaf p a n b l e c h
+leading-node p n m b l (isOne {o = o} e) q ih h = leading-one p o n b l e (ih n l q (rw add-one at h))
+leading-node p n m b l (isTwo {o = o} e) q ih h =
     let r : n + 2 ≡ suc (suc n) = omega arith in
     let x = ih (suc n) l q (rw r at h) in
-    front-two p o n b l e x (ih n (x .behind) (behind-short x) (x .goes))
+    leading-two p o n b l e x (ih n (x .behind) (behind-short x) (x .goes))
   where
-    behind-short : (x : Front p (suc n) l) → length (x .behind) ≤ m
+    behind-short : (x : Leading p (suc n) l) → length (x .behind) ≤ m
     behind-short x = let a = ap length (x .bytes) in let d = length-append (encode (x .formula)) (x .behind) in omega arith
-front-node p n m b l isNone q ih h = absurd (no-true h)
+leading-node p n m b l isNone q ih h = absurd (no-true h)
 
-scan-front : (m p n : ℕ) (l : List ℕ) → length l ≤ m → scan p l (suc n) ≡ true → Front p n l
-scan-front zero p n [] q h = absurd (scan-empty p n h)
-scan-front zero p n (b ∷ l) q h = absurd (omega arith)
-scan-front (suc m) p n [] q h = absurd (scan-empty p n h)
-scan-front (suc m) p n (b ∷ l) q h =
-    front-node p n m b l (code b) (omega arith) (λ n l. scan-front m p n l) (sym (scan-cons p b n l) ∙ h)
+scan-leading : (m p n : ℕ) (l : List ℕ) → length l ≤ m → scan p l (suc n) ≡ true → Leading p n l
+scan-leading zero p n [] q h = absurd (scan-empty p n h)
+scan-leading zero p n (b ∷ l) q h = absurd (omega arith)
+scan-leading (suc m) p n [] q h = absurd (scan-empty p n h)
+scan-leading (suc m) p n (b ∷ l) q h =
+    leading-node p n m b l (code b) (omega arith) (λ n l. scan-leading m p n l) (sym (scan-cons p b n l) ∙ h)
 
 -- ---- the pass is the rule's formula
 scan-text : (p : ℕ) (l : List ℕ) → scan p l 1 ≡ true → ruleText p l ≡ true
 unfolding ruleText
 scan-text p l h =
-    let x = scan-front (length l) p 0 l (omega arith) h in
+    let x = scan-leading (length l) p 0 l (omega arith) h in
     let e : l ≡ encode (x .formula) = x .bytes ∙ ap (encode (x .formula) ++_) (scan-nothing p (x .behind) (x .goes)) ∙ append-nil (encode (x .formula)) in
     let t : textOf l ≡ some (x .formula) = ap textOf e ∙ text-of (x .formula) (x .coded) in
     rw t (within-over p 0 (x .formula) (x .within))
@@ -165,7 +159,7 @@ module _ (p : ℕ) (s : List ℕ) (i owed : ℕ) where
   unfolding scan
   turn-end h = rw (drop-of-length-le s h)
 
--- each node adds at most one to what is owed
+-- a node takes one off what is owed, and adds at most two
 pub owed-bound : (p : ℕ) (k : Kind) (n m : ℕ) → owedAfter p k n ≡ Operands m → m ≤ n + 2
 unfolding pick
 owed-bound p (Zero (Const v)) n m e = let q : n ≡ m = cc in omega arith

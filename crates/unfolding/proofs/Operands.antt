@@ -1,16 +1,15 @@
 -- The operands of the formula in front, at a place of the code: `one-of` and `two-of` take the kind that `Kind::of` gave and the
 -- variant that it was matched with; `right-at` is the right operand where the left one was read. Assumes nothing.
-use mathlib.Core.Path.{_≡_, sym, ap, _∙_, subst}
+use mathlib.Core.Path.{_≡_, sym, subst}
 use mathlib.Core.List.{List}
-use Prim.Native.Nat.{ℕ, _+_, _-_}
-use lib.ListN.{length, getD, length-drop}
+use Prim.Native.Nat.{ℕ, _+_}
+use lib.ListN.{getD}
 use Rattle.lists.specs.Runs.{tail}
 use Rattle.kinds.specs.declared.Unary.{Unary}
 use Rattle.kinds.specs.declared.Binary.{Binary}
 use Rattle.kinds.specs.declared.Kind.{Kind}
 use Rattle.kinds.specs.declared.Kind.the-variants.{One, Two}
 use Rattle.kinds.specs.Kinds.{kindOf}
-use Rattle.lists.proofs.Parts.{tail-is}
 use Rattle.ltl.specs.Formula.{Formula, size}
 use Rattle.nodes.specs.Begins.{Front}
 use Rattle.nodes.proofs.Fronts.{parts-as, Single, single, Double, double}

@@ -9,6 +9,7 @@ use Rattle.kinds.specs.declared.Join.{Join}
 use Rattle.kinds.specs.declared.Binary.the-variants.{Joined}
 use Rattle.kinds.specs.declared.Kind.the-variants.{One, Two}
 use Rattle.kinds.specs.Kinds.{kindOf, joinCode}
+use Rattle.ltl.specs.Limits.{nodesMost}
 use Rattle.ltl.specs.Formula.{Formula, one, join, size, encode}
 use Rattle.ltl.specs.Progression.{unfolded}
 use Rattle.nodes.specs.Begins.{Front, Begins}
@@ -18,9 +19,9 @@ pub record Room (out s : List ℕ) : Type 0 where
   pub begins : Begins s
   pub room : size (unfolded (begins .formula)) ≤ length out
 
--- the formula in front was read, and its unfolded nodes counted up to 4,097
+-- the formula in front was read, and its unfolded nodes counted up to one more than the most
 abbrev pub Counted : List ℕ → ℕ → ℕ → Type 0
-Counted s read count = (f : Formula) (rest : List ℕ) → Front s f rest → (read ≡ size f) × (count ≡ min (size (unfolded f)) 4097)
+Counted s read count = (f : Formula) (rest : List ℕ) → Front s f rest → (read ≡ size f) × (count ≡ min (size (unfolded f)) (nodesMost + 1))
 
 -- the formula in front was read, and stands unfolded at the front of the output, behind which nothing changed
 pub record UnfoldedTo (f : Formula) (out out′ : List ℕ) (read written : ℕ) : Type 0 where

@@ -1,50 +1,36 @@
--- proof
+-- One law of proofs/Outcomes.antt for each way out. Assumes nothing.
 use native.Mathlib.Omega.{arith}
 use borrow.Author.Needs.{needs}
 use borrow.Author.Tests.{not-true, not-false}
-use mathlib.Core.Path.{_≡_, refl, sym, ap, _∙_}
+use mathlib.Core.Path.{sym, ap, _∙_}
 use mathlib.Core.List.{[]}
 use Rattle.central.specs.Central.{verdictByte}
 use Rattle.central.proofs.Progresses.{verdict-first, first-of}
 use Rattle.central.proofs.Outcomes.{sized, whole, refused-length, refused-formula, refused-nodes, room, progressed-to}
 use Rattle.central.proofs.central.Statement.{statement}
 use Rattle.central.proofs.central.Tie as tie
-use Rattle.central.proofs.central.Reads as reads
-use Rattle.central.proofs.central.Lts as lts
-use Rattle.central.proofs.lengths_ok.Reads as lengths-ok-reads
-use Rattle.central.proofs.progress_into.Reads as progress-into-reads
-use Rattle.central.proofs.verdict.Reads as verdict-reads
-use Rattle.texts.proofs.is_rule.Reads as is-rule-reads
-use Rattle.unfolding.proofs.count_unfolded.Reads as count-unfolded-reads
 
--- src/lib.rt:69:9
 lengths-ok-requires : tie.Need-lengths-ok-requires
 lengths-ok-requires c κs = search needs
 
--- src/lib.rt:70:9
 returns : tie.Need-returns
 returns c = refused-length (c .before .before .before .before .args .formula .now) (c .before .before .before .before .args .event) (c .before .before .before .before .args .output .now) (sym (c .before .lengths-ok .ensures) ∙ not-true (c .before .lengths-ok .result) (c .if1 .taken))
 
--- src/lib.rt:72:9
 is-rule-requires : tie.Need-is-rule-requires
 is-rule-requires c κs = search needs
 
--- src/lib.rt:73:9
 returns-2 : tie.Need-returns-2
 returns-2 c = refused-formula (c .before .before .before .before .before .before .args .formula .now) (c .before .before .before .before .before .before .args .event) (c .before .before .before .before .before .before .args .output .now) (sym (c .before .before .before .lengths-ok .ensures) ∙ not-false (c .before .before .before .lengths-ok .result) (c .before .before .if1 .left)) (sym (c .before .is-rule .ensures) ∙ not-true (c .before .is-rule .result) (c .if2 .taken))
 
--- src/lib.rt:75:9
 count-unfolded-requires : tie.Need-count-unfolded-requires
 count-unfolded-requires c κs =
     let w = whole (c .before .before .before .before .before .before .args .formula .now) (sym (c .before .is-rule .ensures) ∙ not-false (c .before .is-rule .result) (c .if2 .left)) in
     let z = sized _ _ (sym (c .before .before .before .lengths-ok .ensures) ∙ not-false (c .before .before .before .lengths-ok .result) (c .before .before .if1 .left)) in
     (record { formula = w .formula-is; rest = []; front = w .front }, z .few)
 
--- src/lib.rt:77:9
 returns-3 : tie.Need-returns-3
 returns-3 c = refused-nodes (c .before .before .before .before .before .before .before .before .before .args .formula .now) (c .before .before .before .before .before .before .before .before .before .args .event) (c .before .before .before .before .before .before .before .before .before .args .output .now) (sym (c .before .before .before .before .before .before .lengths-ok .ensures) ∙ not-false (c .before .before .before .before .before .before .lengths-ok .result) (c .before .before .before .before .before .if1 .left)) (sym (c .before .before .before .before .is-rule .ensures) ∙ not-false (c .before .before .before .before .is-rule .result) (c .before .before .before .if2 .left)) (c .before .before .count-unfolded .result .read) (c .before .before .count-unfolded .result .written) (c .before .before .count-unfolded .ensures) (c .if3 .taken)
 
--- src/lib.rt:79:9
 progress-into-requires : tie.Need-progress-into-requires
 progress-into-requires c κs =
     let w = whole (c .before .before .before .before .before .before .before .before .before .before .args .formula .now) (sym (c .before .before .before .before .before .is-rule .ensures) ∙ not-false (c .before .before .before .before .before .is-rule .result) (c .before .before .before .before .if2 .left)) in
@@ -52,19 +38,15 @@ progress-into-requires c κs =
     let m = room (c .before .before .before .before .before .before .before .before .before .before .args .formula .now) (c .before .before .before .before .before .before .before .before .before .before .args .event) (c .before .before .before .before .before .before .before .before .before .before .args .output .now) (sym (c .before .before .before .before .before .before .before .lengths-ok .ensures) ∙ not-false (c .before .before .before .before .before .before .before .lengths-ok .result) (c .before .before .before .before .before .before .if1 .left)) (sym (c .before .before .before .before .before .is-rule .ensures) ∙ not-false (c .before .before .before .before .before .is-rule .result) (c .before .before .before .before .if2 .left)) (c .before .before .before .count-unfolded .result .read) (c .before .before .before .count-unfolded .result .written) (c .before .before .before .count-unfolded .ensures) (c .before .if3 .left) in
     record { whole = w .formula-is; front = w .front; room = let e = z .room-is in omega arith }
 
--- src/lib.rt:80:59
 slice-read-verdict : tie.Need-slice-read-verdict
 slice-read-verdict c = let z = sized _ _ (sym (c .before .before .before .before .before .before .before .before .before .before .before .lengths-ok .ensures) ∙ not-false (c .before .before .before .before .before .before .before .before .before .before .before .lengths-ok .result) (c .before .before .before .before .before .before .before .before .before .before .if1 .left)) in let e = z .room-is in let k = c .before .before .before .progress-into .kept .0 in omega arith
 
--- src/lib.rt:80:51
 verdict-requires : tie.Need-verdict-requires
 verdict-requires c κs = search needs
 
--- src/lib.rt:66:1
 same-length : tie.Need-same-length
 same-length c = search needs
 
--- src/lib.rt:66:1
 returns-4 : tie.Need-returns-4
 returns-4 c = progressed-to (c .before .before .before .before .before .before .before .before .before .before .before .before .before .before .before .args .formula .now) (c .before .before .before .before .before .before .before .before .before .before .before .before .before .before .before .args .event) (c .before .before .before .before .before .before .before .before .before .before .before .before .before .before .before .args .output .now) (sym (c .before .before .before .before .before .before .before .before .before .before .before .before .lengths-ok .ensures) ∙ not-false (c .before .before .before .before .before .before .before .before .before .before .before .before .lengths-ok .result) (c .before .before .before .before .before .before .before .before .before .before .before .if1 .left)) (sym (c .before .before .before .before .before .before .before .before .before .before .is-rule .ensures) ∙ not-false (c .before .before .before .before .before .before .before .before .before .before .is-rule .result) (c .before .before .before .before .before .before .before .before .before .if2 .left)) (c .before .before .before .before .before .before .before .before .count-unfolded .result .read) (c .before .before .before .before .before .before .before .before .count-unfolded .result .written) (c .before .before .before .before .before .before .before .before .count-unfolded .ensures) (c .before .before .before .before .before .before .if3 .left) (c .before .before .before .before .progress-into .last .0) (c .before .before .before .before .progress-into .result) (c .verdict .result) (c .before .before .before .before .progress-into .ensures) (λ g e. c .verdict .ensures ∙ ap verdictByte (first-of g (c .before .before .before .before .progress-into .last .0) _ e) ∙ verdict-first g)
 

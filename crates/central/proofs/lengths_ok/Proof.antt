@@ -1,25 +1,18 @@
--- proof
-use native.Mathlib.Omega.{arith}
-use borrow.Author.Needs.{needs}
+-- The tests in the order of the definition. Assumes nothing.
 use borrow.Author.Tests.{lt-leb, le-leb}
 use Rattle.lists.specs.Tests.{both}
 use Rattle.central.specs.Central.{lengthsOk}
 use Rattle.central.proofs.lengths_ok.Statement.{statement}
 use Rattle.central.proofs.lengths_ok.Tie as tie
-use Rattle.central.proofs.lengths_ok.Reads as reads
-use Rattle.central.proofs.lengths_ok.Lts as lts
 
--- src/lib.rt:30:9
 returns : tie.Need-returns
 unfolding lengthsOk both
 returns c = rw (lt-leb 1 (c .before .args .formula) (c .if1 .taken))
 
--- src/lib.rt:33:9
 returns-2 : tie.Need-returns-2
 unfolding lengthsOk both
 returns-2 c = rw (le-leb 1 (c .before .before .args .formula) (c .before .if1 .left), lt-leb (c .before .before .args .formula) 4096 (c .if2 .taken))
 
--- src/lib.rt:26:1
 returns-3 : tie.Need-returns-3
 unfolding lengthsOk both
 returns-3 c = rw (le-leb 1 (c .before .before .args .formula) (c .before .if1 .left), le-leb (c .before .before .args .formula) 4096 (c .if2 .left))

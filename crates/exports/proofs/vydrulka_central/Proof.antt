@@ -1,54 +1,39 @@
--- proof
-use native.Mathlib.Omega.{arith}
+-- The call's own promise, and the values that its answer holds. Assumes nothing.
 use borrow.Author.Needs.{needs}
-use mathlib.Core.Path.{_≡_, refl, sym, ap, _∙_}
+use mathlib.Core.Path.{ap, _∙_}
 use mathlib.Core.List.{[], _∷_}
 use Rattle.answers.specs.Said.{Said, verdictNumber}
 use Rattle.exports.proofs.Values.{value-refused, value-accepted}
 use Rattle.exports.proofs.vydrulka_central.Statement.{statement}
 use Rattle.exports.proofs.vydrulka_central.Tie as tie
-use Rattle.exports.proofs.vydrulka_central.Reads as reads
-use Rattle.exports.proofs.vydrulka_central.Lts as lts
-use Rattle.answers.proofs.Refusal.number.Reads as Refusal-number-reads
-use Rattle.answers.proofs.Verdict.number.Reads as Verdict-number-reads
-use Rattle.central.proofs.central.Reads as central-reads
 
--- src/lib.rt:42:9
 central-requires : tie.Need-central-requires
 central-requires c κs = search needs
 
--- src/lib.rt:44:32
 enum-known-answer : tie.Need-enum-known-answer
 enum-known-answer c = search needs
 
--- src/lib.rt:44:40
 number-requires : tie.Need-number-requires
 number-requires c κs = search needs
 
--- src/lib.rt:45:35
 enum-known-answer-2 : tie.Need-enum-known-answer-2
 enum-known-answer-2 c = search needs
 
--- src/lib.rt:47:24
 number-requires-2 : tie.Need-number-requires-2
 number-requires-2 c κs = search needs
 
--- src/lib.rt:38:1
 same-length : tie.Need-same-length
 same-length c = search needs
 
--- src/lib.rt:38:1
 returns : tie.Need-returns
 returns c =
     let e = rw (c .before .before .answer .given .1) at (c .before .before .before .before .before .before .central .ensures .says) in
     let w = c .before .before .answer .given .0 .0 in
     record { says = c .number .ensures ∙ ap (λ (s : Said). s .number) e; leaves = c .before .before .before .before .before .before .central .ensures .leaves; gives-verdict = value-refused w 0 _ e; gives-length = value-refused w 1 _ e }
 
--- src/lib.rt:38:1
 same-length-2 : tie.Need-same-length-2
 same-length-2 c = search needs
 
--- src/lib.rt:38:1
 returns-2 : tie.Need-returns-2
 returns-2 c =
     let e = rw (c .before .before .answer2 .given .1) at (c .before .before .before .before .before .before .central .ensures .says) in

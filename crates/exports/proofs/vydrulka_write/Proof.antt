@@ -1,49 +1,36 @@
--- proof
-use native.Mathlib.Omega.{arith}
+-- The call's own promise, and the values that its answer holds. Assumes nothing.
 use borrow.Author.Needs.{needs}
-use mathlib.Core.Path.{_≡_, refl, sym, ap, _∙_}
+use mathlib.Core.Path.{ap, _∙_}
 use mathlib.Core.List.{[], _∷_}
-use Rattle.answers.specs.Said.{Said, verdictNumber}
+use Rattle.answers.specs.Said.{Said}
 use Rattle.exports.proofs.Values.{value-refused, value-accepted}
 use Rattle.exports.proofs.vydrulka_write.Statement.{statement}
 use Rattle.exports.proofs.vydrulka_write.Tie as tie
-use Rattle.exports.proofs.vydrulka_write.Reads as reads
-use Rattle.exports.proofs.vydrulka_write.Lts as lts
-use Rattle.answers.proofs.Refusal.number.Reads as number-reads
-use Rattle.rules.proofs.write.Reads as write-reads
 
--- src/lib.rt:28:9
 write-requires : tie.Need-write-requires
 write-requires c κs = search needs
 
--- src/lib.rt:30:30
 enum-known-answer : tie.Need-enum-known-answer
 enum-known-answer c = search needs
 
--- src/lib.rt:30:38
 number-requires : tie.Need-number-requires
 number-requires c κs = search needs
 
--- src/lib.rt:31:30
 enum-known-answer-2 : tie.Need-enum-known-answer-2
 enum-known-answer-2 c = search needs
 
--- src/lib.rt:24:1
 same-length : tie.Need-same-length
 same-length c = search needs
 
--- src/lib.rt:24:1
 returns : tie.Need-returns
 returns c =
     let e = rw (c .before .before .answer .given .1) at (c .before .before .before .before .before .before .write .ensures .says) in
     let w = c .before .before .answer .given .0 .0 in
     record { says = c .number .ensures ∙ ap (λ (s : Said). s .number) e; leaves = c .before .before .before .before .before .before .write .ensures .leaves; gives-length = value-refused w 0 _ e }
 
--- src/lib.rt:24:1
 same-length-2 : tie.Need-same-length-2
 same-length-2 c = search needs
 
--- src/lib.rt:24:1
 returns-2 : tie.Need-returns-2
 returns-2 c =
     let e = rw (c .before .answer2 .given .1) at (c .before .before .before .before .before .write .ensures .says) in

@@ -1,4 +1,5 @@
--- proof
+-- At each turn an operand stands at `at` that ends where the formula does (`Walked`). A left operand is measured by the
+-- function itself, on fewer bytes; the loop's measure is the bytes left. Assumes nothing.
 use native.Mathlib.Omega.{arith}
 use borrow.Author.Needs.{needs}
 use mathlib.Core.Path.{_≡_, sym, _∙_}
@@ -37,88 +38,73 @@ operand-end-μ-loop s at₀ n₀ at n = length s - at
 abbrev operand-end-calls : ℕ → operand-end-lts.Claims
 operand-end-calls t = (operands-reads.Asked, operands-reads.Learnt, operand-end-below t, operand-end.Post)
 
--- src/lib.rt:21:26
 operand-end-shared-slice-read-operands : (t : ℕ) → operand-end-lts.Need-shared-slice-read-operands (operand-end-calls t) (operand-end-at t) operand-end.Post operand-end-Inv-loop operand-end-μ-loop
 operand-end-shared-slice-read-operands t c = walked-bound (c .before .before .args .s .now) 0 (walked-start (c .before .before .args .s .now) (c .before .before .pre .1))
 
--- src/lib.rt:21:9
 operand-end-operands-requires : (t : ℕ) → operand-end-lts.Need-operands-requires (operand-end-calls t) (operand-end-at t) operand-end.Post operand-end-Inv-loop operand-end-μ-loop
 operand-end-operands-requires t c κs = search needs
 
--- src/lib.rt:22:5
 operand-end-loop-holds : (t : ℕ) → operand-end-lts.Need-loop-holds (operand-end-calls t) (operand-end-at t) operand-end.Post operand-end-Inv-loop operand-end-μ-loop
 operand-end-loop-holds t c = (walked-start (c .before .before .before .args .s .now) (c .before .before .before .pre .1), c .operands .ensures)
 
--- src/lib.rt:23:9
 operand-end-add-at : (t : ℕ) → operand-end-lts.Need-add-at (operand-end-calls t) (operand-end-at t) operand-end.Post operand-end-Inv-loop operand-end-μ-loop
 operand-end-add-at t c = let b = walked-bound (c .before .before .before .before .before .args .s .now) (c .before .loop .at) (c .before .loop .inv .0) in omega arith
 
--- src/lib.rt:25:31
 operand-end-sub-operand-end : (t : ℕ) → operand-end-lts.Need-sub-operand-end (operand-end-calls t) (operand-end-at t) operand-end.Post operand-end-Inv-loop operand-end-μ-loop
 operand-end-sub-operand-end t c = let b = walked-bound (c .before .before .before .before .before .before .args .s .now) (c .before .before .loop .at) (c .before .before .loop .inv .0) in omega arith
 
--- src/lib.rt:25:31
 operand-end-part-operand-end-start : (t : ℕ) → operand-end-lts.Need-part-operand-end-start (operand-end-calls t) (operand-end-at t) operand-end.Post operand-end-Inv-loop operand-end-μ-loop
 operand-end-part-operand-end-start t c = let b = walked-bound (c .before .before .before .before .before .before .args .s .now) (c .before .before .loop .at) (c .before .before .loop .inv .0) in omega arith
 
--- src/lib.rt:25:31
 operand-end-part-operand-end-end : (t : ℕ) → operand-end-lts.Need-part-operand-end-end (operand-end-calls t) (operand-end-at t) operand-end.Post operand-end-Inv-loop operand-end-μ-loop
 operand-end-part-operand-end-end t c = let b = walked-bound (c .before .before .before .before .before .before .args .s .now) (c .before .before .loop .at) (c .before .before .loop .inv .0) in omega arith
 
--- src/lib.rt:25:19
 operand-end-operand-end-requires : (t : ℕ) → operand-end-lts.Need-operand-end-requires (operand-end-calls t) (operand-end-at t) operand-end.Post operand-end-Inv-loop operand-end-μ-loop
-operand-end-operand-end-requires t c κs = 
+operand-end-operand-end-requires t c κs =
     let b = walked-bound (c .before .before .before .before .before .before .before .args .s .now) (c .before .before .before .loop .at) (c .before .before .before .loop .inv .0) in
     let l = tail-length (c .before .before .before .loop .at + 1) (c .before .before .before .before .before .before .before .args .s .now) in
     (let e = c .before .before .before .before .before .before .before .pre .0 in omega arith, walked-left (c .before .before .before .before .before .before .before .args .s .now) (c .before .before .before .loop .at) (c .before .before .before .loop .inv .0) (sym (c .before .if1 .taken) ∙ c .before .before .before .loop .inv .1))
 
--- src/lib.rt:25:13
 operand-end-add-at-2 : (t : ℕ) → operand-end-lts.Need-add-at-2 (operand-end-calls t) (operand-end-at t) operand-end.Post operand-end-Inv-loop operand-end-μ-loop
-operand-end-add-at-2 t c = 
+operand-end-add-at-2 t c =
     let n = walked-two (c .before .before .before .before .before .before .before .before .args .s .now) (c .before .before .before .before .loop .at) (c .before .before .before .before .loop .inv .0) (sym (c .before .before .if1 .taken) ∙ c .before .before .before .before .loop .inv .1) (c .operand-end .result) (c .operand-end .ensures) in
     let b = walked-bound (c .before .before .before .before .before .before .before .before .args .s .now) _ n in
     omega arith
 
--- src/lib.rt:27:22
 operand-end-shared-slice-read-operands-2 :
     (t : ℕ) → operand-end-lts.Need-shared-slice-read-operands-2 (operand-end-calls t) (operand-end-at t) operand-end.Post operand-end-Inv-loop operand-end-μ-loop
 operand-end-shared-slice-read-operands-2 t c =
     let n : Walked (c .before .before .before .before .before .before .before .args .s .now) (c .before .if1 .at) × (c .before .before .before .loop .at < c .before .if1 .at) =
-        ⊎-elim
-          (λ w. (rw (w .3) (walked-two (c .before .before .before .before .before .before .before .args .s .now) (c .before .before .before .loop .at) (c .before .before .before .loop .inv .0) (sym (w .0 .taken) ∙ c .before .before .before .loop .inv .1) (w .2 .result) (w .2 .ensures)), let e = w .3 in omega arith))
-          (λ w. (rw (w .1) (walked-one (c .before .before .before .before .before .before .before .args .s .now) (c .before .before .before .loop .at) (c .before .before .before .loop .inv .0) (λ e. c .before .before .loop-test .taken (c .before .before .before .loop .inv .1 ∙ sym e)) (λ e. w .0 .left (c .before .before .before .loop .inv .1 ∙ sym e))), let e = w .1 in omega arith))
-          (c .before .if1 .came) in
+    ⊎-elim
+    (λ w. (rw (w .3) (walked-two (c .before .before .before .before .before .before .before .args .s .now) (c .before .before .before .loop .at) (c .before .before .before .loop .inv .0) (sym (w .0 .taken) ∙ c .before .before .before .loop .inv .1) (w .2 .result) (w .2 .ensures)), let e = w .3 in omega arith))
+    (λ w. (rw (w .1) (walked-one (c .before .before .before .before .before .before .before .args .s .now) (c .before .before .before .loop .at) (c .before .before .before .loop .inv .0) (λ e. c .before .before .loop-test .taken (c .before .before .before .loop .inv .1 ∙ sym e)) (λ e. w .0 .left (c .before .before .before .loop .inv .1 ∙ sym e))), let e = w .1 in omega arith))
+    (c .before .if1 .came) in
     walked-bound (c .before .before .before .before .before .before .before .args .s .now) (c .before .if1 .at) (n .0)
 
--- src/lib.rt:27:9
 operand-end-operands-requires-2 : (t : ℕ) → operand-end-lts.Need-operands-requires-2 (operand-end-calls t) (operand-end-at t) operand-end.Post operand-end-Inv-loop operand-end-μ-loop
 operand-end-operands-requires-2 t c κs = search needs
 
--- src/lib.rt:22:5
 operand-end-loop-less : (t : ℕ) → operand-end-lts.Need-loop-less (operand-end-calls t) (operand-end-at t) operand-end.Post operand-end-Inv-loop operand-end-μ-loop
 operand-end-loop-less t c =
     let n : Walked (c .before .before .before .before .before .before .before .before .args .s .now) (c .before .before .if1 .at) × (c .before .before .before .before .loop .at < c .before .before .if1 .at) =
-        ⊎-elim
-          (λ w. (rw (w .3) (walked-two (c .before .before .before .before .before .before .before .before .args .s .now) (c .before .before .before .before .loop .at) (c .before .before .before .before .loop .inv .0) (sym (w .0 .taken) ∙ c .before .before .before .before .loop .inv .1) (w .2 .result) (w .2 .ensures)), let e = w .3 in omega arith))
-          (λ w. (rw (w .1) (walked-one (c .before .before .before .before .before .before .before .before .args .s .now) (c .before .before .before .before .loop .at) (c .before .before .before .before .loop .inv .0) (λ e. c .before .before .before .loop-test .taken (c .before .before .before .before .loop .inv .1 ∙ sym e)) (λ e. w .0 .left (c .before .before .before .before .loop .inv .1 ∙ sym e))), let e = w .1 in omega arith))
-          (c .before .before .if1 .came) in
+    ⊎-elim
+    (λ w. (rw (w .3) (walked-two (c .before .before .before .before .before .before .before .before .args .s .now) (c .before .before .before .before .loop .at) (c .before .before .before .before .loop .inv .0) (sym (w .0 .taken) ∙ c .before .before .before .before .loop .inv .1) (w .2 .result) (w .2 .ensures)), let e = w .3 in omega arith))
+    (λ w. (rw (w .1) (walked-one (c .before .before .before .before .before .before .before .before .args .s .now) (c .before .before .before .before .loop .at) (c .before .before .before .before .loop .inv .0) (λ e. c .before .before .before .loop-test .taken (c .before .before .before .before .loop .inv .1 ∙ sym e)) (λ e. w .0 .left (c .before .before .before .before .loop .inv .1 ∙ sym e))), let e = w .1 in omega arith))
+    (c .before .before .if1 .came) in
     let b = walked-bound (c .before .before .before .before .before .before .before .before .args .s .now) (c .before .before .if1 .at) (n .0) in omega arith
 
--- src/lib.rt:22:5
 operand-end-loop-again : (t : ℕ) → operand-end-lts.Need-loop-again (operand-end-calls t) (operand-end-at t) operand-end.Post operand-end-Inv-loop operand-end-μ-loop
 operand-end-loop-again t c =
     let n : Walked (c .before .before .before .before .before .before .before .before .args .s .now) (c .before .before .if1 .at) × (c .before .before .before .before .loop .at < c .before .before .if1 .at) =
-        ⊎-elim
-          (λ w. (rw (w .3) (walked-two (c .before .before .before .before .before .before .before .before .args .s .now) (c .before .before .before .before .loop .at) (c .before .before .before .before .loop .inv .0) (sym (w .0 .taken) ∙ c .before .before .before .before .loop .inv .1) (w .2 .result) (w .2 .ensures)), let e = w .3 in omega arith))
-          (λ w. (rw (w .1) (walked-one (c .before .before .before .before .before .before .before .before .args .s .now) (c .before .before .before .before .loop .at) (c .before .before .before .before .loop .inv .0) (λ e. c .before .before .before .loop-test .taken (c .before .before .before .before .loop .inv .1 ∙ sym e)) (λ e. w .0 .left (c .before .before .before .before .loop .inv .1 ∙ sym e))), let e = w .1 in omega arith))
-          (c .before .before .if1 .came) in
+    ⊎-elim
+    (λ w. (rw (w .3) (walked-two (c .before .before .before .before .before .before .before .before .args .s .now) (c .before .before .before .before .loop .at) (c .before .before .before .before .loop .inv .0) (sym (w .0 .taken) ∙ c .before .before .before .before .loop .inv .1) (w .2 .result) (w .2 .ensures)), let e = w .3 in omega arith))
+    (λ w. (rw (w .1) (walked-one (c .before .before .before .before .before .before .before .before .args .s .now) (c .before .before .before .before .loop .at) (c .before .before .before .before .loop .inv .0) (λ e. c .before .before .before .loop-test .taken (c .before .before .before .before .loop .inv .1 ∙ sym e)) (λ e. w .0 .left (c .before .before .before .before .loop .inv .1 ∙ sym e))), let e = w .1 in omega arith))
+    (c .before .before .if1 .came) in
     (n .0, c .operands2 .ensures)
 
--- src/lib.rt:29:5
 operand-end-add-result : (t : ℕ) → operand-end-lts.Need-add-result (operand-end-calls t) (operand-end-at t) operand-end.Post operand-end-Inv-loop operand-end-μ-loop
 operand-end-add-result t c = let b = walked-bound (c .before .before .before .before .before .args .s .now) (c .before .loop .at) (c .before .loop .inv .0) in omega arith
 
--- src/lib.rt:16:1
 operand-end-returns : (t : ℕ) → operand-end-lts.Need-returns (operand-end-calls t) (operand-end-at t) operand-end.Post operand-end-Inv-loop operand-end-μ-loop
 operand-end-returns t c = walked-leaf (c .before .before .before .before .before .args .s .now) (c .before .loop .at) (c .before .loop .inv .0) (sym (c .loop-test .left) ∙ c .before .loop .inv .1)
 

@@ -1,12 +1,12 @@
--- proof
+-- The walk is on fewer bytes at each call: the measure is twice the bytes from `from` on, and one more for `resolve`,
+-- which hands its own formula on. Each way out is one law of proofs/Walks.antt. Assumes nothing.
 use native.Mathlib.Omega.{arith}
 use borrow.Author.Needs.{needs}
-use mathlib.Core.Path.{_≡_, refl, sym, ap, _∙_}
+use mathlib.Core.Path.{refl, sym, ap, _∙_}
 use mathlib.Core.List.{_++_}
 use Prim.Native.Nat.{ℕ, _+_, _-_, _*_, _<_}
 use lib.ListN.{length, length-set}
 use Rattle.lists.proofs.Parts.{tail-length}
-use Rattle.lists.specs.Runs.{tail}
 use Rattle.kinds.specs.declared.Join.the-variants.{And, Or}
 use Rattle.kinds.specs.declared.Binary.the-variants.{Joined}
 use Rattle.kinds.specs.declared.Kind.the-variants.{One, Two}
@@ -77,220 +77,173 @@ resolve-not-calls t = (resolve-below t, resolve.Post)
 abbrev resolve-pair-calls : ℕ → resolve-pair-lts.Claims
 resolve-pair-calls t = (resolve-below t, resolve.Post, operand-end-reads.Asked, operand-end-reads.Learnt, join-reads.Asked, join-reads.Learnt)
 
--- src/lib.rt:107:22
 resolve-slice-read-of : (t : ℕ) → resolve-lts.Need-slice-read-of (resolve-calls t) (resolve-at t) resolve.Post
 resolve-slice-read-of t c = let l = front-at (c .before .before .args .p .now) (c .before .before .args .from) (c .before .before .pre .1 .formula) (c .before .before .pre .1 .rest) (c .before .before .pre .1 .front) in omega arith
 
--- src/lib.rt:107:9
 resolve-of-requires : (t : ℕ) → resolve-lts.Need-of-requires (resolve-calls t) (resolve-at t) resolve.Post
 resolve-of-requires t c κs = tt
 
--- src/lib.rt:109:20
 resolve-enum-known-k : (t : ℕ) → resolve-lts.Need-enum-known-k (resolve-calls t) (resolve-at t) resolve.Post
 resolve-enum-known-k t c = search needs
 
--- src/lib.rt:110:20
 resolve-leaf-under-requires : (t : ℕ) → resolve-lts.Need-leaf-under-requires (resolve-calls t) (resolve-at t) resolve.Post
 resolve-leaf-under-requires t c κs = leaf-within (parts-at (c .before .before .before .before .before .before .args .p .now) (c .before .before .before .before .before .before .args .from) (c .before .before .before .before .before .before .pre .1 .formula) (c .before .before .before .before .before .before .pre .1 .rest) (c .before .before .before .before .before .before .pre .1 .front) (c .before .before .before .of .ensures) (c .before .k .given .1))
 
--- src/lib.rt:110:13
 resolve-slice-write-p : (t : ℕ) → resolve-lts.Need-slice-write-p (resolve-calls t) (resolve-at t) resolve.Post
 resolve-slice-write-p t c = let l = front-at (c .before .before .before .before .before .before .before .args .p .now) (c .before .before .before .before .before .before .before .args .from) (c .before .before .before .before .before .before .before .pre .1 .formula) (c .before .before .before .before .before .before .before .pre .1 .rest) (c .before .before .before .before .before .before .before .pre .1 .front) in omega arith
 
--- src/lib.rt:111:29
 resolve-add-t14 : (t : ℕ) → resolve-lts.Need-add-t14 (resolve-calls t) (resolve-at t) resolve.Post
 resolve-add-t14 t c = let l = front-at (c .before .before .before .before .before .before .before .args .p .now) (c .before .before .before .before .before .before .before .args .from) (c .before .before .before .before .before .before .before .pre .1 .formula) (c .before .before .before .before .before .before .before .pre .1 .rest) (c .before .before .before .before .before .before .before .pre .1 .front) in omega arith
 
--- src/lib.rt:113:19
 resolve-enum-known-k-2 : (t : ℕ) → resolve-lts.Need-enum-known-k-2 (resolve-calls t) (resolve-at t) resolve.Post
 resolve-enum-known-k-2 t c = search needs
 
--- src/lib.rt:114:39
 resolve-enum-told : (t : ℕ) → resolve-lts.Need-enum-told (resolve-calls t) (resolve-at t) resolve.Post
 resolve-enum-told t c = search needs
 
--- src/lib.rt:114:27
 resolve-resolve-not-requires : (t : ℕ) → resolve-lts.Need-resolve-not-requires (resolve-calls t) (resolve-at t) resolve.Post
 resolve-resolve-not-requires t c κs =
     let y = single (parts-at (c .before .before .before .before .before .before .before .before .before .args .p .now) (c .before .before .before .before .before .before .before .before .before .args .from) (c .before .before .before .before .before .before .before .before .before .pre .1 .formula) (c .before .before .before .before .before .before .before .before .before .pre .1 .rest) (c .before .before .before .before .before .before .before .before .before .pre .1 .front) (c .before .before .before .before .before .before .of .ensures) (c .before .before .before .before .k2 .given .1 ∙ ap One (c .before .enum-told .given .1))) in
     (let e = c .before .before .before .before .before .before .before .before .before .pre .0 in omega arith, record { formula = y .operand; rest = c .before .before .before .before .before .before .before .before .before .pre .1 .rest; front = operand-at (c .before .before .before .before .before .before .before .before .before .args .p .now) (c .before .before .before .before .before .before .before .before .before .args .from) (c .before .before .before .before .before .before .before .before .before .pre .1 .formula) (c .before .before .before .before .before .before .before .before .before .pre .1 .rest) (c .before .before .before .before .before .before .before .before .before .pre .1 .front) y })
 
--- src/lib.rt:115:33
 resolve-enum-told-2 : (t : ℕ) → resolve-lts.Need-enum-told-2 (resolve-calls t) (resolve-at t) resolve.Post
 resolve-enum-told-2 t c = search needs
 
--- src/lib.rt:115:36
 resolve-add-keep : (t : ℕ) → resolve-lts.Need-add-keep (resolve-calls t) (resolve-at t) resolve.Post
 resolve-add-keep t c = let l = front-at (c .before .before .before .before .before .before .before .before .before .args .p .now) (c .before .before .before .before .before .before .before .before .before .args .from) (c .before .before .before .before .before .before .before .before .before .pre .1 .formula) (c .before .before .before .before .before .before .before .before .before .pre .1 .rest) (c .before .before .before .before .before .before .before .before .before .pre .1 .front) in omega arith
 
--- src/lib.rt:115:28
 resolve-keep-requires : (t : ℕ) → resolve-lts.Need-keep-requires (resolve-calls t) (resolve-at t) resolve.Post
 resolve-keep-requires t c κs =
     let y = single (parts-at (c .before .before .before .before .before .before .before .before .before .args .p .now) (c .before .before .before .before .before .before .before .before .before .args .from) (c .before .before .before .before .before .before .before .before .before .pre .1 .formula) (c .before .before .before .before .before .before .before .before .before .pre .1 .rest) (c .before .before .before .before .before .before .before .before .before .pre .1 .front) (c .before .before .before .before .before .before .of .ensures) (c .before .before .before .before .k2 .given .1 ∙ ap One (c .before .enum-told2 .given .1))) in
     record { formula = y .operand; rest = c .before .before .before .before .before .before .before .before .before .pre .1 .rest; front = operand-at (c .before .before .before .before .before .before .before .before .before .args .p .now) (c .before .before .before .before .before .before .before .before .before .args .from) (c .before .before .before .before .before .before .before .before .before .pre .1 .formula) (c .before .before .before .before .before .before .before .before .before .pre .1 .rest) (c .before .before .before .before .before .before .before .before .before .pre .1 .front) y }
 
--- src/lib.rt:116:39
 resolve-enum-told-3 : (t : ℕ) → resolve-lts.Need-enum-told-3 (resolve-calls t) (resolve-at t) resolve.Post
 resolve-enum-told-3 t c = search needs
 
--- src/lib.rt:116:34
 resolve-keep-requires-2 : (t : ℕ) → resolve-lts.Need-keep-requires-2 (resolve-calls t) (resolve-at t) resolve.Post
 resolve-keep-requires-2 t c κs = c .before .before .before .before .before .before .before .before .before .pre .1
 
--- src/lib.rt:117:35
 resolve-enum-told-4 : (t : ℕ) → resolve-lts.Need-enum-told-4 (resolve-calls t) (resolve-at t) resolve.Post
 resolve-enum-told-4 t c = search needs
 
--- src/lib.rt:117:30
 resolve-keep-requires-3 : (t : ℕ) → resolve-lts.Need-keep-requires-3 (resolve-calls t) (resolve-at t) resolve.Post
 resolve-keep-requires-3 t c κs = c .before .before .before .before .before .before .before .before .before .pre .1
 
--- src/lib.rt:119:19
 resolve-enum-known-k-3 : (t : ℕ) → resolve-lts.Need-enum-known-k-3 (resolve-calls t) (resolve-at t) resolve.Post
 resolve-enum-known-k-3 t c = search needs
 
--- src/lib.rt:120:28
 resolve-enum-known-o : (t : ℕ) → resolve-lts.Need-enum-known-o (resolve-calls t) (resolve-at t) resolve.Post
 resolve-enum-known-o t c = search needs
 
--- src/lib.rt:121:43
 resolve-enum-told-5 : (t : ℕ) → resolve-lts.Need-enum-told-5 (resolve-calls t) (resolve-at t) resolve.Post
 resolve-enum-told-5 t c = search needs
 
--- src/lib.rt:121:30
 resolve-resolve-pair-requires : (t : ℕ) → resolve-lts.Need-resolve-pair-requires (resolve-calls t) (resolve-at t) resolve.Post
 resolve-resolve-pair-requires t c κs =
     let y = double (parts-at (c .before .before .before .before .before .before .before .before .before .before .before .before .args .p .now) (c .before .before .before .before .before .before .before .before .before .before .before .before .args .from) (c .before .before .before .before .before .before .before .before .before .before .before .before .pre .1 .formula) (c .before .before .before .before .before .before .before .before .before .before .before .before .pre .1 .rest) (c .before .before .before .before .before .before .before .before .before .before .before .before .pre .1 .front) (c .before .before .before .before .before .before .before .before .before .of .ensures) (c .before .before .before .before .before .before .before .k3 .given .1 ∙ ap Two (c .before .before .before .before .o .given .1 ∙ ap Joined (c .before .enum-told5 .given .1)))) in
     (let e = c .before .before .before .before .before .before .before .before .before .before .before .before .pre .0 in omega arith, record { j = And; f = y .left; g = y .right; rest = c .before .before .before .before .before .before .before .before .before .before .before .before .pre .1 .rest; pair = pair-at (c .before .before .before .before .before .before .before .before .before .before .before .before .args .p .now) (c .before .before .before .before .before .before .before .before .before .before .before .before .args .from) (c .before .before .before .before .before .before .before .before .before .before .before .before .pre .1 .formula) (c .before .before .before .before .before .before .before .before .before .before .before .before .pre .1 .rest) (c .before .before .before .before .before .before .before .before .before .before .before .before .pre .1 .front) y 3 0 refl refl })
 
--- src/lib.rt:122:42
 resolve-enum-told-6 : (t : ℕ) → resolve-lts.Need-enum-told-6 (resolve-calls t) (resolve-at t) resolve.Post
 resolve-enum-told-6 t c = search needs
 
--- src/lib.rt:122:29
 resolve-resolve-pair-requires-2 : (t : ℕ) → resolve-lts.Need-resolve-pair-requires-2 (resolve-calls t) (resolve-at t) resolve.Post
 resolve-resolve-pair-requires-2 t c κs =
     let y = double (parts-at (c .before .before .before .before .before .before .before .before .before .before .before .before .args .p .now) (c .before .before .before .before .before .before .before .before .before .before .before .before .args .from) (c .before .before .before .before .before .before .before .before .before .before .before .before .pre .1 .formula) (c .before .before .before .before .before .before .before .before .before .before .before .before .pre .1 .rest) (c .before .before .before .before .before .before .before .before .before .before .before .before .pre .1 .front) (c .before .before .before .before .before .before .before .before .before .of .ensures) (c .before .before .before .before .before .before .before .k3 .given .1 ∙ ap Two (c .before .before .before .before .o .given .1 ∙ ap Joined (c .before .enum-told6 .given .1)))) in
     (let e = c .before .before .before .before .before .before .before .before .before .before .before .before .pre .0 in omega arith, record { j = Or; f = y .left; g = y .right; rest = c .before .before .before .before .before .before .before .before .before .before .before .before .pre .1 .rest; pair = pair-at (c .before .before .before .before .before .before .before .before .before .before .before .before .args .p .now) (c .before .before .before .before .before .before .before .before .before .before .before .before .args .from) (c .before .before .before .before .before .before .before .before .before .before .before .before .pre .1 .formula) (c .before .before .before .before .before .before .before .before .before .before .before .before .pre .1 .rest) (c .before .before .before .before .before .before .before .before .before .before .before .before .pre .1 .front) y 4 1 refl refl })
 
--- src/lib.rt:124:35
 resolve-enum-told-7 : (t : ℕ) → resolve-lts.Need-enum-told-7 (resolve-calls t) (resolve-at t) resolve.Post
 resolve-enum-told-7 t c = search needs
 
--- src/lib.rt:124:30
 resolve-keep-requires-4 : (t : ℕ) → resolve-lts.Need-keep-requires-4 (resolve-calls t) (resolve-at t) resolve.Post
 resolve-keep-requires-4 t c κs = c .before .before .before .before .before .before .before .before .before .pre .1
 
--- src/lib.rt:127:25
 resolve-enum-told-8 : (t : ℕ) → resolve-lts.Need-enum-told-8 (resolve-calls t) (resolve-at t) resolve.Post
 resolve-enum-told-8 t c = search needs
 
--- src/lib.rt:103:1
 resolve-same-length : (t : ℕ) → resolve-lts.Need-same-length (resolve-calls t) (resolve-at t) resolve.Post
 resolve-same-length t c = length-set (c .before .before .before .before .before .before .before .args .p .now) 0 (c .leaf-under .result)
 
--- src/lib.rt:103:1
 resolve-returns : (t : ℕ) → resolve-lts.Need-returns (resolve-calls t) (resolve-at t) resolve.Post
 resolve-returns t c = λ f rest x. leaf-settles (c .before .before .before .before .before .before .before .args .seen) (c .before .before .before .before .before .before .before .args .p .now) (c .before .before .before .before .before .before .before .args .from) f rest x (parts-at (c .before .before .before .before .before .before .before .args .p .now) (c .before .before .before .before .before .before .before .args .from) f rest x (c .before .before .before .before .of .ensures) (c .before .before .k .given .1)) _ (c .leaf-under .ensures)
 
--- src/lib.rt:103:1
 resolve-same-length-2 : (t : ℕ) → resolve-lts.Need-same-length-2 (resolve-calls t) (resolve-at t) resolve.Post
 resolve-same-length-2 t c = c .before .before .resolve-not .kept .0
 
--- src/lib.rt:103:1
 resolve-returns-2 : (t : ℕ) → resolve-lts.Need-returns-2 (resolve-calls t) (resolve-at t) resolve.Post
 resolve-returns-2 t c = λ f rest x.
     let y = single (parts-at (c .before .before .before .before .before .before .before .before .before .before .before .before .args .p .now) (c .before .before .before .before .before .before .before .before .before .before .before .before .args .from) f rest x (c .before .before .before .before .before .before .before .before .before .of .ensures) (c .before .before .before .before .before .before .before .k2 .given .1 ∙ ap One (c .before .before .before .before .enum-told .given .1))) in
     let z = ap size (y .same) in
     settles-read (ap (settled (c .before .before .before .before .before .before .before .before .before .before .before .before .args .seen)) (y .same)) (omega arith) (c .before .before .resolve-not .ensures (y .operand) rest (operand-at (c .before .before .before .before .before .before .before .before .before .before .before .before .args .p .now) (c .before .before .before .before .before .before .before .before .before .before .before .before .args .from) f rest x y))
 
--- src/lib.rt:103:1
 resolve-same-length-3 : (t : ℕ) → resolve-lts.Need-same-length-3 (resolve-calls t) (resolve-at t) resolve.Post
 resolve-same-length-3 t c = c .before .before .keep .kept .0
 
--- src/lib.rt:103:1
 resolve-returns-3 : (t : ℕ) → resolve-lts.Need-returns-3 (resolve-calls t) (resolve-at t) resolve.Post
 resolve-returns-3 t c = λ f rest x.
     let y = single (parts-at (c .before .before .before .before .before .before .before .before .before .before .before .before .args .p .now) (c .before .before .before .before .before .before .before .before .before .before .before .before .args .from) f rest x (c .before .before .before .before .before .before .before .before .before .of .ensures) (c .before .before .before .before .before .before .before .k2 .given .1 ∙ ap One (c .before .before .before .before .enum-told2 .given .1))) in
     let z = ap size (y .same) in
     settles-read (ap (settled (c .before .before .before .before .before .before .before .before .before .before .before .before .args .seen)) (y .same)) (omega arith) (c .before .before .keep .ensures (y .operand) rest (operand-at (c .before .before .before .before .before .before .before .before .before .before .before .before .args .p .now) (c .before .before .before .before .before .before .before .before .before .before .before .before .args .from) f rest x y))
 
--- src/lib.rt:103:1
 resolve-same-length-4 : (t : ℕ) → resolve-lts.Need-same-length-4 (resolve-calls t) (resolve-at t) resolve.Post
 resolve-same-length-4 t c = c .before .before .keep2 .kept .0
 
--- src/lib.rt:103:1
 resolve-returns-4 : (t : ℕ) → resolve-lts.Need-returns-4 (resolve-calls t) (resolve-at t) resolve.Post
 resolve-returns-4 t c = λ f rest x.
     let y = single (parts-at (c .before .before .before .before .before .before .before .before .before .before .before .before .args .p .now) (c .before .before .before .before .before .before .before .before .before .before .before .before .args .from) f rest x (c .before .before .before .before .before .before .before .before .before .of .ensures) (c .before .before .before .before .before .before .before .k2 .given .1 ∙ ap One (c .before .before .before .before .enum-told3 .given .1))) in
     settles-read (ap (settled (c .before .before .before .before .before .before .before .before .before .before .before .before .args .seen)) (y .same) ∙ sym (y .same)) refl (c .before .before .keep2 .ensures f rest x)
 
--- src/lib.rt:103:1
 resolve-same-length-5 : (t : ℕ) → resolve-lts.Need-same-length-5 (resolve-calls t) (resolve-at t) resolve.Post
 resolve-same-length-5 t c = c .before .before .keep3 .kept .0
 
--- src/lib.rt:103:1
 resolve-returns-5 : (t : ℕ) → resolve-lts.Need-returns-5 (resolve-calls t) (resolve-at t) resolve.Post
 resolve-returns-5 t c = λ f rest x.
     let y = single (parts-at (c .before .before .before .before .before .before .before .before .before .before .before .before .args .p .now) (c .before .before .before .before .before .before .before .before .before .before .before .before .args .from) f rest x (c .before .before .before .before .before .before .before .before .before .of .ensures) (c .before .before .before .before .before .before .before .k2 .given .1 ∙ ap One (c .before .before .before .before .enum-told4 .given .1))) in
     settles-read (ap (settled (c .before .before .before .before .before .before .before .before .before .before .before .before .args .seen)) (y .same) ∙ sym (y .same)) refl (c .before .before .keep3 .ensures f rest x)
 
--- src/lib.rt:103:1
 resolve-same-length-6 : (t : ℕ) → resolve-lts.Need-same-length-6 (resolve-calls t) (resolve-at t) resolve.Post
 resolve-same-length-6 t c = c .before .before .resolve-pair .kept .0
 
--- src/lib.rt:103:1
 resolve-returns-6 : (t : ℕ) → resolve-lts.Need-returns-6 (resolve-calls t) (resolve-at t) resolve.Post
 resolve-returns-6 t c = λ f rest x.
     let y = double (parts-at (c .before .before .before .before .before .before .before .before .before .before .before .before .before .before .before .args .p .now) (c .before .before .before .before .before .before .before .before .before .before .before .before .before .before .before .args .from) f rest x (c .before .before .before .before .before .before .before .before .before .before .before .before .of .ensures) (c .before .before .before .before .before .before .before .before .before .before .k3 .given .1 ∙ ap Two (c .before .before .before .before .before .before .before .o .given .1 ∙ ap Joined (c .before .before .before .before .enum-told5 .given .1)))) in
     let z = ap size (y .same) in
     settles-read (ap (settled (c .before .before .before .before .before .before .before .before .before .before .before .before .before .before .before .args .seen)) (y .same)) (omega arith) (c .before .before .resolve-pair .ensures And (y .left) (y .right) rest (pair-at (c .before .before .before .before .before .before .before .before .before .before .before .before .before .before .before .args .p .now) (c .before .before .before .before .before .before .before .before .before .before .before .before .before .before .before .args .from) f rest x y 3 0 refl refl))
 
--- src/lib.rt:103:1
 resolve-same-length-7 : (t : ℕ) → resolve-lts.Need-same-length-7 (resolve-calls t) (resolve-at t) resolve.Post
 resolve-same-length-7 t c = c .before .before .resolve-pair2 .kept .0
 
--- src/lib.rt:103:1
 resolve-returns-7 : (t : ℕ) → resolve-lts.Need-returns-7 (resolve-calls t) (resolve-at t) resolve.Post
 resolve-returns-7 t c = λ f rest x.
     let y = double (parts-at (c .before .before .before .before .before .before .before .before .before .before .before .before .before .before .before .args .p .now) (c .before .before .before .before .before .before .before .before .before .before .before .before .before .before .before .args .from) f rest x (c .before .before .before .before .before .before .before .before .before .before .before .before .of .ensures) (c .before .before .before .before .before .before .before .before .before .before .k3 .given .1 ∙ ap Two (c .before .before .before .before .before .before .before .o .given .1 ∙ ap Joined (c .before .before .before .before .enum-told6 .given .1)))) in
     let z = ap size (y .same) in
     settles-read (ap (settled (c .before .before .before .before .before .before .before .before .before .before .before .before .before .before .before .args .seen)) (y .same)) (omega arith) (c .before .before .resolve-pair2 .ensures Or (y .left) (y .right) rest (pair-at (c .before .before .before .before .before .before .before .before .before .before .before .before .before .before .before .args .p .now) (c .before .before .before .before .before .before .before .before .before .before .before .before .before .before .before .args .from) f rest x y 4 1 refl refl))
 
--- src/lib.rt:103:1
 resolve-same-length-8 : (t : ℕ) → resolve-lts.Need-same-length-8 (resolve-calls t) (resolve-at t) resolve.Post
 resolve-same-length-8 t c = c .before .before .keep4 .kept .0
 
--- src/lib.rt:103:1
 resolve-returns-8 : (t : ℕ) → resolve-lts.Need-returns-8 (resolve-calls t) (resolve-at t) resolve.Post
 resolve-returns-8 t c = λ f rest x.
     let y = double (parts-at (c .before .before .before .before .before .before .before .before .before .before .before .before .args .p .now) (c .before .before .before .before .before .before .before .before .before .before .before .before .args .from) f rest x (c .before .before .before .before .before .before .before .before .before .of .ensures) (c .before .before .before .before .before .before .before .k3 .given .1 ∙ ap Two (c .before .before .before .before .enum-told7 .given .1))) in
     settles-read (ap (settled (c .before .before .before .before .before .before .before .before .before .before .before .before .args .seen)) (y .same) ∙ sym (y .same)) refl (c .before .before .keep4 .ensures f rest x)
 
--- src/lib.rt:103:1
 resolve-returns-9 : (t : ℕ) → resolve-lts.Need-returns-9 (resolve-calls t) (resolve-at t) resolve.Post
 resolve-returns-9 t c = λ f rest x. absurd (no-code (parts-at (c .before .before .before .before .before .args .p .now) (c .before .before .before .before .before .args .from) f rest x (c .before .before .of .ensures) (c .enum-told8 .given .1)))
 
--- src/lib.rt:136:21
 resolve-not-sub-resolve : (t : ℕ) → resolve-not-lts.Need-sub-resolve (resolve-not-calls t) (resolve-not-at t) resolve-not.Post
 resolve-not-sub-resolve t c = let l = front-at (c .before .args .p .now) (c .before .args .from + 1) (c .before .pre .1 .formula) (c .before .pre .1 .rest) (c .before .pre .1 .front) in omega arith
 
--- src/lib.rt:136:21
 resolve-not-part-resolve-start : (t : ℕ) → resolve-not-lts.Need-part-resolve-start (resolve-not-calls t) (resolve-not-at t) resolve-not.Post
 resolve-not-part-resolve-start t c = let l = front-at (c .before .args .p .now) (c .before .args .from + 1) (c .before .pre .1 .formula) (c .before .pre .1 .rest) (c .before .pre .1 .front) in omega arith
 
--- src/lib.rt:136:21
 resolve-not-part-resolve-end : (t : ℕ) → resolve-not-lts.Need-part-resolve-end (resolve-not-calls t) (resolve-not-at t) resolve-not.Post
 resolve-not-part-resolve-end t c = let l = front-at (c .before .args .p .now) (c .before .args .from + 1) (c .before .pre .1 .formula) (c .before .pre .1 .rest) (c .before .pre .1 .front) in omega arith
 
--- src/lib.rt:136:9
 resolve-not-resolve-requires : (t : ℕ) → resolve-not-lts.Need-resolve-requires (resolve-not-calls t) (resolve-not-at t) resolve-not.Post
 resolve-not-resolve-requires t c κs =
     let l = front-at (c .before .before .args .p .now) (c .before .before .args .from + 1) (c .before .before .pre .1 .formula) (c .before .before .pre .1 .rest) (c .before .before .pre .1 .front) in
     let k = tail-length 1 (c .before .before .args .p .now) in
     (let e = c .before .before .pre .0 in omega arith, record { formula = c .before .before .pre .1 .formula; rest = c .before .before .pre .1 .rest; front = front-behind-first (c .before .before .args .p .now) (c .before .before .args .from) (c .before .before .pre .1 .formula) (c .before .before .pre .1 .rest) (c .before .before .pre .1 .front) })
 
--- src/lib.rt:138:19
 resolve-not-add-first :
     (t : ℕ) →
     resolve-not-lts.Need-add-first
@@ -304,7 +257,6 @@ resolve-not-add-first t c =
     let n = d .long in
     omega arith
 
--- src/lib.rt:138:17
 resolve-not-slice-read-first : (t : ℕ) → resolve-not-lts.Need-slice-read-first (resolve-not-calls t) (resolve-not-at t) resolve-not.Post
 resolve-not-slice-read-first t c =
     let d = operand-done (c .before .before .before .before .before .before .args .seen) (c .before .before .before .before .before .before .args .p .now) (c .before .before .before .resolve .last .0) (c .before .before .before .before .before .before .args .from) (c .before .before .before .resolve .result) (c .before .before .before .before .before .before .pre .1 .formula) (c .before .before .before .before .before .before .pre .1 .rest) (let l = front-at (c .before .before .before .before .before .before .args .p .now) (c .before .before .before .before .before .before .args .from + 1) (c .before .before .before .before .before .before .pre .1 .formula) (c .before .before .before .before .before .before .pre .1 .rest) (c .before .before .before .before .before .before .pre .1 .front) in omega arith) (c .before .before .before .resolve .ensures) (c .before .before .before .before .before .before .pre .1 .front) in
@@ -313,7 +265,6 @@ resolve-not-slice-read-first t c =
     let n = d .long in
     omega arith
 
--- src/lib.rt:140:16
 resolve-not-sub-p :
     (t : ℕ) →
     resolve-not-lts.Need-sub-p (resolve-not-calls t) (resolve-not-at t) resolve-not.Post
@@ -324,7 +275,6 @@ resolve-not-sub-p t c =
     let n = d .long in
     omega arith
 
--- src/lib.rt:140:9
 resolve-not-slice-write-p : (t : ℕ) → resolve-not-lts.Need-slice-write-p (resolve-not-calls t) (resolve-not-at t) resolve-not.Post
 resolve-not-slice-write-p t c =
     let d = operand-done (c .before .before .before .before .before .before .before .args .seen) (c .before .before .before .before .before .before .before .args .p .now) (c .before .before .before .before .resolve .last .0) (c .before .before .before .before .before .before .before .args .from) (c .before .before .before .before .resolve .result) (c .before .before .before .before .before .before .before .pre .1 .formula) (c .before .before .before .before .before .before .before .pre .1 .rest) (let l = front-at (c .before .before .before .before .before .before .before .args .p .now) (c .before .before .before .before .before .before .before .args .from + 1) (c .before .before .before .before .before .before .before .pre .1 .formula) (c .before .before .before .before .before .before .before .pre .1 .rest) (c .before .before .before .before .before .before .before .pre .1 .front) in omega arith) (c .before .before .before .before .resolve .ensures) (c .before .before .before .before .before .before .before .pre .1 .front) in
@@ -333,7 +283,6 @@ resolve-not-slice-write-p t c =
     let n = d .long in
     omega arith
 
--- src/lib.rt:141:32
 resolve-not-add-t16 :
     (t : ℕ) →
     resolve-not-lts.Need-add-t16
@@ -347,11 +296,9 @@ resolve-not-add-t16 t c =
     let n = d .long in
     omega arith
 
--- src/lib.rt:141:9
 resolve-not-same-length : (t : ℕ) → resolve-not-lts.Need-same-length (resolve-not-calls t) (resolve-not-at t) resolve-not.Post
 resolve-not-same-length t c = simp length-set (c .before .before .before .before .p .given .1)
 
--- src/lib.rt:141:9
 resolve-not-returns :
     (t : ℕ) →
     resolve-not-lts.Need-returns
@@ -360,7 +307,6 @@ resolve-not-returns :
     resolve-not.Post
 resolve-not-returns t c = λ f rest x. not-constant (c .before .before .before .before .before .before .before .before .args .seen) (c .before .before .before .before .before .before .before .before .args .p .now) (c .before .before .before .before .before .resolve .last .0) (c .before .before .before .before .before .before .before .before .args .from) (c .before .before .before .before .before .resolve .result) f rest (operand-done (c .before .before .before .before .before .before .before .before .args .seen) (c .before .before .before .before .before .before .before .before .args .p .now) (c .before .before .before .before .before .resolve .last .0) (c .before .before .before .before .before .before .before .before .args .from) (c .before .before .before .before .before .resolve .result) f rest (let l = front-at (c .before .before .before .before .before .before .before .before .args .p .now) (c .before .before .before .before .before .before .before .before .args .from + 1) f rest x in omega arith) (c .before .before .before .before .before .resolve .ensures) x) (c .before .if1 .taken)
 
--- src/lib.rt:143:5
 resolve-not-slice-write-p-2 : (t : ℕ) → resolve-not-lts.Need-slice-write-p-2 (resolve-not-calls t) (resolve-not-at t) resolve-not.Post
 resolve-not-slice-write-p-2 t c =
     let d = operand-done (c .before .before .before .before .before .before .before .args .seen) (c .before .before .before .before .before .before .before .args .p .now) (c .before .before .before .before .resolve .last .0) (c .before .before .before .before .before .before .before .args .from) (c .before .before .before .before .resolve .result) (c .before .before .before .before .before .before .before .pre .1 .formula) (c .before .before .before .before .before .before .before .pre .1 .rest) (let l = front-at (c .before .before .before .before .before .before .before .args .p .now) (c .before .before .before .before .before .before .before .args .from + 1) (c .before .before .before .before .before .before .before .pre .1 .formula) (c .before .before .before .before .before .before .before .pre .1 .rest) (c .before .before .before .before .before .before .before .pre .1 .front) in omega arith) (c .before .before .before .before .resolve .ensures) (c .before .before .before .before .before .before .before .pre .1 .front) in
@@ -369,7 +315,6 @@ resolve-not-slice-write-p-2 t c =
     let n = d .long in
     omega arith
 
--- src/lib.rt:144:21
 resolve-not-add-t8 :
     (t : ℕ) →
     resolve-not-lts.Need-add-t8
@@ -383,7 +328,6 @@ resolve-not-add-t8 t c =
     let n = d .long in
     omega arith
 
--- src/lib.rt:144:52
 resolve-not-add-t18 :
     (t : ℕ) →
     resolve-not-lts.Need-add-t18
@@ -397,11 +341,9 @@ resolve-not-add-t18 t c =
     let n = d .long in
     omega arith
 
--- src/lib.rt:132:1
 resolve-not-same-length-2 : (t : ℕ) → resolve-not-lts.Need-same-length-2 (resolve-not-calls t) (resolve-not-at t) resolve-not.Post
 resolve-not-same-length-2 t c = simp length-set (c .before .before .before .before .before .p .given .1)
 
--- src/lib.rt:132:1
 resolve-not-returns-2 :
     (t : ℕ) →
     resolve-not-lts.Need-returns-2
@@ -410,159 +352,132 @@ resolve-not-returns-2 :
     resolve-not.Post
 resolve-not-returns-2 t c = λ f rest x. not-pending (c .before .before .before .before .before .before .before .before .before .args .seen) (c .before .before .before .before .before .before .before .before .before .args .p .now) (c .before .before .before .before .before .before .resolve .last .0) (c .before .before .before .before .before .before .before .before .before .args .from) (c .before .before .before .before .before .before .resolve .result) f rest (operand-done (c .before .before .before .before .before .before .before .before .before .args .seen) (c .before .before .before .before .before .before .before .before .before .args .p .now) (c .before .before .before .before .before .before .resolve .last .0) (c .before .before .before .before .before .before .before .before .before .args .from) (c .before .before .before .before .before .before .resolve .result) f rest (let l = front-at (c .before .before .before .before .before .before .before .before .before .args .p .now) (c .before .before .before .before .before .before .before .before .before .args .from + 1) f rest x in omega arith) (c .before .before .before .before .before .before .resolve .ensures) x) (c .before .before .if1 .left)
 
--- src/lib.rt:152:21
 resolve-pair-sub-resolve : (t : ℕ) → resolve-pair-lts.Need-sub-resolve (resolve-pair-calls t) (resolve-pair-at t) resolve-pair.Post
 resolve-pair-sub-resolve t c = let l = front-at (c .before .args .p .now) (c .before .args .from + 1) (c .before .pre .1 .f) (encode (c .before .pre .1 .g) ++ c .before .pre .1 .rest) (c .before .pre .1 .pair .left) in omega arith
 
--- src/lib.rt:152:21
 resolve-pair-part-resolve-start : (t : ℕ) → resolve-pair-lts.Need-part-resolve-start (resolve-pair-calls t) (resolve-pair-at t) resolve-pair.Post
 resolve-pair-part-resolve-start t c = let l = front-at (c .before .args .p .now) (c .before .args .from + 1) (c .before .pre .1 .f) (encode (c .before .pre .1 .g) ++ c .before .pre .1 .rest) (c .before .pre .1 .pair .left) in omega arith
 
--- src/lib.rt:152:21
 resolve-pair-part-resolve-end : (t : ℕ) → resolve-pair-lts.Need-part-resolve-end (resolve-pair-calls t) (resolve-pair-at t) resolve-pair.Post
 resolve-pair-part-resolve-end t c = let l = front-at (c .before .args .p .now) (c .before .args .from + 1) (c .before .pre .1 .f) (encode (c .before .pre .1 .g) ++ c .before .pre .1 .rest) (c .before .pre .1 .pair .left) in omega arith
 
--- src/lib.rt:152:9
 resolve-pair-resolve-requires : (t : ℕ) → resolve-pair-lts.Need-resolve-requires (resolve-pair-calls t) (resolve-pair-at t) resolve-pair.Post
 resolve-pair-resolve-requires t c κs =
     let l = front-at (c .before .before .args .p .now) (c .before .before .args .from + 1) (c .before .before .pre .1 .f) (encode (c .before .before .pre .1 .g) ++ c .before .before .pre .1 .rest) (c .before .before .pre .1 .pair .left) in
     let k = tail-length 1 (c .before .before .args .p .now) in
     (let e = c .before .before .pre .0 in omega arith, record { formula = c .before .before .pre .1 .f; rest = encode (c .before .before .pre .1 .g) ++ c .before .before .pre .1 .rest; front = front-behind-first (c .before .before .args .p .now) (c .before .before .args .from) (c .before .before .pre .1 .f) (encode (c .before .before .pre .1 .g) ++ c .before .before .pre .1 .rest) (c .before .before .pre .1 .pair .left) })
 
--- src/lib.rt:153:17
 resolve-pair-add-start : (t : ℕ) → resolve-pair-lts.Need-add-start (resolve-pair-calls t) (resolve-pair-at t) resolve-pair.Post
 resolve-pair-add-start t c =
     let l = lengths (c .before .before .before .before .before .before .args .seen) (c .before .before .before .before .before .before .args .p .now) (c .before .before .before .resolve .last .0) (c .before .before .before .before .before .before .args .from) (c .before .before .before .resolve .result) (c .before .before .before .before .before .before .args .op) (c .before .before .before .before .before .before .args .decide) (c .before .before .before .before .before .before .pre .1 .j) (c .before .before .before .before .before .before .pre .1 .f) (c .before .before .before .before .before .before .pre .1 .g) (c .before .before .before .before .before .before .pre .1 .rest) (c .before .before .before .before .before .before .pre .1 .pair) (operand-done (c .before .before .before .before .before .before .args .seen) (c .before .before .before .before .before .before .args .p .now) (c .before .before .before .resolve .last .0) (c .before .before .before .before .before .before .args .from) (c .before .before .before .resolve .result) (c .before .before .before .before .before .before .pre .1 .f) (encode (c .before .before .before .before .before .before .pre .1 .g) ++ (c .before .before .before .before .before .before .pre .1 .rest)) (let l = front-at (c .before .before .before .before .before .before .args .p .now) (c .before .before .before .before .before .before .args .from + 1) (c .before .before .before .before .before .before .pre .1 .f) (encode (c .before .before .before .before .before .before .pre .1 .g) ++ (c .before .before .before .before .before .before .pre .1 .rest)) ((c .before .before .before .before .before .before .pre .1 .pair) .left) in omega arith) (c .before .before .before .resolve .ensures) ((c .before .before .before .before .before .before .pre .1 .pair) .left)) in
     let k = c .before .before .p .given .1 in
     omega arith
 
--- src/lib.rt:154:15
 resolve-pair-add-end : (t : ℕ) → resolve-pair-lts.Need-add-end (resolve-pair-calls t) (resolve-pair-at t) resolve-pair.Post
 resolve-pair-add-end t c =
     let l = lengths (c .before .before .before .before .before .before .before .args .seen) (c .before .before .before .before .before .before .before .args .p .now) (c .before .before .before .before .resolve .last .0) (c .before .before .before .before .before .before .before .args .from) (c .before .before .before .before .resolve .result) (c .before .before .before .before .before .before .before .args .op) (c .before .before .before .before .before .before .before .args .decide) (c .before .before .before .before .before .before .before .pre .1 .j) (c .before .before .before .before .before .before .before .pre .1 .f) (c .before .before .before .before .before .before .before .pre .1 .g) (c .before .before .before .before .before .before .before .pre .1 .rest) (c .before .before .before .before .before .before .before .pre .1 .pair) (operand-done (c .before .before .before .before .before .before .before .args .seen) (c .before .before .before .before .before .before .before .args .p .now) (c .before .before .before .before .resolve .last .0) (c .before .before .before .before .before .before .before .args .from) (c .before .before .before .before .resolve .result) (c .before .before .before .before .before .before .before .pre .1 .f) (encode (c .before .before .before .before .before .before .before .pre .1 .g) ++ (c .before .before .before .before .before .before .before .pre .1 .rest)) (let l = front-at (c .before .before .before .before .before .before .before .args .p .now) (c .before .before .before .before .before .before .before .args .from + 1) (c .before .before .before .before .before .before .before .pre .1 .f) (encode (c .before .before .before .before .before .before .before .pre .1 .g) ++ (c .before .before .before .before .before .before .before .pre .1 .rest)) ((c .before .before .before .before .before .before .before .pre .1 .pair) .left) in omega arith) (c .before .before .before .before .resolve .ensures) ((c .before .before .before .before .before .before .before .pre .1 .pair) .left)) in
     let k = c .before .before .before .p .given .1 in
     omega arith
 
--- src/lib.rt:155:16
 resolve-pair-add-next : (t : ℕ) → resolve-pair-lts.Need-add-next (resolve-pair-calls t) (resolve-pair-at t) resolve-pair.Post
 resolve-pair-add-next t c =
     let l = lengths (c .before .before .before .before .before .before .before .before .args .seen) (c .before .before .before .before .before .before .before .before .args .p .now) (c .before .before .before .before .before .resolve .last .0) (c .before .before .before .before .before .before .before .before .args .from) (c .before .before .before .before .before .resolve .result) (c .before .before .before .before .before .before .before .before .args .op) (c .before .before .before .before .before .before .before .before .args .decide) (c .before .before .before .before .before .before .before .before .pre .1 .j) (c .before .before .before .before .before .before .before .before .pre .1 .f) (c .before .before .before .before .before .before .before .before .pre .1 .g) (c .before .before .before .before .before .before .before .before .pre .1 .rest) (c .before .before .before .before .before .before .before .before .pre .1 .pair) (operand-done (c .before .before .before .before .before .before .before .before .args .seen) (c .before .before .before .before .before .before .before .before .args .p .now) (c .before .before .before .before .before .resolve .last .0) (c .before .before .before .before .before .before .before .before .args .from) (c .before .before .before .before .before .resolve .result) (c .before .before .before .before .before .before .before .before .pre .1 .f) (encode (c .before .before .before .before .before .before .before .before .pre .1 .g) ++ (c .before .before .before .before .before .before .before .before .pre .1 .rest)) (let l = front-at (c .before .before .before .before .before .before .before .before .args .p .now) (c .before .before .before .before .before .before .before .before .args .from + 1) (c .before .before .before .before .before .before .before .before .pre .1 .f) (encode (c .before .before .before .before .before .before .before .before .pre .1 .g) ++ (c .before .before .before .before .before .before .before .before .pre .1 .rest)) ((c .before .before .before .before .before .before .before .before .pre .1 .pair) .left) in omega arith) (c .before .before .before .before .before .resolve .ensures) ((c .before .before .before .before .before .before .before .before .pre .1 .pair) .left)) in
     let k = c .before .before .before .before .p .given .1 in
     omega arith
 
--- src/lib.rt:156:17
 resolve-pair-slice-read-first : (t : ℕ) → resolve-pair-lts.Need-slice-read-first (resolve-pair-calls t) (resolve-pair-at t) resolve-pair.Post
 resolve-pair-slice-read-first t c =
     let l = lengths (c .before .before .before .before .before .before .before .before .before .args .seen) (c .before .before .before .before .before .before .before .before .before .args .p .now) (c .before .before .before .before .before .before .resolve .last .0) (c .before .before .before .before .before .before .before .before .before .args .from) (c .before .before .before .before .before .before .resolve .result) (c .before .before .before .before .before .before .before .before .before .args .op) (c .before .before .before .before .before .before .before .before .before .args .decide) (c .before .before .before .before .before .before .before .before .before .pre .1 .j) (c .before .before .before .before .before .before .before .before .before .pre .1 .f) (c .before .before .before .before .before .before .before .before .before .pre .1 .g) (c .before .before .before .before .before .before .before .before .before .pre .1 .rest) (c .before .before .before .before .before .before .before .before .before .pre .1 .pair) (operand-done (c .before .before .before .before .before .before .before .before .before .args .seen) (c .before .before .before .before .before .before .before .before .before .args .p .now) (c .before .before .before .before .before .before .resolve .last .0) (c .before .before .before .before .before .before .before .before .before .args .from) (c .before .before .before .before .before .before .resolve .result) (c .before .before .before .before .before .before .before .before .before .pre .1 .f) (encode (c .before .before .before .before .before .before .before .before .before .pre .1 .g) ++ (c .before .before .before .before .before .before .before .before .before .pre .1 .rest)) (let l = front-at (c .before .before .before .before .before .before .before .before .before .args .p .now) (c .before .before .before .before .before .before .before .before .before .args .from + 1) (c .before .before .before .before .before .before .before .before .before .pre .1 .f) (encode (c .before .before .before .before .before .before .before .before .before .pre .1 .g) ++ (c .before .before .before .before .before .before .before .before .before .pre .1 .rest)) ((c .before .before .before .before .before .before .before .before .before .pre .1 .pair) .left) in omega arith) (c .before .before .before .before .before .before .resolve .ensures) ((c .before .before .before .before .before .before .before .before .before .pre .1 .pair) .left)) in
     let k = c .before .before .before .before .before .p .given .1 in
     omega arith
 
--- src/lib.rt:158:36
 resolve-pair-sub-operand-end : (t : ℕ) → resolve-pair-lts.Need-sub-operand-end (resolve-pair-calls t) (resolve-pair-at t) resolve-pair.Post
 resolve-pair-sub-operand-end t c =
     let l = lengths (c .before .before .before .before .before .before .before .before .before .before .args .seen) (c .before .before .before .before .before .before .before .before .before .before .args .p .now) (c .before .before .before .before .before .before .before .resolve .last .0) (c .before .before .before .before .before .before .before .before .before .before .args .from) (c .before .before .before .before .before .before .before .resolve .result) (c .before .before .before .before .before .before .before .before .before .before .args .op) (c .before .before .before .before .before .before .before .before .before .before .args .decide) (c .before .before .before .before .before .before .before .before .before .before .pre .1 .j) (c .before .before .before .before .before .before .before .before .before .before .pre .1 .f) (c .before .before .before .before .before .before .before .before .before .before .pre .1 .g) (c .before .before .before .before .before .before .before .before .before .before .pre .1 .rest) (c .before .before .before .before .before .before .before .before .before .before .pre .1 .pair) (operand-done (c .before .before .before .before .before .before .before .before .before .before .args .seen) (c .before .before .before .before .before .before .before .before .before .before .args .p .now) (c .before .before .before .before .before .before .before .resolve .last .0) (c .before .before .before .before .before .before .before .before .before .before .args .from) (c .before .before .before .before .before .before .before .resolve .result) (c .before .before .before .before .before .before .before .before .before .before .pre .1 .f) (encode (c .before .before .before .before .before .before .before .before .before .before .pre .1 .g) ++ (c .before .before .before .before .before .before .before .before .before .before .pre .1 .rest)) (let l = front-at (c .before .before .before .before .before .before .before .before .before .before .args .p .now) (c .before .before .before .before .before .before .before .before .before .before .args .from + 1) (c .before .before .before .before .before .before .before .before .before .before .pre .1 .f) (encode (c .before .before .before .before .before .before .before .before .before .before .pre .1 .g) ++ (c .before .before .before .before .before .before .before .before .before .before .pre .1 .rest)) ((c .before .before .before .before .before .before .before .before .before .before .pre .1 .pair) .left) in omega arith) (c .before .before .before .before .before .before .before .resolve .ensures) ((c .before .before .before .before .before .before .before .before .before .before .pre .1 .pair) .left)) in
     let k = c .before .before .before .before .before .before .p .given .1 in
     omega arith
 
--- src/lib.rt:158:36
 resolve-pair-part-operand-end-start : (t : ℕ) → resolve-pair-lts.Need-part-operand-end-start (resolve-pair-calls t) (resolve-pair-at t) resolve-pair.Post
 resolve-pair-part-operand-end-start t c =
     let l = lengths (c .before .before .before .before .before .before .before .before .before .before .before .args .seen) (c .before .before .before .before .before .before .before .before .before .before .before .args .p .now) (c .before .before .before .before .before .before .before .before .resolve .last .0) (c .before .before .before .before .before .before .before .before .before .before .before .args .from) (c .before .before .before .before .before .before .before .before .resolve .result) (c .before .before .before .before .before .before .before .before .before .before .before .args .op) (c .before .before .before .before .before .before .before .before .before .before .before .args .decide) (c .before .before .before .before .before .before .before .before .before .before .before .pre .1 .j) (c .before .before .before .before .before .before .before .before .before .before .before .pre .1 .f) (c .before .before .before .before .before .before .before .before .before .before .before .pre .1 .g) (c .before .before .before .before .before .before .before .before .before .before .before .pre .1 .rest) (c .before .before .before .before .before .before .before .before .before .before .before .pre .1 .pair) (operand-done (c .before .before .before .before .before .before .before .before .before .before .before .args .seen) (c .before .before .before .before .before .before .before .before .before .before .before .args .p .now) (c .before .before .before .before .before .before .before .before .resolve .last .0) (c .before .before .before .before .before .before .before .before .before .before .before .args .from) (c .before .before .before .before .before .before .before .before .resolve .result) (c .before .before .before .before .before .before .before .before .before .before .before .pre .1 .f) (encode (c .before .before .before .before .before .before .before .before .before .before .before .pre .1 .g) ++ (c .before .before .before .before .before .before .before .before .before .before .before .pre .1 .rest)) (let l = front-at (c .before .before .before .before .before .before .before .before .before .before .before .args .p .now) (c .before .before .before .before .before .before .before .before .before .before .before .args .from + 1) (c .before .before .before .before .before .before .before .before .before .before .before .pre .1 .f) (encode (c .before .before .before .before .before .before .before .before .before .before .before .pre .1 .g) ++ (c .before .before .before .before .before .before .before .before .before .before .before .pre .1 .rest)) ((c .before .before .before .before .before .before .before .before .before .before .before .pre .1 .pair) .left) in omega arith) (c .before .before .before .before .before .before .before .before .resolve .ensures) ((c .before .before .before .before .before .before .before .before .before .before .before .pre .1 .pair) .left)) in
     let k = c .before .before .before .before .before .before .before .p .given .1 in
     omega arith
 
--- src/lib.rt:158:36
 resolve-pair-part-operand-end-end : (t : ℕ) → resolve-pair-lts.Need-part-operand-end-end (resolve-pair-calls t) (resolve-pair-at t) resolve-pair.Post
 resolve-pair-part-operand-end-end t c =
     let l = lengths (c .before .before .before .before .before .before .before .before .before .before .before .args .seen) (c .before .before .before .before .before .before .before .before .before .before .before .args .p .now) (c .before .before .before .before .before .before .before .before .resolve .last .0) (c .before .before .before .before .before .before .before .before .before .before .before .args .from) (c .before .before .before .before .before .before .before .before .resolve .result) (c .before .before .before .before .before .before .before .before .before .before .before .args .op) (c .before .before .before .before .before .before .before .before .before .before .before .args .decide) (c .before .before .before .before .before .before .before .before .before .before .before .pre .1 .j) (c .before .before .before .before .before .before .before .before .before .before .before .pre .1 .f) (c .before .before .before .before .before .before .before .before .before .before .before .pre .1 .g) (c .before .before .before .before .before .before .before .before .before .before .before .pre .1 .rest) (c .before .before .before .before .before .before .before .before .before .before .before .pre .1 .pair) (operand-done (c .before .before .before .before .before .before .before .before .before .before .before .args .seen) (c .before .before .before .before .before .before .before .before .before .before .before .args .p .now) (c .before .before .before .before .before .before .before .before .resolve .last .0) (c .before .before .before .before .before .before .before .before .before .before .before .args .from) (c .before .before .before .before .before .before .before .before .resolve .result) (c .before .before .before .before .before .before .before .before .before .before .before .pre .1 .f) (encode (c .before .before .before .before .before .before .before .before .before .before .before .pre .1 .g) ++ (c .before .before .before .before .before .before .before .before .before .before .before .pre .1 .rest)) (let l = front-at (c .before .before .before .before .before .before .before .before .before .before .before .args .p .now) (c .before .before .before .before .before .before .before .before .before .before .before .args .from + 1) (c .before .before .before .before .before .before .before .before .before .before .before .pre .1 .f) (encode (c .before .before .before .before .before .before .before .before .before .before .before .pre .1 .g) ++ (c .before .before .before .before .before .before .before .before .before .before .before .pre .1 .rest)) ((c .before .before .before .before .before .before .before .before .before .before .before .pre .1 .pair) .left) in omega arith) (c .before .before .before .before .before .before .before .before .resolve .ensures) ((c .before .before .before .before .before .before .before .before .before .before .before .pre .1 .pair) .left)) in
     let k = c .before .before .before .before .before .before .before .p .given .1 in
     omega arith
 
--- src/lib.rt:158:13
 resolve-pair-operand-end-requires : (t : ℕ) → resolve-pair-lts.Need-operand-end-requires (resolve-pair-calls t) (resolve-pair-at t) resolve-pair.Post
 resolve-pair-operand-end-requires t c κs = begins-tail (1 + c .before .before .before .before .before .before .before .before .before .resolve .result .next) (after-first (c .before .before .before .before .before .before .before .before .before .before .before .before .args .p .now) (c .before .before .before .before .before .before .before .before .before .resolve .last .0)) (c .before .before .before .before .before .before .before .before .before .before .before .before .pre .1 .g) (c .before .before .before .before .before .before .before .before .before .before .before .before .pre .1 .rest) (right-front (c .before .before .before .before .before .before .before .before .before .before .before .before .args .seen) (c .before .before .before .before .before .before .before .before .before .before .before .before .args .p .now) (c .before .before .before .before .before .before .before .before .before .resolve .last .0) (c .before .before .before .before .before .before .before .before .before .before .before .before .args .from) (c .before .before .before .before .before .before .before .before .before .resolve .result) (c .before .before .before .before .before .before .before .before .before .before .before .before .args .op) (c .before .before .before .before .before .before .before .before .before .before .before .before .args .decide) (c .before .before .before .before .before .before .before .before .before .before .before .before .pre .1 .j) (c .before .before .before .before .before .before .before .before .before .before .before .before .pre .1 .f) (c .before .before .before .before .before .before .before .before .before .before .before .before .pre .1 .g) (c .before .before .before .before .before .before .before .before .before .before .before .before .pre .1 .rest) (c .before .before .before .before .before .before .before .before .before .before .before .before .pre .1 .pair) (operand-done (c .before .before .before .before .before .before .before .before .before .before .before .before .args .seen) (c .before .before .before .before .before .before .before .before .before .before .before .before .args .p .now) (c .before .before .before .before .before .before .before .before .before .resolve .last .0) (c .before .before .before .before .before .before .before .before .before .before .before .before .args .from) (c .before .before .before .before .before .before .before .before .before .resolve .result) (c .before .before .before .before .before .before .before .before .before .before .before .before .pre .1 .f) (encode (c .before .before .before .before .before .before .before .before .before .before .before .before .pre .1 .g) ++ (c .before .before .before .before .before .before .before .before .before .before .before .before .pre .1 .rest)) (let l = front-at (c .before .before .before .before .before .before .before .before .before .before .before .before .args .p .now) (c .before .before .before .before .before .before .before .before .before .before .before .before .args .from + 1) (c .before .before .before .before .before .before .before .before .before .before .before .before .pre .1 .f) (encode (c .before .before .before .before .before .before .before .before .before .before .before .before .pre .1 .g) ++ (c .before .before .before .before .before .before .before .before .before .before .before .before .pre .1 .rest)) ((c .before .before .before .before .before .before .before .before .before .before .before .before .pre .1 .pair) .left) in omega arith) (c .before .before .before .before .before .before .before .before .before .resolve .ensures) ((c .before .before .before .before .before .before .before .before .before .before .before .before .pre .1 .pair) .left)))
 
--- src/lib.rt:159:9
 resolve-pair-slice-write-p : (t : ℕ) → resolve-pair-lts.Need-slice-write-p (resolve-pair-calls t) (resolve-pair-at t) resolve-pair.Post
 resolve-pair-slice-write-p t c =
     let l = lengths (c .before .before .before .before .before .before .before .before .before .before .before .before .before .args .seen) (c .before .before .before .before .before .before .before .before .before .before .before .before .before .args .p .now) (c .before .before .before .before .before .before .before .before .before .before .resolve .last .0) (c .before .before .before .before .before .before .before .before .before .before .before .before .before .args .from) (c .before .before .before .before .before .before .before .before .before .before .resolve .result) (c .before .before .before .before .before .before .before .before .before .before .before .before .before .args .op) (c .before .before .before .before .before .before .before .before .before .before .before .before .before .args .decide) (c .before .before .before .before .before .before .before .before .before .before .before .before .before .pre .1 .j) (c .before .before .before .before .before .before .before .before .before .before .before .before .before .pre .1 .f) (c .before .before .before .before .before .before .before .before .before .before .before .before .before .pre .1 .g) (c .before .before .before .before .before .before .before .before .before .before .before .before .before .pre .1 .rest) (c .before .before .before .before .before .before .before .before .before .before .before .before .before .pre .1 .pair) (operand-done (c .before .before .before .before .before .before .before .before .before .before .before .before .before .args .seen) (c .before .before .before .before .before .before .before .before .before .before .before .before .before .args .p .now) (c .before .before .before .before .before .before .before .before .before .before .resolve .last .0) (c .before .before .before .before .before .before .before .before .before .before .before .before .before .args .from) (c .before .before .before .before .before .before .before .before .before .before .resolve .result) (c .before .before .before .before .before .before .before .before .before .before .before .before .before .pre .1 .f) (encode (c .before .before .before .before .before .before .before .before .before .before .before .before .before .pre .1 .g) ++ (c .before .before .before .before .before .before .before .before .before .before .before .before .before .pre .1 .rest)) (let l = front-at (c .before .before .before .before .before .before .before .before .before .before .before .before .before .args .p .now) (c .before .before .before .before .before .before .before .before .before .before .before .before .before .args .from + 1) (c .before .before .before .before .before .before .before .before .before .before .before .before .before .pre .1 .f) (encode (c .before .before .before .before .before .before .before .before .before .before .before .before .before .pre .1 .g) ++ (c .before .before .before .before .before .before .before .before .before .before .before .before .before .pre .1 .rest)) ((c .before .before .before .before .before .before .before .before .before .before .before .before .before .pre .1 .pair) .left) in omega arith) (c .before .before .before .before .before .before .before .before .before .before .resolve .ensures) ((c .before .before .before .before .before .before .before .before .before .before .before .before .before .pre .1 .pair) .left)) in
     let k = c .before .before .before .before .before .before .before .before .before .p .given .1 in
     omega arith
 
--- src/lib.rt:160:32
 resolve-pair-add-t21 : (t : ℕ) → resolve-pair-lts.Need-add-t21 (resolve-pair-calls t) (resolve-pair-at t) resolve-pair.Post
 resolve-pair-add-t21 t c =
     let l = lengths (c .before .before .before .before .before .before .before .before .before .before .before .before .before .args .seen) (c .before .before .before .before .before .before .before .before .before .before .before .before .before .args .p .now) (c .before .before .before .before .before .before .before .before .before .before .resolve .last .0) (c .before .before .before .before .before .before .before .before .before .before .before .before .before .args .from) (c .before .before .before .before .before .before .before .before .before .before .resolve .result) (c .before .before .before .before .before .before .before .before .before .before .before .before .before .args .op) (c .before .before .before .before .before .before .before .before .before .before .before .before .before .args .decide) (c .before .before .before .before .before .before .before .before .before .before .before .before .before .pre .1 .j) (c .before .before .before .before .before .before .before .before .before .before .before .before .before .pre .1 .f) (c .before .before .before .before .before .before .before .before .before .before .before .before .before .pre .1 .g) (c .before .before .before .before .before .before .before .before .before .before .before .before .before .pre .1 .rest) (c .before .before .before .before .before .before .before .before .before .before .before .before .before .pre .1 .pair) (operand-done (c .before .before .before .before .before .before .before .before .before .before .before .before .before .args .seen) (c .before .before .before .before .before .before .before .before .before .before .before .before .before .args .p .now) (c .before .before .before .before .before .before .before .before .before .before .resolve .last .0) (c .before .before .before .before .before .before .before .before .before .before .before .before .before .args .from) (c .before .before .before .before .before .before .before .before .before .before .resolve .result) (c .before .before .before .before .before .before .before .before .before .before .before .before .before .pre .1 .f) (encode (c .before .before .before .before .before .before .before .before .before .before .before .before .before .pre .1 .g) ++ (c .before .before .before .before .before .before .before .before .before .before .before .before .before .pre .1 .rest)) (let l = front-at (c .before .before .before .before .before .before .before .before .before .before .before .before .before .args .p .now) (c .before .before .before .before .before .before .before .before .before .before .before .before .before .args .from + 1) (c .before .before .before .before .before .before .before .before .before .before .before .before .before .pre .1 .f) (encode (c .before .before .before .before .before .before .before .before .before .before .before .before .before .pre .1 .g) ++ (c .before .before .before .before .before .before .before .before .before .before .before .before .before .pre .1 .rest)) ((c .before .before .before .before .before .before .before .before .before .before .before .before .before .pre .1 .pair) .left) in omega arith) (c .before .before .before .before .before .before .before .before .before .before .resolve .ensures) ((c .before .before .before .before .before .before .before .before .before .before .before .before .before .pre .1 .pair) .left)) in
     let k = c .before .before .before .before .before .before .before .before .before .p .given .1 in
     let n = c .operand-end .ensures (c .before .before .before .before .before .before .before .before .before .before .before .before .before .pre .1 .g) (c .before .before .before .before .before .before .before .before .before .before .before .before .before .pre .1 .rest) (front-tail (1 + c .before .before .before .before .before .before .before .before .before .before .resolve .result .next) (after-first (c .before .before .before .before .before .before .before .before .before .before .before .before .before .args .p .now) (c .before .before .before .before .before .before .before .before .before .before .resolve .last .0)) (c .before .before .before .before .before .before .before .before .before .before .before .before .before .pre .1 .g) (c .before .before .before .before .before .before .before .before .before .before .before .before .before .pre .1 .rest) (right-front (c .before .before .before .before .before .before .before .before .before .before .before .before .before .args .seen) (c .before .before .before .before .before .before .before .before .before .before .before .before .before .args .p .now) (c .before .before .before .before .before .before .before .before .before .before .resolve .last .0) (c .before .before .before .before .before .before .before .before .before .before .before .before .before .args .from) (c .before .before .before .before .before .before .before .before .before .before .resolve .result) (c .before .before .before .before .before .before .before .before .before .before .before .before .before .args .op) (c .before .before .before .before .before .before .before .before .before .before .before .before .before .args .decide) (c .before .before .before .before .before .before .before .before .before .before .before .before .before .pre .1 .j) (c .before .before .before .before .before .before .before .before .before .before .before .before .before .pre .1 .f) (c .before .before .before .before .before .before .before .before .before .before .before .before .before .pre .1 .g) (c .before .before .before .before .before .before .before .before .before .before .before .before .before .pre .1 .rest) (c .before .before .before .before .before .before .before .before .before .before .before .before .before .pre .1 .pair) (operand-done (c .before .before .before .before .before .before .before .before .before .before .before .before .before .args .seen) (c .before .before .before .before .before .before .before .before .before .before .before .before .before .args .p .now) (c .before .before .before .before .before .before .before .before .before .before .resolve .last .0) (c .before .before .before .before .before .before .before .before .before .before .before .before .before .args .from) (c .before .before .before .before .before .before .before .before .before .before .resolve .result) (c .before .before .before .before .before .before .before .before .before .before .before .before .before .pre .1 .f) (encode (c .before .before .before .before .before .before .before .before .before .before .before .before .before .pre .1 .g) ++ (c .before .before .before .before .before .before .before .before .before .before .before .before .before .pre .1 .rest)) (let l = front-at (c .before .before .before .before .before .before .before .before .before .before .before .before .before .args .p .now) (c .before .before .before .before .before .before .before .before .before .before .before .before .before .args .from + 1) (c .before .before .before .before .before .before .before .before .before .before .before .before .before .pre .1 .f) (encode (c .before .before .before .before .before .before .before .before .before .before .before .before .before .pre .1 .g) ++ (c .before .before .before .before .before .before .before .before .before .before .before .before .before .pre .1 .rest)) ((c .before .before .before .before .before .before .before .before .before .before .before .before .before .pre .1 .pair) .left) in omega arith) (c .before .before .before .before .before .before .before .before .before .before .resolve .ensures) ((c .before .before .before .before .before .before .before .before .before .before .before .before .before .pre .1 .pair) .left)))) in omega arith
 
--- src/lib.rt:160:9
 resolve-pair-same-length : (t : ℕ) → resolve-pair-lts.Need-same-length (resolve-pair-calls t) (resolve-pair-at t) resolve-pair.Post
 resolve-pair-same-length t c = simp length-set (c .before .before .before .before .before .before .before .before .before .p .given .1)
 
--- src/lib.rt:160:9
 resolve-pair-returns : (t : ℕ) → resolve-pair-lts.Need-returns (resolve-pair-calls t) (resolve-pair-at t) resolve-pair.Post
 resolve-pair-returns t c = λ j f g rest y. pair-decided (c .before .before .before .before .before .before .before .before .before .before .before .before .before .args .seen) (c .before .before .before .before .before .before .before .before .before .before .before .before .before .args .p .now) (c .before .before .before .before .before .before .before .before .before .before .resolve .last .0) (c .before .before .before .before .before .before .before .before .before .before .before .before .before .args .from) (c .before .before .before .before .before .before .before .before .before .before .resolve .result) (c .before .before .before .before .before .before .before .before .before .before .before .before .before .args .op) (c .before .before .before .before .before .before .before .before .before .before .before .before .before .args .decide) j f g rest y (operand-done (c .before .before .before .before .before .before .before .before .before .before .before .before .before .args .seen) (c .before .before .before .before .before .before .before .before .before .before .before .before .before .args .p .now) (c .before .before .before .before .before .before .before .before .before .before .resolve .last .0) (c .before .before .before .before .before .before .before .before .before .before .before .before .before .args .from) (c .before .before .before .before .before .before .before .before .before .before .resolve .result) f (encode g ++ rest) (let l = front-at (c .before .before .before .before .before .before .before .before .before .before .before .before .before .args .p .now) (c .before .before .before .before .before .before .before .before .before .before .before .before .before .args .from + 1) f (encode g ++ rest) (y .left) in omega arith) (c .before .before .before .before .before .before .before .before .before .before .resolve .ensures) (y .left)) (c .before .before .before .if1 .taken) (c .operand-end .result) (c .operand-end .ensures)
 
--- src/lib.rt:163:9
 resolve-pair-resolve-requires-2 : (t : ℕ) → resolve-pair-lts.Need-resolve-requires-2 (resolve-pair-calls t) (resolve-pair-at t) resolve-pair.Post
 resolve-pair-resolve-requires-2 t c κs =
     let l = lengths (c .before .before .before .before .before .before .before .before .before .before .before .before .args .seen) (c .before .before .before .before .before .before .before .before .before .before .before .before .args .p .now) (c .before .before .before .before .before .before .before .before .before .resolve .last .0) (c .before .before .before .before .before .before .before .before .before .before .before .before .args .from) (c .before .before .before .before .before .before .before .before .before .resolve .result) (c .before .before .before .before .before .before .before .before .before .before .before .before .args .op) (c .before .before .before .before .before .before .before .before .before .before .before .before .args .decide) (c .before .before .before .before .before .before .before .before .before .before .before .before .pre .1 .j) (c .before .before .before .before .before .before .before .before .before .before .before .before .pre .1 .f) (c .before .before .before .before .before .before .before .before .before .before .before .before .pre .1 .g) (c .before .before .before .before .before .before .before .before .before .before .before .before .pre .1 .rest) (c .before .before .before .before .before .before .before .before .before .before .before .before .pre .1 .pair) (operand-done (c .before .before .before .before .before .before .before .before .before .before .before .before .args .seen) (c .before .before .before .before .before .before .before .before .before .before .before .before .args .p .now) (c .before .before .before .before .before .before .before .before .before .resolve .last .0) (c .before .before .before .before .before .before .before .before .before .before .before .before .args .from) (c .before .before .before .before .before .before .before .before .before .resolve .result) (c .before .before .before .before .before .before .before .before .before .before .before .before .pre .1 .f) (encode (c .before .before .before .before .before .before .before .before .before .before .before .before .pre .1 .g) ++ (c .before .before .before .before .before .before .before .before .before .before .before .before .pre .1 .rest)) (let l = front-at (c .before .before .before .before .before .before .before .before .before .before .before .before .args .p .now) (c .before .before .before .before .before .before .before .before .before .before .before .before .args .from + 1) (c .before .before .before .before .before .before .before .before .before .before .before .before .pre .1 .f) (encode (c .before .before .before .before .before .before .before .before .before .before .before .before .pre .1 .g) ++ (c .before .before .before .before .before .before .before .before .before .before .before .before .pre .1 .rest)) ((c .before .before .before .before .before .before .before .before .before .before .before .before .pre .1 .pair) .left) in omega arith) (c .before .before .before .before .before .before .before .before .before .resolve .ensures) ((c .before .before .before .before .before .before .before .before .before .before .before .before .pre .1 .pair) .left)) in
     let k = c .before .before .before .before .before .before .before .before .p .given .1 in
     (let e = c .before .before .before .before .before .before .before .before .before .before .before .before .pre .0 in omega arith, record { formula = c .before .before .before .before .before .before .before .before .before .before .before .before .pre .1 .g; rest = c .before .before .before .before .before .before .before .before .before .before .before .before .pre .1 .rest; front = right-front (c .before .before .before .before .before .before .before .before .before .before .before .before .args .seen) (c .before .before .before .before .before .before .before .before .before .before .before .before .args .p .now) (c .before .before .before .before .before .before .before .before .before .resolve .last .0) (c .before .before .before .before .before .before .before .before .before .before .before .before .args .from) (c .before .before .before .before .before .before .before .before .before .resolve .result) (c .before .before .before .before .before .before .before .before .before .before .before .before .args .op) (c .before .before .before .before .before .before .before .before .before .before .before .before .args .decide) (c .before .before .before .before .before .before .before .before .before .before .before .before .pre .1 .j) (c .before .before .before .before .before .before .before .before .before .before .before .before .pre .1 .f) (c .before .before .before .before .before .before .before .before .before .before .before .before .pre .1 .g) (c .before .before .before .before .before .before .before .before .before .before .before .before .pre .1 .rest) (c .before .before .before .before .before .before .before .before .before .before .before .before .pre .1 .pair) (operand-done (c .before .before .before .before .before .before .before .before .before .before .before .before .args .seen) (c .before .before .before .before .before .before .before .before .before .before .before .before .args .p .now) (c .before .before .before .before .before .before .before .before .before .resolve .last .0) (c .before .before .before .before .before .before .before .before .before .before .before .before .args .from) (c .before .before .before .before .before .before .before .before .before .resolve .result) (c .before .before .before .before .before .before .before .before .before .before .before .before .pre .1 .f) (encode (c .before .before .before .before .before .before .before .before .before .before .before .before .pre .1 .g) ++ (c .before .before .before .before .before .before .before .before .before .before .before .before .pre .1 .rest)) (let l = front-at (c .before .before .before .before .before .before .before .before .before .before .before .before .args .p .now) (c .before .before .before .before .before .before .before .before .before .before .before .before .args .from + 1) (c .before .before .before .before .before .before .before .before .before .before .before .before .pre .1 .f) (encode (c .before .before .before .before .before .before .before .before .before .before .before .before .pre .1 .g) ++ (c .before .before .before .before .before .before .before .before .before .before .before .before .pre .1 .rest)) ((c .before .before .before .before .before .before .before .before .before .before .before .before .pre .1 .pair) .left) in omega arith) (c .before .before .before .before .before .before .before .before .before .resolve .ensures) ((c .before .before .before .before .before .before .before .before .before .before .before .before .pre .1 .pair) .left)) })
 
--- src/lib.rt:163:9
 resolve-pair-same-length-2 : (t : ℕ) → resolve-pair-lts.Need-same-length-2 (resolve-pair-calls t) (resolve-pair-at t) resolve-pair.Post
 resolve-pair-same-length-2 t c = c .before .before .resolve2 .kept .0 ∙ c .before .before .before .before .before .before .before .before .before .before .before .p .given .1
 
--- src/lib.rt:163:9
 resolve-pair-returns-2 : (t : ℕ) → resolve-pair-lts.Need-returns-2 (resolve-pair-calls t) (resolve-pair-at t) resolve-pair.Post
 resolve-pair-returns-2 t c = λ j f g rest y. pair-skip (c .before .before .before .before .before .before .before .before .before .before .before .before .before .before .before .args .seen) (c .before .before .before .before .before .before .before .before .before .before .before .before .before .before .before .args .p .now) (c .before .before .before .before .before .before .before .before .before .before .before .before .resolve .last .0) (c .before .before .before .before .before .before .before .before .before .before .before .before .before .before .before .args .from) (c .before .before .before .before .before .before .before .before .before .before .before .before .resolve .result) (c .before .before .before .before .before .before .before .before .before .before .before .before .before .before .before .args .op) (c .before .before .before .before .before .before .before .before .before .before .before .before .before .before .before .args .decide) j f g rest y (operand-done (c .before .before .before .before .before .before .before .before .before .before .before .before .before .before .before .args .seen) (c .before .before .before .before .before .before .before .before .before .before .before .before .before .before .before .args .p .now) (c .before .before .before .before .before .before .before .before .before .before .before .before .resolve .last .0) (c .before .before .before .before .before .before .before .before .before .before .before .before .before .before .before .args .from) (c .before .before .before .before .before .before .before .before .before .before .before .before .resolve .result) f (encode g ++ rest) (let l = front-at (c .before .before .before .before .before .before .before .before .before .before .before .before .before .before .before .args .p .now) (c .before .before .before .before .before .before .before .before .before .before .before .before .before .before .before .args .from + 1) f (encode g ++ rest) (y .left) in omega arith) (c .before .before .before .before .before .before .before .before .before .before .before .before .resolve .ensures) (y .left)) (c .before .before .before .before .before .if1 .left) (c .before .before .before .before .if2 .taken) (c .before .before .resolve2 .last .0) (c .before .before .resolve2 .result) (c .before .before .resolve2 .ensures)
 
--- src/lib.rt:165:21
 resolve-pair-sub-resolve-2 : (t : ℕ) → resolve-pair-lts.Need-sub-resolve-2 (resolve-pair-calls t) (resolve-pair-at t) resolve-pair.Post
 resolve-pair-sub-resolve-2 t c =
     let l = lengths (c .before .before .before .before .before .before .before .before .before .before .before .args .seen) (c .before .before .before .before .before .before .before .before .before .before .before .args .p .now) (c .before .before .before .before .before .before .before .before .resolve .last .0) (c .before .before .before .before .before .before .before .before .before .before .before .args .from) (c .before .before .before .before .before .before .before .before .resolve .result) (c .before .before .before .before .before .before .before .before .before .before .before .args .op) (c .before .before .before .before .before .before .before .before .before .before .before .args .decide) (c .before .before .before .before .before .before .before .before .before .before .before .pre .1 .j) (c .before .before .before .before .before .before .before .before .before .before .before .pre .1 .f) (c .before .before .before .before .before .before .before .before .before .before .before .pre .1 .g) (c .before .before .before .before .before .before .before .before .before .before .before .pre .1 .rest) (c .before .before .before .before .before .before .before .before .before .before .before .pre .1 .pair) (operand-done (c .before .before .before .before .before .before .before .before .before .before .before .args .seen) (c .before .before .before .before .before .before .before .before .before .before .before .args .p .now) (c .before .before .before .before .before .before .before .before .resolve .last .0) (c .before .before .before .before .before .before .before .before .before .before .before .args .from) (c .before .before .before .before .before .before .before .before .resolve .result) (c .before .before .before .before .before .before .before .before .before .before .before .pre .1 .f) (encode (c .before .before .before .before .before .before .before .before .before .before .before .pre .1 .g) ++ (c .before .before .before .before .before .before .before .before .before .before .before .pre .1 .rest)) (let l = front-at (c .before .before .before .before .before .before .before .before .before .before .before .args .p .now) (c .before .before .before .before .before .before .before .before .before .before .before .args .from + 1) (c .before .before .before .before .before .before .before .before .before .before .before .pre .1 .f) (encode (c .before .before .before .before .before .before .before .before .before .before .before .pre .1 .g) ++ (c .before .before .before .before .before .before .before .before .before .before .before .pre .1 .rest)) ((c .before .before .before .before .before .before .before .before .before .before .before .pre .1 .pair) .left) in omega arith) (c .before .before .before .before .before .before .before .before .resolve .ensures) ((c .before .before .before .before .before .before .before .before .before .before .before .pre .1 .pair) .left)) in
     let k = c .before .before .before .before .before .before .before .p .given .1 in
     omega arith
 
--- src/lib.rt:165:21
 resolve-pair-part-resolve-start-2 : (t : ℕ) → resolve-pair-lts.Need-part-resolve-start-2 (resolve-pair-calls t) (resolve-pair-at t) resolve-pair.Post
 resolve-pair-part-resolve-start-2 t c =
     let l = lengths (c .before .before .before .before .before .before .before .before .before .before .before .args .seen) (c .before .before .before .before .before .before .before .before .before .before .before .args .p .now) (c .before .before .before .before .before .before .before .before .resolve .last .0) (c .before .before .before .before .before .before .before .before .before .before .before .args .from) (c .before .before .before .before .before .before .before .before .resolve .result) (c .before .before .before .before .before .before .before .before .before .before .before .args .op) (c .before .before .before .before .before .before .before .before .before .before .before .args .decide) (c .before .before .before .before .before .before .before .before .before .before .before .pre .1 .j) (c .before .before .before .before .before .before .before .before .before .before .before .pre .1 .f) (c .before .before .before .before .before .before .before .before .before .before .before .pre .1 .g) (c .before .before .before .before .before .before .before .before .before .before .before .pre .1 .rest) (c .before .before .before .before .before .before .before .before .before .before .before .pre .1 .pair) (operand-done (c .before .before .before .before .before .before .before .before .before .before .before .args .seen) (c .before .before .before .before .before .before .before .before .before .before .before .args .p .now) (c .before .before .before .before .before .before .before .before .resolve .last .0) (c .before .before .before .before .before .before .before .before .before .before .before .args .from) (c .before .before .before .before .before .before .before .before .resolve .result) (c .before .before .before .before .before .before .before .before .before .before .before .pre .1 .f) (encode (c .before .before .before .before .before .before .before .before .before .before .before .pre .1 .g) ++ (c .before .before .before .before .before .before .before .before .before .before .before .pre .1 .rest)) (let l = front-at (c .before .before .before .before .before .before .before .before .before .before .before .args .p .now) (c .before .before .before .before .before .before .before .before .before .before .before .args .from + 1) (c .before .before .before .before .before .before .before .before .before .before .before .pre .1 .f) (encode (c .before .before .before .before .before .before .before .before .before .before .before .pre .1 .g) ++ (c .before .before .before .before .before .before .before .before .before .before .before .pre .1 .rest)) ((c .before .before .before .before .before .before .before .before .before .before .before .pre .1 .pair) .left) in omega arith) (c .before .before .before .before .before .before .before .before .resolve .ensures) ((c .before .before .before .before .before .before .before .before .before .before .before .pre .1 .pair) .left)) in
     let k = c .before .before .before .before .before .before .before .p .given .1 in
     omega arith
 
--- src/lib.rt:165:21
 resolve-pair-part-resolve-end-2 : (t : ℕ) → resolve-pair-lts.Need-part-resolve-end-2 (resolve-pair-calls t) (resolve-pair-at t) resolve-pair.Post
 resolve-pair-part-resolve-end-2 t c =
     let l = lengths (c .before .before .before .before .before .before .before .before .before .before .before .args .seen) (c .before .before .before .before .before .before .before .before .before .before .before .args .p .now) (c .before .before .before .before .before .before .before .before .resolve .last .0) (c .before .before .before .before .before .before .before .before .before .before .before .args .from) (c .before .before .before .before .before .before .before .before .resolve .result) (c .before .before .before .before .before .before .before .before .before .before .before .args .op) (c .before .before .before .before .before .before .before .before .before .before .before .args .decide) (c .before .before .before .before .before .before .before .before .before .before .before .pre .1 .j) (c .before .before .before .before .before .before .before .before .before .before .before .pre .1 .f) (c .before .before .before .before .before .before .before .before .before .before .before .pre .1 .g) (c .before .before .before .before .before .before .before .before .before .before .before .pre .1 .rest) (c .before .before .before .before .before .before .before .before .before .before .before .pre .1 .pair) (operand-done (c .before .before .before .before .before .before .before .before .before .before .before .args .seen) (c .before .before .before .before .before .before .before .before .before .before .before .args .p .now) (c .before .before .before .before .before .before .before .before .resolve .last .0) (c .before .before .before .before .before .before .before .before .before .before .before .args .from) (c .before .before .before .before .before .before .before .before .resolve .result) (c .before .before .before .before .before .before .before .before .before .before .before .pre .1 .f) (encode (c .before .before .before .before .before .before .before .before .before .before .before .pre .1 .g) ++ (c .before .before .before .before .before .before .before .before .before .before .before .pre .1 .rest)) (let l = front-at (c .before .before .before .before .before .before .before .before .before .before .before .args .p .now) (c .before .before .before .before .before .before .before .before .before .before .before .args .from + 1) (c .before .before .before .before .before .before .before .before .before .before .before .pre .1 .f) (encode (c .before .before .before .before .before .before .before .before .before .before .before .pre .1 .g) ++ (c .before .before .before .before .before .before .before .before .before .before .before .pre .1 .rest)) ((c .before .before .before .before .before .before .before .before .before .before .before .pre .1 .pair) .left) in omega arith) (c .before .before .before .before .before .before .before .before .resolve .ensures) ((c .before .before .before .before .before .before .before .before .before .before .before .pre .1 .pair) .left)) in
     let k = c .before .before .before .before .before .before .before .p .given .1 in
     omega arith
 
--- src/lib.rt:165:36
 resolve-pair-sub-resolve-3 : (t : ℕ) → resolve-pair-lts.Need-sub-resolve-3 (resolve-pair-calls t) (resolve-pair-at t) resolve-pair.Post
 resolve-pair-sub-resolve-3 t c =
     let l = lengths (c .before .before .before .before .before .before .before .before .before .before .before .before .args .seen) (c .before .before .before .before .before .before .before .before .before .before .before .before .args .p .now) (c .before .before .before .before .before .before .before .before .before .resolve .last .0) (c .before .before .before .before .before .before .before .before .before .before .before .before .args .from) (c .before .before .before .before .before .before .before .before .before .resolve .result) (c .before .before .before .before .before .before .before .before .before .before .before .before .args .op) (c .before .before .before .before .before .before .before .before .before .before .before .before .args .decide) (c .before .before .before .before .before .before .before .before .before .before .before .before .pre .1 .j) (c .before .before .before .before .before .before .before .before .before .before .before .before .pre .1 .f) (c .before .before .before .before .before .before .before .before .before .before .before .before .pre .1 .g) (c .before .before .before .before .before .before .before .before .before .before .before .before .pre .1 .rest) (c .before .before .before .before .before .before .before .before .before .before .before .before .pre .1 .pair) (operand-done (c .before .before .before .before .before .before .before .before .before .before .before .before .args .seen) (c .before .before .before .before .before .before .before .before .before .before .before .before .args .p .now) (c .before .before .before .before .before .before .before .before .before .resolve .last .0) (c .before .before .before .before .before .before .before .before .before .before .before .before .args .from) (c .before .before .before .before .before .before .before .before .before .resolve .result) (c .before .before .before .before .before .before .before .before .before .before .before .before .pre .1 .f) (encode (c .before .before .before .before .before .before .before .before .before .before .before .before .pre .1 .g) ++ (c .before .before .before .before .before .before .before .before .before .before .before .before .pre .1 .rest)) (let l = front-at (c .before .before .before .before .before .before .before .before .before .before .before .before .args .p .now) (c .before .before .before .before .before .before .before .before .before .before .before .before .args .from + 1) (c .before .before .before .before .before .before .before .before .before .before .before .before .pre .1 .f) (encode (c .before .before .before .before .before .before .before .before .before .before .before .before .pre .1 .g) ++ (c .before .before .before .before .before .before .before .before .before .before .before .before .pre .1 .rest)) ((c .before .before .before .before .before .before .before .before .before .before .before .before .pre .1 .pair) .left) in omega arith) (c .before .before .before .before .before .before .before .before .before .resolve .ensures) ((c .before .before .before .before .before .before .before .before .before .before .before .before .pre .1 .pair) .left)) in
     let k = c .before .before .before .before .before .before .before .before .p .given .1 in
     omega arith
 
--- src/lib.rt:165:9
 resolve-pair-resolve-requires-3 : (t : ℕ) → resolve-pair-lts.Need-resolve-requires-3 (resolve-pair-calls t) (resolve-pair-at t) resolve-pair.Post
 resolve-pair-resolve-requires-3 t c κs =
     let l = lengths (c .before .before .before .before .before .before .before .before .before .before .before .before .args .seen) (c .before .before .before .before .before .before .before .before .before .before .before .before .args .p .now) (c .before .before .before .before .before .before .before .before .before .resolve .last .0) (c .before .before .before .before .before .before .before .before .before .before .before .before .args .from) (c .before .before .before .before .before .before .before .before .before .resolve .result) (c .before .before .before .before .before .before .before .before .before .before .before .before .args .op) (c .before .before .before .before .before .before .before .before .before .before .before .before .args .decide) (c .before .before .before .before .before .before .before .before .before .before .before .before .pre .1 .j) (c .before .before .before .before .before .before .before .before .before .before .before .before .pre .1 .f) (c .before .before .before .before .before .before .before .before .before .before .before .before .pre .1 .g) (c .before .before .before .before .before .before .before .before .before .before .before .before .pre .1 .rest) (c .before .before .before .before .before .before .before .before .before .before .before .before .pre .1 .pair) (operand-done (c .before .before .before .before .before .before .before .before .before .before .before .before .args .seen) (c .before .before .before .before .before .before .before .before .before .before .before .before .args .p .now) (c .before .before .before .before .before .before .before .before .before .resolve .last .0) (c .before .before .before .before .before .before .before .before .before .before .before .before .args .from) (c .before .before .before .before .before .before .before .before .before .resolve .result) (c .before .before .before .before .before .before .before .before .before .before .before .before .pre .1 .f) (encode (c .before .before .before .before .before .before .before .before .before .before .before .before .pre .1 .g) ++ (c .before .before .before .before .before .before .before .before .before .before .before .before .pre .1 .rest)) (let l = front-at (c .before .before .before .before .before .before .before .before .before .before .before .before .args .p .now) (c .before .before .before .before .before .before .before .before .before .before .before .before .args .from + 1) (c .before .before .before .before .before .before .before .before .before .before .before .before .pre .1 .f) (encode (c .before .before .before .before .before .before .before .before .before .before .before .before .pre .1 .g) ++ (c .before .before .before .before .before .before .before .before .before .before .before .before .pre .1 .rest)) ((c .before .before .before .before .before .before .before .before .before .before .before .before .pre .1 .pair) .left) in omega arith) (c .before .before .before .before .before .before .before .before .before .resolve .ensures) ((c .before .before .before .before .before .before .before .before .before .before .before .before .pre .1 .pair) .left)) in
     let k = c .before .before .before .before .before .before .before .before .p .given .1 in
     let m = tail-length (1 + c .before .before .before .before .before .before .before .before .before .resolve .result .end) (after-first (c .before .before .before .before .before .before .before .before .before .before .before .before .args .p .now) (c .before .before .before .before .before .before .before .before .before .resolve .last .0)) in (let e = c .before .before .before .before .before .before .before .before .before .before .before .before .pre .0 in omega arith, record { formula = c .before .before .before .before .before .before .before .before .before .before .before .before .pre .1 .g; rest = c .before .before .before .before .before .before .before .before .before .before .before .before .pre .1 .rest; front = right-front-behind (c .before .before .before .before .before .before .before .before .before .before .before .before .args .seen) (c .before .before .before .before .before .before .before .before .before .before .before .before .args .p .now) (c .before .before .before .before .before .before .before .before .before .resolve .last .0) (c .before .before .before .before .before .before .before .before .before .before .before .before .args .from) (c .before .before .before .before .before .before .before .before .before .resolve .result) (c .before .before .before .before .before .before .before .before .before .before .before .before .args .op) (c .before .before .before .before .before .before .before .before .before .before .before .before .args .decide) (c .before .before .before .before .before .before .before .before .before .before .before .before .pre .1 .j) (c .before .before .before .before .before .before .before .before .before .before .before .before .pre .1 .f) (c .before .before .before .before .before .before .before .before .before .before .before .before .pre .1 .g) (c .before .before .before .before .before .before .before .before .before .before .before .before .pre .1 .rest) (c .before .before .before .before .before .before .before .before .before .before .before .before .pre .1 .pair) (operand-done (c .before .before .before .before .before .before .before .before .before .before .before .before .args .seen) (c .before .before .before .before .before .before .before .before .before .before .before .before .args .p .now) (c .before .before .before .before .before .before .before .before .before .resolve .last .0) (c .before .before .before .before .before .before .before .before .before .before .before .before .args .from) (c .before .before .before .before .before .before .before .before .before .resolve .result) (c .before .before .before .before .before .before .before .before .before .before .before .before .pre .1 .f) (encode (c .before .before .before .before .before .before .before .before .before .before .before .before .pre .1 .g) ++ (c .before .before .before .before .before .before .before .before .before .before .before .before .pre .1 .rest)) (let l = front-at (c .before .before .before .before .before .before .before .before .before .before .before .before .args .p .now) (c .before .before .before .before .before .before .before .before .before .before .before .before .args .from + 1) (c .before .before .before .before .before .before .before .before .before .before .before .before .pre .1 .f) (encode (c .before .before .before .before .before .before .before .before .before .before .before .before .pre .1 .g) ++ (c .before .before .before .before .before .before .before .before .before .before .before .before .pre .1 .rest)) ((c .before .before .before .before .before .before .before .before .before .before .before .before .pre .1 .pair) .left) in omega arith) (c .before .before .before .before .before .before .before .before .before .resolve .ensures) ((c .before .before .before .before .before .before .before .before .before .before .before .before .pre .1 .pair) .left)) })
 
--- src/lib.rt:166:5
 resolve-pair-join-requires : (t : ℕ) → resolve-pair-lts.Need-join-requires (resolve-pair-calls t) (resolve-pair-at t) resolve-pair.Post
 resolve-pair-join-requires t c κs = record { j = c .before .before .before .before .before .before .before .before .before .before .before .before .before .before .before .before .pre .1 .j; l = settled (c .before .before .before .before .before .before .before .before .before .before .before .before .before .before .before .before .args .seen) (c .before .before .before .before .before .before .before .before .before .before .before .before .before .before .before .before .pre .1 .f); r = settled (c .before .before .before .before .before .before .before .before .before .before .before .before .before .before .before .before .args .seen) (c .before .before .before .before .before .before .before .before .before .before .before .before .before .before .before .before .pre .1 .g); rest = c .before .before .before .before .before .before .before .before .before .before .before .before .before .before .before .before .pre .1 .rest; sides = both-sides (c .before .before .before .before .before .before .before .before .before .before .before .before .before .before .before .before .args .seen) (c .before .before .before .before .before .before .before .before .before .before .before .before .before .before .before .before .args .p .now) (c .before .before .before .before .before .before .before .before .before .before .before .before .before .resolve .last .0) (c .before .before .before .before .before .before .before .before .before .before .before .before .before .before .before .before .args .from) (c .before .before .before .before .before .before .before .before .before .before .before .before .before .resolve .result) (c .before .before .before .before .before .before .before .before .before .before .before .before .before .before .before .before .args .op) (c .before .before .before .before .before .before .before .before .before .before .before .before .before .before .before .before .args .decide) (c .before .before .before .before .before .before .before .before .before .before .before .before .before .before .before .before .pre .1 .j) (c .before .before .before .before .before .before .before .before .before .before .before .before .before .before .before .before .pre .1 .f) (c .before .before .before .before .before .before .before .before .before .before .before .before .before .before .before .before .pre .1 .g) (c .before .before .before .before .before .before .before .before .before .before .before .before .before .before .before .before .pre .1 .rest) (c .before .before .before .before .before .before .before .before .before .before .before .before .before .before .before .before .pre .1 .pair) (operand-done (c .before .before .before .before .before .before .before .before .before .before .before .before .before .before .before .before .args .seen) (c .before .before .before .before .before .before .before .before .before .before .before .before .before .before .before .before .args .p .now) (c .before .before .before .before .before .before .before .before .before .before .before .before .before .resolve .last .0) (c .before .before .before .before .before .before .before .before .before .before .before .before .before .before .before .before .args .from) (c .before .before .before .before .before .before .before .before .before .before .before .before .before .resolve .result) (c .before .before .before .before .before .before .before .before .before .before .before .before .before .before .before .before .pre .1 .f) (encode (c .before .before .before .before .before .before .before .before .before .before .before .before .before .before .before .before .pre .1 .g) ++ (c .before .before .before .before .before .before .before .before .before .before .before .before .before .before .before .before .pre .1 .rest)) (let l = front-at (c .before .before .before .before .before .before .before .before .before .before .before .before .before .before .before .before .args .p .now) (c .before .before .before .before .before .before .before .before .before .before .before .before .before .before .before .before .args .from + 1) (c .before .before .before .before .before .before .before .before .before .before .before .before .before .before .before .before .pre .1 .f) (encode (c .before .before .before .before .before .before .before .before .before .before .before .before .before .before .before .before .pre .1 .g) ++ (c .before .before .before .before .before .before .before .before .before .before .before .before .before .before .before .before .pre .1 .rest)) ((c .before .before .before .before .before .before .before .before .before .before .before .before .before .before .before .before .pre .1 .pair) .left) in omega arith) (c .before .before .before .before .before .before .before .before .before .before .before .before .before .resolve .ensures) ((c .before .before .before .before .before .before .before .before .before .before .before .before .before .before .before .before .pre .1 .pair) .left)) (c .before .before .before .before .before .if2 .left) (c .before .before .before .resolve3 .last .0) (c .before .before .before .resolve3 .result) (c .before .before .before .resolve3 .ensures) }
 
--- src/lib.rt:148:1
 resolve-pair-same-length-3 : (t : ℕ) → resolve-pair-lts.Need-same-length-3 (resolve-pair-calls t) (resolve-pair-at t) resolve-pair.Post
 resolve-pair-same-length-3 t c = c .before .before .join .kept .0 ∙ c .before .before .before .before .before .p4 .given .1 ∙ c .before .before .before .before .before .before .before .before .before .before .before .before .before .before .before .p .given .1
 
--- src/lib.rt:148:1
 resolve-pair-returns-3 : (t : ℕ) → resolve-pair-lts.Need-returns-3 (resolve-pair-calls t) (resolve-pair-at t) resolve-pair.Post
 resolve-pair-returns-3 t c = λ j f g rest y. settles-read refl (both-reads (c .before .before .before .before .before .before .before .before .before .before .before .before .before .before .before .before .before .before .before .args .seen) (c .before .before .before .before .before .before .before .before .before .before .before .before .before .before .before .before .before .before .before .args .p .now) (c .before .before .before .before .before .before .before .before .before .before .before .before .before .before .before .before .resolve .last .0) (c .before .before .before .before .before .before .before .before .before .before .before .before .before .before .before .before .before .before .before .args .from) (c .before .before .before .before .before .before .before .before .before .before .before .before .before .before .before .before .resolve .result) (c .before .before .before .before .before .before .before .before .before .before .before .before .before .before .before .before .before .before .before .args .op) (c .before .before .before .before .before .before .before .before .before .before .before .before .before .before .before .before .before .before .before .args .decide) j f g rest y (operand-done (c .before .before .before .before .before .before .before .before .before .before .before .before .before .before .before .before .before .before .before .args .seen) (c .before .before .before .before .before .before .before .before .before .before .before .before .before .before .before .before .before .before .before .args .p .now) (c .before .before .before .before .before .before .before .before .before .before .before .before .before .before .before .before .resolve .last .0) (c .before .before .before .before .before .before .before .before .before .before .before .before .before .before .before .before .before .before .before .args .from) (c .before .before .before .before .before .before .before .before .before .before .before .before .before .before .before .before .resolve .result) f (encode g ++ rest) (let l = front-at (c .before .before .before .before .before .before .before .before .before .before .before .before .before .before .before .before .before .before .before .args .p .now) (c .before .before .before .before .before .before .before .before .before .before .before .before .before .before .before .before .before .before .before .args .from + 1) f (encode g ++ rest) (y .left) in omega arith) (c .before .before .before .before .before .before .before .before .before .before .before .before .before .before .before .before .resolve .ensures) (y .left)) (c .before .before .before .before .before .before .before .before .if2 .left) (c .before .before .before .before .before .before .resolve3 .last .0) (c .before .before .before .before .before .before .resolve3 .result) (c .before .before .before .before .before .before .resolve3 .ensures)) (c .before .before .join .ensures j (settled (c .before .before .before .before .before .before .before .before .before .before .before .before .before .before .before .before .before .before .before .args .seen) f) (settled (c .before .before .before .before .before .before .before .before .before .before .before .before .before .before .before .before .before .before .before .args .seen) g) rest (both-sides (c .before .before .before .before .before .before .before .before .before .before .before .before .before .before .before .before .before .before .before .args .seen) (c .before .before .before .before .before .before .before .before .before .before .before .before .before .before .before .before .before .before .before .args .p .now) (c .before .before .before .before .before .before .before .before .before .before .before .before .before .before .before .before .resolve .last .0) (c .before .before .before .before .before .before .before .before .before .before .before .before .before .before .before .before .before .before .before .args .from) (c .before .before .before .before .before .before .before .before .before .before .before .before .before .before .before .before .resolve .result) (c .before .before .before .before .before .before .before .before .before .before .before .before .before .before .before .before .before .before .before .args .op) (c .before .before .before .before .before .before .before .before .before .before .before .before .before .before .before .before .before .before .before .args .decide) j f g rest y (operand-done (c .before .before .before .before .before .before .before .before .before .before .before .before .before .before .before .before .before .before .before .args .seen) (c .before .before .before .before .before .before .before .before .before .before .before .before .before .before .before .before .before .before .before .args .p .now) (c .before .before .before .before .before .before .before .before .before .before .before .before .before .before .before .before .resolve .last .0) (c .before .before .before .before .before .before .before .before .before .before .before .before .before .before .before .before .before .before .before .args .from) (c .before .before .before .before .before .before .before .before .before .before .before .before .before .before .before .before .resolve .result) f (encode g ++ rest) (let l = front-at (c .before .before .before .before .before .before .before .before .before .before .before .before .before .before .before .before .before .before .before .args .p .now) (c .before .before .before .before .before .before .before .before .before .before .before .before .before .before .before .before .before .before .before .args .from + 1) f (encode g ++ rest) (y .left) in omega arith) (c .before .before .before .before .before .before .before .before .before .before .before .before .before .before .before .before .resolve .ensures) (y .left)) (c .before .before .before .before .before .before .before .before .if2 .left) (c .before .before .before .before .before .before .resolve3 .last .0) (c .before .before .before .before .before .before .resolve3 .result) (c .before .before .before .before .before .before .resolve3 .ensures)))
 

@@ -1,45 +1,32 @@
--- proof
+-- What `slide` puts at the front is the formula, whose length `operand_end` gives (`kept`). Assumes nothing.
 use native.Mathlib.Omega.{arith}
 use borrow.Author.Needs.{needs}
-use Rattle.lists.specs.Runs.{tail}
 use Rattle.nodes.proofs.Fronts.{front-tail, begins-tail}
 use Rattle.resolving.proofs.Walks.{front-at, kept}
 use Rattle.resolving.proofs.keep.Statement.{statement}
 use Rattle.resolving.proofs.keep.Tie as tie
-use Rattle.resolving.proofs.keep.Reads as reads
-use Rattle.resolving.proofs.keep.Lts as lts
-use Rattle.nodes.proofs.operand_end.Reads as operand-end-reads
-use Rattle.runs.proofs.slide.Reads as slide-reads
 
--- src/lib.rt:97:32
 sub-operand-end : tie.Need-sub-operand-end
 sub-operand-end c = let l = front-at (c .before .args .p .now) (c .before .args .at) (c .before .pre .formula) (c .before .pre .rest) (c .before .pre .front) in omega arith
 
--- src/lib.rt:97:32
 part-operand-end-start : tie.Need-part-operand-end-start
 part-operand-end-start c = let l = front-at (c .before .before .args .p .now) (c .before .before .args .at) (c .before .before .pre .formula) (c .before .before .pre .rest) (c .before .before .pre .front) in omega arith
 
--- src/lib.rt:97:32
 part-operand-end-end : tie.Need-part-operand-end-end
 part-operand-end-end c = search needs
 
--- src/lib.rt:97:9
 operand-end-requires : tie.Need-operand-end-requires
 operand-end-requires c κs = begins-tail (c .before .before .before .args .at) (c .before .before .before .args .p .now) (c .before .before .before .pre .formula) (c .before .before .before .pre .rest) (c .before .before .before .pre .front)
 
--- src/lib.rt:98:5
 slide-requires : tie.Need-slide-requires
 slide-requires c κs = let l = front-at (c .before .before .before .before .before .args .p .now) (c .before .before .before .before .before .args .at) (c .before .before .before .before .before .pre .formula) (c .before .before .before .before .before .pre .rest) (c .before .before .before .before .before .pre .front) in let n = c .before .operand-end .ensures (c .before .before .before .before .before .pre .formula) (c .before .before .before .before .before .pre .rest) (front-tail (c .before .before .before .before .before .args .at) (c .before .before .before .before .before .args .p .now) (c .before .before .before .before .before .pre .formula) (c .before .before .before .before .before .pre .rest) (c .before .before .before .before .before .pre .front)) in omega arith
 
--- src/lib.rt:99:21
 add-t5 : tie.Need-add-t5
 add-t5 c = let l = front-at (c .before .before .before .before .before .before .before .before .args .p .now) (c .before .before .before .before .before .before .before .before .args .at) (c .before .before .before .before .before .before .before .before .pre .formula) (c .before .before .before .before .before .before .before .before .pre .rest) (c .before .before .before .before .before .before .before .before .pre .front) in let n = c .before .before .before .before .operand-end .ensures (c .before .before .before .before .before .before .before .before .pre .formula) (c .before .before .before .before .before .before .before .before .pre .rest) (front-tail (c .before .before .before .before .before .before .before .before .args .at) (c .before .before .before .before .before .before .before .before .args .p .now) (c .before .before .before .before .before .before .before .before .pre .formula) (c .before .before .before .before .before .before .before .before .pre .rest) (c .before .before .before .before .before .before .before .before .pre .front)) in omega arith
 
--- src/lib.rt:93:1
 same-length : tie.Need-same-length
 same-length c = search needs
 
--- src/lib.rt:93:1
 returns : tie.Need-returns
 returns c = λ f rest x. kept (c .before .before .before .before .before .before .before .before .args .p .now) (c .before .before .slide .last .0) (c .before .before .before .before .before .before .before .before .args .at) (c .before .before .before .before .operand-end .result) f rest x (c .before .before .before .before .operand-end .ensures) (c .before .before .slide .ensures)
 

@@ -1,55 +1,39 @@
--- proof
-use native.Mathlib.Omega.{arith}
+-- One arm for each leaf. Assumes nothing.
 use borrow.Author.Needs.{needs}
-use mathlib.Core.Path.{refl, sym, ap, _∙_}
+use mathlib.Core.Path.{ap, _∙_}
 use mathlib.Core.Bool.{Bool}
 use Rattle.kinds.specs.declared.Leaf.the-variants.{Const}
 use Rattle.kinds.specs.Kinds.{leafCode}
 use Rattle.resolving.proofs.leaf_under.Statement.{statement}
 use Rattle.resolving.proofs.leaf_under.Tie as tie
-use Rattle.resolving.proofs.leaf_under.Reads as reads
-use Rattle.resolving.proofs.leaf_under.Lts as lts
-use Rattle.resolving.proofs.bit.Reads as bit-reads
-use Rattle.resolving.proofs.constant.Reads as constant-reads
-use Rattle.resolving.proofs.held_under.Reads as held-under-reads
 
--- src/lib.rt:52:21
 enum-known-a : tie.Need-enum-known-a
 enum-known-a c = search needs
 
--- src/lib.rt:52:27
 constant-requires : tie.Need-constant-requires
 constant-requires c κs = search needs
 
--- src/lib.rt:53:20
 enum-known-a-2 : tie.Need-enum-known-a-2
 enum-known-a-2 c = search needs
 
--- src/lib.rt:53:35
 bit-requires : tie.Need-bit-requires
 bit-requires c κs = rw (c .before .a2 .given .1) at (c .before .before .before .pre)
 
--- src/lib.rt:53:26
 constant-requires-2 : tie.Need-constant-requires-2
 constant-requires-2 c κs = search needs
 
--- src/lib.rt:54:20
 enum-known-a-3 : tie.Need-enum-known-a-3
 enum-known-a-3 c = search needs
 
--- src/lib.rt:54:26
 held-under-requires : tie.Need-held-under-requires
 held-under-requires c κs = rw (c .before .a3 .given .1) at (c .before .before .before .pre)
 
--- src/lib.rt:47:1
 returns : tie.Need-returns
 returns c = search needs
 
--- src/lib.rt:47:1
 returns-2 : tie.Need-returns-2
 returns-2 c = rw (c .before .before .before .a2 .given .1) (c .constant2 .ensures ∙ ap (λ (v : Bool). leafCode (Const v)) (c .before .bit .ensures))
 
--- src/lib.rt:47:1
 returns-3 : tie.Need-returns-3
 returns-3 c = rw (c .before .before .a3 .given .1) (c .held-under .ensures)
 

@@ -1,18 +1,13 @@
--- proof
+-- Up to i both agree, so that the answer is that of what is left of them. Assumes nothing.
 use native.Mathlib.Omega.{arith}
 use borrow.Author.Needs.{needs}
-use mathlib.Core.Path.{_≡_, refl, sym, ap, _∙_}
-use mathlib.Core.List.{List}
-use Prim.Native.Nat.{ℕ, _+_, _-_, _≤_, _<_}
-use lib.ListN.{length, getD, set, take, drop, replicate, length-set, length-replicate, length-drop}
-use lib.Seq.{getD-drop}
-use Rattle.lists.proofs.Fill.{filled, filled-length, filled-more, filled-behind, filled-all, filled-whole}
-use Rattle.runs.proofs.Turns.{cleared-more, slid-more, starts-same, starts-other, starts-short, starts-end}
+use mathlib.Core.Path.{_≡_, sym, _∙_}
+use Prim.Native.Nat.{_-_, _≤_}
+use lib.ListN.{drop}
+use Rattle.runs.proofs.Turns.{starts-same, starts-other, starts-short, starts-end}
 use Rattle.runs.specs.Starts.{starts}
 use Rattle.runs.proofs.begins.Statement.{statement}
 use Rattle.runs.proofs.begins.Tie as tie
-use Rattle.runs.proofs.begins.Reads as reads
-use Rattle.runs.proofs.begins.Lts as lts
 
 abbrev Inv-loop : tie.InvT-loop
 Inv-loop l s n i₀ i = (i ≤ n) × (starts l s ≡ starts (drop i l) (drop i s))
@@ -20,39 +15,30 @@ Inv-loop l s n i₀ i = (i ≤ n) × (starts l s ≡ starts (drop i l) (drop i s
 abbrev μ-loop : tie.MeasureT-loop
 μ-loop l s n i₀ i = n - i
 
--- src/lib.rt:64:9
 returns : tie.Need-returns Inv-loop μ-loop
 returns c = sym (starts-short (c .before .args .l .now) (c .before .args .s .now) (c .if1 .taken))
 
--- src/lib.rt:67:5
 loop-holds : tie.Need-loop-holds Inv-loop μ-loop
 loop-holds c = search needs
 
--- src/lib.rt:68:12
 shared-slice-read-if2 : tie.Need-shared-slice-read-if2 Inv-loop μ-loop
 shared-slice-read-if2 c = search needs
 
--- src/lib.rt:68:20
 shared-slice-read-if2-2 : tie.Need-shared-slice-read-if2-2 Inv-loop μ-loop
 shared-slice-read-if2-2 c = search needs
 
--- src/lib.rt:69:13
 returns-2 : tie.Need-returns-2 Inv-loop μ-loop
 returns-2 c = sym (c .before .before .before .before .loop .inv .1 ∙ starts-other (c .before .before .before .before .before .before .args .l .now) (c .before .before .before .before .before .before .args .s .now) (c .before .before .before .before .loop .i) (omega arith) (omega arith) (c .if2 .taken))
 
--- src/lib.rt:71:9
 add-i : tie.Need-add-i Inv-loop μ-loop
 add-i c = search needs
 
--- src/lib.rt:67:5
 loop-less : tie.Need-loop-less Inv-loop μ-loop
 loop-less c = search needs
 
--- src/lib.rt:67:5
 loop-again : tie.Need-loop-again Inv-loop μ-loop
 loop-again c = (omega arith, c .before .before .before .before .loop .inv .1 ∙ starts-same (c .before .before .before .before .before .before .args .l .now) (c .before .before .before .before .before .before .args .s .now) (c .before .before .before .before .loop .i) (omega arith) (omega arith) (c .if2 .left))
 
--- src/lib.rt:59:1
 returns-3 : tie.Need-returns-3 Inv-loop μ-loop
 returns-3 c = sym (c .before .loop .inv .1 ∙ starts-end (c .before .before .before .args .l .now) (c .before .before .before .args .s .now) (c .before .loop .i) (omega arith))
 

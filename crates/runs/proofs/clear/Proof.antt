@@ -1,58 +1,48 @@
--- proof
+-- The loop overlays p with zeros, a byte a turn. Assumes nothing.
 use native.Mathlib.Omega.{arith}
 use borrow.Author.Needs.{needs}
-use mathlib.Core.Path.{_≡_, refl, sym, ap, _∙_}
+use mathlib.Core.Path.{_≡_, ap, _∙_}
 use mathlib.Core.List.{List}
-use Prim.Native.Nat.{ℕ, _+_, _-_, _≤_, _<_}
-use lib.ListN.{length, getD, set, take, drop, replicate, length-set, length-replicate, length-drop}
-use lib.Seq.{getD-drop}
-use Rattle.lists.proofs.Fill.{filled, filled-length, filled-more, filled-behind, filled-all, filled-whole}
-use Rattle.runs.proofs.Turns.{cleared-more, slid-more, starts-same, starts-other, starts-short, starts-end}
+use Prim.Native.Nat.{ℕ, _-_, _≤_}
+use lib.ListN.{length, set, replicate, length-set, length-replicate}
+use Rattle.lists.proofs.Overlay.{overlaid, overlaid-whole}
+use Rattle.runs.proofs.Turns.{cleared-more}
 use Rattle.runs.proofs.clear.Statement.{statement}
 use Rattle.runs.proofs.clear.Tie as tie
-use Rattle.runs.proofs.clear.Reads as reads
-use Rattle.runs.proofs.clear.Lts as lts
 
 abbrev Inv-loop : tie.InvT-loop
-Inv-loop p₀ n i₀ p i = (i ≤ n) × (p ≡ filled i (replicate n 0) p₀) × (length p ≡ length p₀)
+Inv-loop p₀ n i₀ p i = (i ≤ n) × (p ≡ overlaid i (replicate n 0) p₀) × (length p ≡ length p₀)
 
 abbrev μ-loop : tie.MeasureT-loop
 μ-loop p₀ n i₀ p i = n - i
 
--- src/lib.rt:52:5
 loop-holds : tie.Need-loop-holds Inv-loop μ-loop
 loop-holds c = search needs
 
--- src/lib.rt:53:9
 slice-write-p : tie.Need-slice-write-p Inv-loop μ-loop
 slice-write-p c = omega arith
 
--- src/lib.rt:54:9
 add-i : tie.Need-add-i Inv-loop μ-loop
 add-i c = search needs
 
--- src/lib.rt:52:5
 loop-less : tie.Need-loop-less Inv-loop μ-loop
 loop-less c = search needs
 
--- src/lib.rt:52:5
 loop-again : tie.Need-loop-again Inv-loop μ-loop
 loop-again c =
     let k = c .before .loop .inv in
     let z = length-replicate {A = ℕ} (length (c .before .before .args .p .now)) 0 in
     (omega arith, ap (λ (x : List ℕ). set x (c .before .loop .i) 0) (k .1) ∙ cleared-more (c .before .before .args .p .now) (c .before .loop .i) (omega arith), simp length-set (k .2))
 
--- src/lib.rt:47:1
 same-length : tie.Need-same-length Inv-loop μ-loop
 same-length c = c .before .loop .inv .2
 
--- src/lib.rt:47:1
 returns : tie.Need-returns Inv-loop μ-loop
 returns c =
     let zs : List ℕ = replicate (length (c .before .before .args .p .now)) 0 in
     let z : length zs ≡ length (c .before .before .args .p .now) = length-replicate {A = ℕ} (length (c .before .before .args .p .now)) 0 in
     let e : c .before .loop .i ≡ length zs = omega arith in
-    c .before .loop .inv .1 ∙ ap (λ (i : ℕ). filled i zs (c .before .before .args .p .now)) e ∙ filled-whole zs (c .before .before .args .p .now) z
+    c .before .loop .inv .1 ∙ ap (λ (i : ℕ). overlaid i zs (c .before .before .args .p .now)) e ∙ overlaid-whole zs (c .before .before .args .p .now) z
 
 pub clear-spec : {M : Type 1} → statement M
 clear-spec =

@@ -1,67 +1,56 @@
--- proof
+-- The loop overlays p with its own bytes from `from` on, which are read before they are overwritten; what is left of n falls.
+-- Bytes that stand at the front stay. Assumes nothing.
 use native.Mathlib.Omega.{arith}
 use borrow.Author.Needs.{needs}
 use mathlib.Core.Path.{_≡_, sym, ap, _∙_}
 use mathlib.Core.List.{List}
 use Prim.Native.Nat.{ℕ, _+_, _-_, _≤_}
 use lib.ListN.{length, getD, set, drop, length-set, length-drop, take-append-drop}
-use Rattle.lists.proofs.Fill.{filled}
+use Rattle.lists.proofs.Overlay.{overlaid}
 use Rattle.runs.proofs.Turns.{slid-more}
 use Rattle.runs.proofs.slide.Statement.{statement}
 use Rattle.runs.proofs.slide.Tie as tie
-use Rattle.runs.proofs.slide.Reads as reads
-use Rattle.runs.proofs.slide.Lts as lts
 
 abbrev Inv-loop : tie.InvT-loop
-Inv-loop p₀ from n i₀ p i = (i ≤ n) × (p ≡ filled i (drop from p₀) p₀) × (length p ≡ length p₀)
+Inv-loop p₀ from n i₀ p i = (i ≤ n) × (p ≡ overlaid i (drop from p₀) p₀) × (length p ≡ length p₀)
 
 abbrev μ-loop : tie.MeasureT-loop
 μ-loop p₀ from n i₀ p i = n - i
 
--- src/lib.rt:40:9
 returns : tie.Need-returns Inv-loop μ-loop
 returns c = rw (c .if1 .taken) (sym (take-append-drop (c .before .args .n) (c .before .args .p .now)))
 
--- src/lib.rt:43:5
 loop-holds : tie.Need-loop-holds Inv-loop μ-loop
 loop-holds c = search needs
 
--- src/lib.rt:44:18
 add-p : tie.Need-add-p Inv-loop μ-loop
 add-p c = search needs
 
--- src/lib.rt:44:16
 slice-read-p : tie.Need-slice-read-p Inv-loop μ-loop
 slice-read-p c = omega arith
 
--- src/lib.rt:44:9
 slice-write-p : tie.Need-slice-write-p Inv-loop μ-loop
 slice-write-p c = omega arith
 
--- src/lib.rt:45:9
 add-i : tie.Need-add-i Inv-loop μ-loop
 add-i c = search needs
 
--- src/lib.rt:43:5
 loop-less : tie.Need-loop-less Inv-loop μ-loop
 loop-less c = search needs
 
--- src/lib.rt:43:5
 loop-again : tie.Need-loop-again Inv-loop μ-loop
-loop-again c = 
+loop-again c =
     let k = c .before .before .loop .inv in
     let d = length-drop (c .before .before .before .before .args .from) (c .before .before .before .before .args .p .now) in
     (omega arith, ap (λ (x : List ℕ). set x (c .before .before .loop .i) (getD x (c .before .before .before .before .args .from + c .before .before .loop .i) 0)) (k .1) ∙ slid-more (c .before .before .before .before .args .p .now) (c .before .before .before .before .args .from) (c .before .before .loop .i) (omega arith), simp length-set (k .2))
 
--- src/lib.rt:35:1
 same-length : tie.Need-same-length Inv-loop μ-loop
 same-length c = c .before .loop .inv .2
 
--- src/lib.rt:35:1
 returns-2 : tie.Need-returns-2 Inv-loop μ-loop
-returns-2 c = 
+returns-2 c =
     let e : c .before .loop .i ≡ c .before .before .before .args .n = omega arith in
-    c .before .loop .inv .1 ∙ ap (λ (i : ℕ). filled i (drop (c .before .before .before .args .from) (c .before .before .before .args .p .now)) (c .before .before .before .args .p .now)) e
+    c .before .loop .inv .1 ∙ ap (λ (i : ℕ). overlaid i (drop (c .before .before .before .args .from) (c .before .before .before .args .p .now)) (c .before .before .before .args .p .now)) e
 
 pub slide-spec : {M : Type 1} → statement M
 slide-spec =

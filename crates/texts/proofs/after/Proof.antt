@@ -1,80 +1,60 @@
--- proof
-use native.Mathlib.Omega.{arith}
+-- One arm for each kind of node, as the definition has them. Assumes nothing.
 use borrow.Author.Needs.{needs}
 use borrow.Author.Tests.{lt-ltb, le-ltb}
 use Rattle.lists.specs.Tests.{pick}
 use Rattle.texts.proofs.after.Statement.{statement}
 use Rattle.texts.proofs.after.Tie as tie
-use Rattle.texts.proofs.after.Reads as reads
-use Rattle.texts.proofs.after.Lts as lts
 
--- src/lib.rt:22:20
 enum-known-k : tie.Need-enum-known-k
 enum-known-k c = search needs
 
--- src/lib.rt:23:31
 enum-told : tie.Need-enum-told
 enum-told c = search needs
 
--- src/lib.rt:24:24
 enum-known-a : tie.Need-enum-known-a
 enum-known-a c = search needs
 
--- src/lib.rt:24:34
 cast-if1 : tie.Need-cast-if1
 cast-if1 c = search needs
 
--- src/lib.rt:25:30
 enum-told-2 : tie.Need-enum-told-2
 enum-told-2 c = search needs
 
--- src/lib.rt:27:40
 enum-told-3 : tie.Need-enum-told-3
 enum-told-3 c = search needs
 
--- src/lib.rt:27:40
 add-t11 : tie.Need-add-t11
 add-t11 c = search needs
 
--- src/lib.rt:28:40
 enum-told-4 : tie.Need-enum-told-4
 enum-told-4 c = search needs
 
--- src/lib.rt:28:40
 add-t12 : tie.Need-add-t12
 add-t12 c = search needs
 
--- src/lib.rt:29:25
 enum-told-5 : tie.Need-enum-told-5
 enum-told-5 c = search needs
 
--- src/lib.rt:17:1
 returns : tie.Need-returns
 returns c = rw (c .before .before .before .k .given .1, c .enum-told .given .1)
 
--- src/lib.rt:17:1
 returns-2 : tie.Need-returns-2
 unfolding pick
 returns-2 c = rw (c .before .before .before .before .before .k .given .1, c .before .before .a .given .1, lt-ltb _ _ (c .if1 .taken))
 
--- src/lib.rt:17:1
 returns-3 : tie.Need-returns-3
 unfolding pick
 returns-3 c = rw (c .before .before .before .before .before .k .given .1, c .before .before .a .given .1, le-ltb _ _ (c .if1 .left))
 
--- src/lib.rt:17:1
 returns-4 : tie.Need-returns-4
 returns-4 c = search needs
 
--- src/lib.rt:17:1
 returns-5 : tie.Need-returns-5
 returns-5 c = rw (c .enum-told3 .given .1)
 
--- src/lib.rt:17:1
 returns-6 : tie.Need-returns-6
 returns-6 c = rw (c .enum-told4 .given .1)
 
--- src/lib.rt:17:1
 returns-7 : tie.Need-returns-7
 returns-7 c = search needs
 

@@ -1,18 +1,14 @@
--- proof
+-- At each turn the pass from here with what is owed now answers as the whole does; the bytes left fall. Assumes nothing.
 use native.Mathlib.Omega.{arith}
 use borrow.Author.Needs.{needs}
-use mathlib.Core.Path.{_≡_, refl, sym, ap, _∙_}
+use mathlib.Core.Path.{_≡_, refl, sym, _∙_}
 use Prim.Native.Nat.{_+_, _-_, _≤_}
 use lib.ListN.{length, drop, getD}
 use Rattle.kinds.specs.Kinds.{kindOf}
-use Rattle.texts.specs.Scan.{scan, owedAfter}
+use Rattle.texts.specs.Scan.{scan}
 use Rattle.texts.proofs.Scans.{scan-is, turn-over, turn-on, turn-broken, turn-end, owed-bound}
 use Rattle.texts.proofs.is_rule.Statement.{statement}
 use Rattle.texts.proofs.is_rule.Tie as tie
-use Rattle.texts.proofs.is_rule.Reads as reads
-use Rattle.texts.proofs.is_rule.Lts as lts
-use Rattle.kinds.proofs.Kind.of.Reads as of-reads
-use Rattle.texts.proofs.after.Reads as after-reads
 
 abbrev Inv-loop : tie.InvT-loop
 Inv-loop s p owed₀ i₀ owed i = (i ≤ length s) × (owed ≤ i + 1) × (scan p s 1 ≡ scan p (drop i s) owed)
@@ -20,60 +16,47 @@ Inv-loop s p owed₀ i₀ owed i = (i ≤ length s) × (owed ≤ i + 1) × (scan
 abbrev μ-loop : tie.MeasureT-loop
 μ-loop s p owed₀ i₀ owed i = length s - i
 
--- src/lib.rt:39:5
 loop-holds : tie.Need-loop-holds Inv-loop μ-loop
 loop-holds c = (omega arith, omega arith, refl)
 
--- src/lib.rt:41:13
 returns : tie.Need-returns Inv-loop μ-loop
 returns c = sym (sym (scan-is (c .before .before .before .before .args .p) (c .before .before .before .before .args .s .now)) ∙ c .before .before .loop .inv .2 ∙ turn-over (c .before .before .before .before .args .p) (c .before .before .before .before .args .s .now) (c .before .before .loop .i) (c .before .before .loop .owed) (c .before .loop-test .taken) (c .if1 .taken))
 
--- src/lib.rt:43:35
 shared-slice-read-of : tie.Need-shared-slice-read-of Inv-loop μ-loop
 shared-slice-read-of c = search needs
 
--- src/lib.rt:43:26
 of-requires : tie.Need-of-requires Inv-loop μ-loop
 of-requires c κs = search needs
 
--- src/lib.rt:43:42
 sub-after : tie.Need-sub-after Inv-loop μ-loop
 sub-after c = search needs
 
--- src/lib.rt:43:13
 after-requires : tie.Need-after-requires Inv-loop μ-loop
 after-requires c κs = omega arith
 
--- src/lib.rt:44:28
 enum-known-next : tie.Need-enum-known-next Inv-loop μ-loop
 enum-known-next c = search needs
 
--- src/lib.rt:45:13
 enum-told : tie.Need-enum-told Inv-loop μ-loop
 enum-told c = search needs
 
--- src/lib.rt:45:13
 returns-2 : tie.Need-returns-2 Inv-loop μ-loop
 returns-2 c =
     let e = rw (c .before .before .before .of .ensures) at (sym (c .before .before .after .ensures) ∙ c .enum-told .given .1) in
     sym (sym (scan-is (c .before .before .before .before .before .before .before .before .before .args .p) (c .before .before .before .before .before .before .before .before .before .args .s .now)) ∙ c .before .before .before .before .before .before .before .loop .inv .2 ∙ turn-broken (c .before .before .before .before .before .before .before .before .before .args .p) (c .before .before .before .before .before .before .before .before .before .args .s .now) (c .before .before .before .before .before .before .before .loop .i) (c .before .before .before .before .before .before .before .loop .owed) (c .before .before .before .before .before .before .loop-test .taken) (c .before .before .before .before .before .if1 .left) e)
 
--- src/lib.rt:48:9
 add-i : tie.Need-add-i Inv-loop μ-loop
 add-i c = search needs
 
--- src/lib.rt:39:5
 loop-less : tie.Need-loop-less Inv-loop μ-loop
 loop-less c = omega arith
 
--- src/lib.rt:39:5
 loop-again : tie.Need-loop-again Inv-loop μ-loop
 loop-again c =
     let e = rw (c .before .before .before .before .of .ensures) at (sym (c .before .before .before .after .ensures) ∙ c .before .next .given .1) in
     let b = owed-bound (c .before .before .before .before .before .before .before .before .before .before .args .p) (kindOf (getD (c .before .before .before .before .before .before .before .before .before .before .args .s .now) (c .before .before .before .before .before .before .before .before .loop .i) 0)) (c .before .before .before .before .before .before .before .before .loop .owed - 1) (c .before .next .given .0 .0) e in
     (omega arith, omega arith, c .before .before .before .before .before .before .before .before .loop .inv .2 ∙ turn-on (c .before .before .before .before .before .before .before .before .before .before .args .p) (c .before .before .before .before .before .before .before .before .before .before .args .s .now) (c .before .before .before .before .before .before .before .before .loop .i) (c .before .before .before .before .before .before .before .before .loop .owed) (c .before .before .before .before .before .before .before .loop-test .taken) (c .before .before .before .before .before .before .if1 .left) _ e)
 
--- src/lib.rt:34:1
 returns-3 : tie.Need-returns-3 Inv-loop μ-loop
 returns-3 c = sym (sym (scan-is (c .before .before .before .args .p) (c .before .before .before .args .s .now)) ∙ c .before .loop .inv .2 ∙ turn-end (c .before .before .before .args .p) (c .before .before .before .args .s .now) (c .before .loop .i) (c .before .loop .owed) (c .loop-test .left))
 

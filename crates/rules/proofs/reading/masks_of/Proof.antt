@@ -5,7 +5,7 @@ use mathlib.Core.List.{List, _++_}
 use Prim.Native.Nat.{ℕ, _-_, _≤_}
 use native.Mathlib.Omega.{arith}
 use lib.ListN.{length, set, drop, length-set}
-use Rattle.lists.proofs.Fill.{filled, filled-more, filled-all}
+use Rattle.lists.proofs.Overlay.{overlaid, overlaid-more, overlaid-all}
 use Rattle.rules.specs.RuleFile.{masksAt, masksFrom}
 use Rattle.rules.proofs.Files.{masksFrom-length, masksFrom-get}
 use borrow.Author.Needs.{needs}
@@ -13,7 +13,7 @@ use Rattle.rules.proofs.reading.masks_of.Statement.{statement}
 use Rattle.rules.proofs.reading.masks_of.Tie as tie
 
 abbrev Inv-loop : tie.InvT-loop
-Inv-loop file masks₀ b i₀ masks i = (i ≤ b) × (masks ≡ filled i (masksFrom file masksAt b) masks₀) × (length masks ≡ length masks₀)
+Inv-loop file masks₀ b i₀ masks i = (i ≤ b) × (masks ≡ overlaid i (masksFrom file masksAt b) masks₀) × (length masks ≡ length masks₀)
 
 abbrev μ-loop : tie.MeasureT-loop
 μ-loop file masks₀ b i₀ masks i = b - i
@@ -49,7 +49,7 @@ loop-again c =
     let b = c .before .before .before .before .before .args .b in
     let l = masksFrom-length file masksAt b in
     let v = c .u64-at .ensures ∙ sym (masksFrom-get file masksAt b (c .before .before .loop .i) (c .before .loop-test .taken)) in
-    (omega arith, ap₂ (λ (m : List ℕ) (x : ℕ). set m (c .before .before .loop .i) x) (k .1) v ∙ filled-more (masksFrom file masksAt b) (c .before .before .before .before .before .args .masks .now) (c .before .before .loop .i) (omega arith) (omega arith), simp length-set (k .2))
+    (omega arith, ap₂ (λ (m : List ℕ) (x : ℕ). set m (c .before .before .loop .i) x) (k .1) v ∙ overlaid-more (masksFrom file masksAt b) (c .before .before .before .before .before .args .masks .now) (c .before .before .loop .i) (omega arith) (omega arith), simp length-set (k .2))
 
 same-length : tie.Need-same-length Inv-loop μ-loop
 same-length c = c .before .loop .inv .2
@@ -59,7 +59,7 @@ returns c =
     let xs = masksFrom (c .before .before .before .before .args .file .now) masksAt (c .before .before .before .before .args .b) in
     let l = masksFrom-length (c .before .before .before .before .args .file .now) masksAt (c .before .before .before .before .args .b) in
     let e : c .before .loop .i ≡ length xs = omega arith in
-    c .before .loop .inv .1 ∙ ap (λ (j : ℕ). filled j xs (c .before .before .before .before .args .masks .now)) e ∙ filled-all xs (c .before .before .before .before .args .masks .now)
+    c .before .loop .inv .1 ∙ ap (λ (j : ℕ). overlaid j xs (c .before .before .before .before .args .masks .now)) e ∙ overlaid-all xs (c .before .before .before .before .args .masks .now)
     ∙ ap (λ (j : ℕ). xs ++ drop j (c .before .before .before .before .args .masks .now)) l
 
 pub masks-of-spec : {M : Type 1} → statement M

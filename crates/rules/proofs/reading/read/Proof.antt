@@ -9,13 +9,14 @@ use lib.ListN.{length, take, drop, length-take, length-drop}
 use lib.Seq.{length-take-le}
 use lib.Dec.{eqb}
 use borrow.Author.Tests.{eq-eqb, ne-eqb, not-true, not-false}
+use Rattle.ltl.specs.Limits.{boardsMost, propositionsMost, ruleNodesMost}
 use Rattle.lists.specs.Runs.{padded}
 use Rattle.lists.proofs.Parts.{tail-is}
 use Rattle.ltl.specs.Text.{ruleText}
 use Rattle.masks.specs.Masks.{masksRule}
-use Rattle.rules.specs.RuleFile.{version, boardsMost, propositionsMost, nodesMost, masksAt, formulaAt, totalOf, countsOk, versionIn, boardsIn, propositionsIn, nodesIn, masksIn, formulaIn, masksFrom}
+use Rattle.rules.specs.RuleFile.{version, masksAt, formulaAt, totalOf, countsOk, versionIn, boardsIn, propositionsIn, nodesIn, masksIn, formulaIn, masksFrom}
 use Rattle.rules.specs.Read.{lengthsOk, offsetsOk}
-use Rattle.rules.proofs.Files.{held-length, held-front, held-padded}
+use Rattle.rules.proofs.Files.{found-length, found-front, found-padded}
 use Rattle.rules.proofs.Outcomes.{Sized, sized, counted, placed, read-length, read-version, read-range, read-offset, read-masks, read-formula, read-rule}
 use borrow.Author.Needs.{needs}
 use Rattle.rules.proofs.reading.read.Statement.{statement}
@@ -40,7 +41,7 @@ ok-4 c = sym (c .before .offsets-ok .ensures) ∙ not-false _ (c .if4 .left)
 masks-are : (c : tie.After-follow-rule) → masksRule (propositionsIn (c .before .before .before .before .before .before .before .before .before .before .before .before .before .before .before .before .before .before .before .args .file .now)) (masksIn (c .before .before .before .before .before .before .before .before .before .before .before .before .before .before .before .before .before .before .before .args .file .now)) ≡ c .follow-rule .result
 masks-are c =
     rw (← c .before .before .before .before .before .before .before .before .before .before .u16-at3 .ensures, ← c .before .before .before .before .before .before .before .before .before .before .before .u16-at2 .ensures)
-    (sym (c .follow-rule .ensures ∙ ap (masksRule (c .before .before .before .before .before .before .before .before .before .before .u16-at3 .result)) (held-front (c .before .before .before .before .before .before .before .before .before .before .before .before .before .before .before .before .before .before .before .args .file .now) (c .before .before .before .masks-of .last .1 .0) (c .before .before .before .before .before .before .before .before .before .before .before .u16-at2 .result) (c .before .before .before .masks-of .ensures))))
+    (sym (c .follow-rule .ensures ∙ ap (masksRule (c .before .before .before .before .before .before .before .before .before .before .u16-at3 .result)) (found-front (c .before .before .before .before .before .before .before .before .before .before .before .before .before .before .before .before .before .before .before .args .file .now) (c .before .before .before .masks-of .last .1 .0) (c .before .before .before .before .before .before .before .before .before .before .before .u16-at2 .result) (c .before .before .before .masks-of .ensures))))
 
 ok-5 : (c : tie.Else5) → masksRule (propositionsIn (c .before .before .before .before .before .before .before .before .before .before .before .before .before .before .before .before .before .before .before .before .args .file .now)) (masksIn (c .before .before .before .before .before .before .before .before .before .before .before .before .before .before .before .before .before .before .before .before .args .file .now)) ≡ true
 ok-5 c = masks-are (c .before) ∙ not-false _ (c .if5 .left)
@@ -63,7 +64,7 @@ pub record Known (file : List ℕ) (b p n : ℕ) : Type 0 where
   pub nodes : n ≡ nodesIn file
   pub boards-few : b ≤ boardsMost
   pub propositions-few : p ≤ propositionsMost
-  pub nodes-few : n ≤ nodesMost
+  pub nodes-few : n ≤ ruleNodesMost
 
 known : (c : tie.Else3) → Known (c .before .before .before .before .before .before .before .before .before .before .before .before .args .file .now) (c .before .before .before .before .u16-at2 .result) (c .before .before .before .u16-at3 .result) (c .before .before .u16-at4 .result)
 known c =
@@ -129,8 +130,8 @@ slice-aggregate-masks-of c = search needs
 masks-of-requires : tie.Need-masks-of-requires
 masks-of-requires c κs = let k = known (c .before .before .before) in let l = long (c .before) in (omega arith, k .boards-few)
 
-array-share-prefix-held : tie.Need-array-share-prefix-held
-array-share-prefix-held c = let k = known (c .before .before .before .before .before) in let l = c .before .masks-of .kept .1 .0 in omega arith
+array-share-prefix-found : tie.Need-array-share-prefix-found
+array-share-prefix-found c = let k = known (c .before .before .before .before .before) in let l = c .before .masks-of .kept .1 .0 in omega arith
 
 slice-aggregate-follow-rule : tie.Need-slice-aggregate-follow-rule
 slice-aggregate-follow-rule c = let k = known (c .before .before .before .before .before .before) in let l = c .before .before .masks-of .kept .1 .0 in sym (length-take-le _ _ (omega arith))
@@ -183,7 +184,7 @@ hand-out-requires c κs =
     let at = formulaAt (c .before .before .before .before .before .before .before .before .before .before .before .before .before .before .before .before .before .before .before .u16-at2 .result) in
     let t = ap length (tail-is at file) in
     let d = length-drop at file in
-    let h : length (c .before .before .before .before .before .before .before .before .before .before .before .masks-of .last .1 .0) ≡ length (c .before .before .before .before .before .before .before .before .before .before .before .before .before .before .before .before .before .before .before .before .before .before .before .before .before .before .before .args .masks .now) = held-length file (c .before .before .before .before .before .before .before .before .before .before .before .masks-of .last .1 .0) (c .before .before .before .before .before .before .before .before .before .before .before .before .before .before .before .before .before .before .before .u16-at2 .result) (c .before .before .before .before .before .before .before .before .before .before .before .masks-of .ensures) (k .boards-few) ∙ sym (s .masks-room) in
+    let h : length (c .before .before .before .before .before .before .before .before .before .before .before .masks-of .last .1 .0) ≡ length (c .before .before .before .before .before .before .before .before .before .before .before .before .before .before .before .before .before .before .before .before .before .before .before .before .before .before .before .args .masks .now) = found-length file (c .before .before .before .before .before .before .before .before .before .before .before .masks-of .last .1 .0) (c .before .before .before .before .before .before .before .before .before .before .before .before .before .before .before .before .before .before .before .u16-at2 .result) (c .before .before .before .before .before .before .before .before .before .before .before .masks-of .ensures) (k .boards-few) ∙ sym (s .masks-room) in
     let f : length (take (length file - at) (drop at file)) ≤ length (c .before .before .before .before .before .before .before .before .before .before .before .before .before .before .before .before .before .before .before .before .before .before .before .before .before .before .before .args .formula .now) = omega arith in
     (h, f)
 
@@ -201,7 +202,7 @@ returns-7 c =
     let e = c .before .before .before .before .before .before .before .before .before .before .before .before .before .before .before .before .before .before .before .before .before .before .before .before .u16-at2 .ensures in
     read-rule _ _ _ (ok-1 (c .before .before .before .before .before .before .before .before .before .before .before .before .before .before .before .before .before .before .before .before .before .before .before .before .before .before .before)) (ok-2 (c .before .before .before .before .before .before .before .before .before .before .before .before .before .before .before .before .before .before .before .before .before .before .before .before .before)) (ok-3 (c .before .before .before .before .before .before .before .before .before .before .before .before .before .before .before .before .before .before .before .before)) (ok-4 (c .before .before .before .before .before .before .before .before .before .before .before .before .before .before .before .before .before .before)) (ok-5 (c .before .before .before .before .before .before .before .before .before .before .before .before)) (ok-6 (c .before .before .before .before .before .before .before .before .before)) _ _ _
     e (c .before .before .before .before .before .before .before .before .before .before .before .before .before .before .before .before .before .before .before .before .before .before .before .u16-at3 .ensures) (c .before .before .before .before .before .before .before .before .before .before .before .before .before .before .before .before .before .before .before .before .before .before .u16-at4 .ensures)
-    (c .before .before .before .before .hand-out .ensures .0 ∙ held-padded file (c .before .before .before .before .before .before .before .before .before .before .before .before .before .before .before .before .masks-of .last .1 .0) b (c .before .before .before .before .before .before .before .before .before .before .before .before .before .before .before .before .masks-of .ensures) ∙ ap (λ (i : ℕ). padded boardsMost (masksFrom file masksAt i)) e)
+    (c .before .before .before .before .hand-out .ensures .0 ∙ found-padded file (c .before .before .before .before .before .before .before .before .before .before .before .before .before .before .before .before .masks-of .last .1 .0) b (c .before .before .before .before .before .before .before .before .before .before .before .before .before .before .before .before .masks-of .ensures) ∙ ap (λ (i : ℕ). padded boardsMost (masksFrom file masksAt i)) e)
     (c .before .before .before .before .hand-out .ensures .1 ∙ ap₂ (λ (n : ℕ) (u : List ℕ). padded n u) (s .formula-room) (tail-is (formulaAt b) file ∙ ap (λ (i : ℕ). drop (formulaAt i) file) e))
 
 pub read-spec : {M : Type 1} → statement M
@@ -224,7 +225,7 @@ read-spec =
     returns-4
     slice-aggregate-masks-of
     masks-of-requires
-    array-share-prefix-held
+    array-share-prefix-found
     slice-aggregate-follow-rule
     follow-rule-requires
     returns-5
