@@ -1,0 +1,38 @@
+-- `progress::run` is safe and ends: the buffers keep their lengths as they change places, and the ticks that can still be counted fall.
+-- Assumes nothing.
+use mathlib.Core.Path.{_≡_}
+use Prim.Native.Nat.{_-_, _^_}
+use lib.ListN.{length}
+use borrow.Author.Needs.{needs}
+use Rattle.progress.proofs.run.Statement.{statement}
+use Rattle.progress.proofs.run.Tie as tie
+
+abbrev Inv-loop : tie.InvT-loop
+Inv-loop held₀ nodes output₀ waiting₀ ticks₀ held output waiting ticks = (length held ≡ length held₀) × (length output ≡ length output₀)
+
+abbrev μ-loop : tie.MeasureT-loop
+μ-loop held₀ nodes output₀ waiting₀ ticks₀ held output waiting ticks = 2 ^ 64 - ticks
+
+pub run-spec : {M : Type 1} → statement M
+run-spec =
+    tie.close
+    (tie.spec
+    Inv-loop
+    μ-loop
+    (λ c. search needs)
+    (λ c. search needs)
+    (λ c. search needs)
+    (λ c. search needs)
+    (λ c. search needs)
+    (λ c κs. search needs)
+    (λ c. search needs)
+    (λ c. search needs)
+    (λ c. search needs)
+    (λ c. search needs)
+    (λ c κs. search needs)
+    (λ c. search needs)
+    (λ c. search needs)
+    (λ c. search needs)
+    (λ c. search needs)
+    (λ c. search needs)
+    (λ c. search needs))
