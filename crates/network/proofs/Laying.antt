@@ -1,0 +1,85 @@
+-- Laying out by cases: `laid-elim` is the one induction over laying; every fact about laid parts is an instance of it. What it asks
+-- of the choice of boards is `Choice`. Assumes nothing.
+use mathlib.Core.Path.{_≡_, refl, sym, ap, _∙_}
+use mathlib.Core.Bool.{Bool, true, false}
+use mathlib.Core.Logic.{_⊎_, inl, inr, ⊎-elim}
+use mathlib.Core.Option.{Option, none, some}
+use Prim.Native.Nat.{ℕ, _+_}
+use native.Mathlib.Omega.{arith}
+use lib.ListN.{length}
+use lib.Dec.{eqb}
+use borrow.Author.Tests.{eqb-true}
+use Rattle.lists.specs.Tests.{pick}
+use Rattle.kinds.specs.declared.Leaf.the-variants.{Const, Prop, Hold}
+use Rattle.kinds.specs.declared.Unary.the-variants.{Not, Next, Eventually, Always}
+use Rattle.kinds.specs.declared.Join.{Join}
+use Rattle.kinds.specs.declared.Binary.the-variants.{Joined, Until}
+use Rattle.answers.specs.declared.Verdict.the-variants.{Pending}
+use Rattle.ltl.specs.Formula.{Formula, leaf, one, two}
+use Rattle.ltl.specs.Progression.{verdictOf}
+use Rattle.network.specs.Layout.{Laid, whole, under, beside, cut, looked, laid}
+use Rattle.network.proofs.Owned.{Free, Clean, Headed, Flat, free-clean}
+
+-- a constant has no choice, and a next has that of its operand
+pub record Choice (choose : Formula → Option ℕ) : Type 0 where
+  pub pending : (f : Formula) (c : ℕ) → choose f ≡ some c → verdictOf f ≡ Pending
+  pub next : (f : Formula) → choose (one Next f) ≡ choose f
+
+-- each place holder outside next and the temporal operators passes
+abbrev pub HoldsIn : (ℕ → Type 0) → Formula → Type 0
+HoldsIn Q (leaf (Const v)) = Unit {0}
+HoldsIn Q (leaf (Prop i)) = Unit {0}
+HoldsIn Q (leaf (Hold m)) = Q m
+HoldsIn Q (one Not f) = HoldsIn Q f
+HoldsIn Q (one Next f) = Unit {0}
+HoldsIn Q (one Eventually f) = Unit {0}
+HoldsIn Q (one Always f) = Unit {0}
+HoldsIn Q (two (Joined j) f g) = HoldsIn Q f × HoldsIn Q g
+HoldsIn Q (two Until f g) = Unit {0}
+
+module _ (choose : Formula → Option ℕ) (choice : Choice choose) where
+  no-some : (c : ℕ) → _≡_ {A = Option ℕ} none (some c) → ⊥
+  no-some c e = let z : _≡_ {A = ℕ} 0 1 = cc in omega arith
+
+  -- a part that stays on a board is headed by the board's own proposition, if by any
+  pub headed-chosen : (b : ℕ) (f : Formula) → Clean choose f → (choose f ≡ none) ⊎ (choose f ≡ some b) → Headed choose b f
+  headed-chosen b (leaf (Const v)) x c = tt
+  headed-chosen b (leaf (Prop i)) x c = ⊎-elim (λ e. absurd (no-some (x .0) (sym e ∙ x .1))) (λ e. e) c
+  headed-chosen b (leaf (Hold k)) x c = tt
+  headed-chosen b (one Not f) x c = tt
+  headed-chosen b (one Next f) x c = headed-chosen b f (free-clean choose f x) (⊎-elim (λ e. inl (sym (choice .next f) ∙ e)) (λ e. inr (sym (choice .next f) ∙ e)) c)
+  headed-chosen b (one Eventually f) x c = tt
+  headed-chosen b (one Always f) x c = tt
+  headed-chosen b (two o f g) x c = tt
+
+  module _ (hold : ℕ → ℕ → Laid) (Q : ℕ → Type 0) (P : ℕ → ℕ → Formula → Laid → Type 0)
+      (on-constant : (b k : ℕ) (v : Bool) → P b k (leaf (Const v)) (whole (leaf (Const v))))
+      (on-own : (b k i : ℕ) → choose (leaf (Prop i)) ≡ some b → P b k (leaf (Prop i)) (whole (leaf (Prop i))))
+      (on-hold : (b k m : ℕ) → Q m → P b k (leaf (Hold m)) (hold m k))
+      (on-not : (b k : ℕ) (f : Formula) (x : Laid) → P b k f x → P b k (one Not f) (under Not x))
+      (on-next : (b k : ℕ) (f : Formula) → Free choose f → Headed choose b f → P b k (one Next f) (whole (one Next f)))
+      (on-joined : (b k : ℕ) (j : Join) (f g : Formula) (x y : Laid) → P b k f x → P b (k + length (x .slots)) g y → P b k (two (Joined j) f g) (beside (Joined j) x y))
+      (on-cut : (b c k : ℕ) (f : Formula) (x : Laid) → choose f ≡ some c → P c (k + 1) f x → P b k f (cut c k x)) where
+    looked-elim : (o : Option ℕ) (b k : ℕ) (f : Formula) (lay : ℕ → ℕ → Laid) → choose f ≡ o
+        → ((c n : ℕ) → (choose f ≡ none) ⊎ (choose f ≡ some c) → P c n f (lay c n)) → P b k f (looked o b k lay)
+    unfolding looked pick
+    looked-elim none b k f lay e h = h b k (inl e)
+    looked-elim (some c) b k f lay e h = go (eqb c b) refl
+      where
+        go : (t : Bool) → eqb c b ≡ t → P b k f (pick t (lay b k) (cut c k (lay c (k + 1))))
+        go true q = h b k (inr (e ∙ ap some (eqb-true c b q)))
+        go false q = on-cut b c k f (lay c (k + 1)) e (h c (k + 1) (inr e))
+
+    pub laid-elim : (f : Formula) (b k : ℕ) → Clean choose f → Flat choose f → Headed choose b f → HoldsIn Q f → P b k f (laid choose hold f b k)
+    unfolding laid
+    laid-elim (leaf (Const v)) b k c l h q = on-constant b k v
+    laid-elim (leaf (Prop i)) b k c l h q = on-own b k i h
+    laid-elim (leaf (Hold m)) b k c l h q = on-hold b k m q
+    laid-elim (one Not f) b k c l h q =
+        on-not b k f (looked (choose f) b k (laid choose hold f)) (looked-elim (choose f) b k f (laid choose hold f) refl (λ d n o. laid-elim f d n c l (headed-chosen d f c o) q))
+    laid-elim (one Next f) b k c l h q = on-next b k f c h
+    laid-elim (two (Joined j) f g) b k c l h q =
+        let x = looked (choose f) b k (laid choose hold f) in
+        on-joined b k j f g x (looked (choose g) b (k + length (x .slots)) (laid choose hold g))
+        (looked-elim (choose f) b k f (laid choose hold f) refl (λ d n o. laid-elim f d n (c .0) (l .0) (headed-chosen d f (c .0) o) (q .0)))
+        (looked-elim (choose g) b (k + length (x .slots)) g (laid choose hold g) refl (λ d n o. laid-elim g d n (c .1) (l .1) (headed-chosen d g (c .1) o) (q .1)))

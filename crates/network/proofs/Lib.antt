@@ -1,0 +1,13 @@
+-- The split network gives the verdict of one place.
+pub mod Verdicts
+pub mod Owned
+pub mod Values
+pub mod Laying
+pub mod Origins
+pub mod Relaying
+pub mod Ticking
+pub mod Watched
+pub mod Settling
+pub mod Choosing
+pub mod RuleWatch
+pub mod Worked
