@@ -5,9 +5,9 @@ pub mod Values
 pub mod Laying
 pub mod Origins
 pub mod Relaying
+pub mod Settling
 pub mod Ticking
 pub mod Watched
-pub mod Settling
 pub mod Choosing
 pub mod RuleWatch
 pub mod Worked

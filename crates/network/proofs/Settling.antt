@@ -13,7 +13,7 @@ use native.Mathlib.Nat.{eq-or-lt-of-le}
 use native.Mathlib.Omega.{arith}
 use lib.ListN.{length, set, replicate, length-set, length-replicate}
 use lib.Seq.{getD-set-same, getD-set-other, ext-getD}
-use Rattle.lists.proofs.Tests.{no-true, both-true}
+use Rattle.lists.proofs.Tests.{no-true, both-0, both-1, both-true}
 use Rattle.kinds.specs.declared.Leaf.the-variants.{Const, Prop, Hold}
 use Rattle.kinds.specs.declared.Unary.the-variants.{Not, Next, Eventually, Always}
 use Rattle.kinds.specs.declared.Binary.the-variants.{Joined, Until}
@@ -26,7 +26,6 @@ use Rattle.network.specs.Tick.{holdsOnly, marked, verdictAt, stepped, St
 use Rattle.network.proofs.Owned.{Free, Plain}
 use Rattle.network.proofs.Laying.{Choice, HoldsIn}
 use Rattle.network.proofs.Relaying.{holds-map, SlotOk, AllOk, ok-at}
-use Rattle.network.proofs.Ticking.{only-holds}
 
 -- filling in depends only on the slots that are held
 pub filled-same : (p q : ℕ → Verdict) (f : Formula) → HoldsIn (λ m. p m ≡ q m) f → filled p f ≡ filled q f
@@ -39,6 +38,17 @@ filled-same p q (one Eventually f) x = refl
 filled-same p q (one Always f) x = refl
 filled-same p q (two (Joined j) f g) x = ap₂ (join j) (filled-same p q f (x .0)) (filled-same p q g (x .1))
 filled-same p q (two Until f g) x = refl
+
+-- ---- place holders of a slot that is ready
+only-holds : (choose : Formula → Option ℕ) (b : ℕ) (test : ℕ → Bool) (f : Formula) → Plain choose b f → holdsOnly test f ≡ true → HoldsIn (λ m. test m ≡ true) f
+unfolding holdsOnly
+only-holds choose b test (leaf (Const v)) p e = tt
+only-holds choose b test (leaf (Prop i)) p e = tt
+only-holds choose b test (leaf (Hold m)) p e = e
+only-holds choose b test (one Not f) p e = only-holds choose b test f p e
+only-holds choose b test (one Next f) p e = tt
+only-holds choose b test (two (Joined j) f g) p e =
+    (only-holds choose b test f (p .0) (both-0 (holdsOnly test f) (holdsOnly test g) e), only-holds choose b test g (p .1) (both-1 (holdsOnly test f) (holdsOnly test g) e))
 
 -- a plain formula that holds stepped slots alone passes the test
 free-only : (choose : Formula → Option ℕ) (test : ℕ → Bool) (f : Formula) → Free choose f → holdsOnly test f ≡ true
@@ -69,11 +79,11 @@ not-below : (d n : ℕ) → (d < n → ⊥) → n ≤ d
 not-below d n h = omega arith
 
 module _ (choose : Formula → Option ℕ) (choice : Choice choose) (sample : ℕ → Event) (before : List Slot) (ok : AllOk choose choice (length before) 0 before) where
-  slot-ok : (k : ℕ) → k < length before → SlotOk choose choice (length before) k (slotAt before k)
+  pub slot-ok : (k : ℕ) → k < length before → SlotOk choose choice (length before) k (slotAt before k)
   slot-ok k l = let q : 0 + k ≡ k = omega arith in subst (λ (i : ℕ). SlotOk choose choice (length before) i (slotAt before k)) q (ok-at choose choice (length before) 0 before ok k l)
 
   -- slot k as it is once stepped, with the other slots as they stand
-  abbrev settledSlot : List Slot → ℕ → Slot
+  abbrev pub settledSlot : List Slot → ℕ → Slot
   settledSlot slots k =
       let s = slotAt before k in
       record { board = s .board; formula = resolved (sample (s .board)) (filled (verdictAt slots) (s .formula)) }

@@ -23,7 +23,8 @@ use Rattle.network.proofs.Values.{Env, value, value-unfolded, value-ove
 use Rattle.network.proofs.Laying.{Choice}
 use Rattle.network.proofs.Origins.{Models}
 use Rattle.network.proofs.Relaying.{AllOk, load-ok, load-modelled, close-ok, close-modelled}
-use Rattle.network.proofs.Ticking.{shifted, mid-start, mid-steps, tick-stepped, tick-models}
+use Rattle.network.proofs.Settling.{partly-start, partly-steps}
+use Rattle.network.proofs.Ticking.{shifted, tick-stepped, tick-models}
 
 -- a formula by its verdict
 true-is : (f : Formula) → verdictOf f ≡ True → f ≡ constant true
@@ -63,10 +64,10 @@ module _ (choose : Formula → Option ℕ) (choice : Choice choose) (sampled : E
   sound-tick : (us : List Event) (before after : List Slot) → Sound us before → (e : Event) → Ticks choose (sampled e) before after → Sound (us ++ (e ∷ [])) after
   sound-tick us before after s e t =
       let E = s .env in
-      let mid = mid-steps choose choice sampled own E e before (s .ok) (s .models) (t .steps) (mid-start choose choice sampled own E e before) in
-      let stepped = tick-stepped choose choice sampled own E e before (s .ok) (s .models) (t .last) (t .marks) mid (t .all) in
-      let models = tick-models choose choice sampled own E e before (s .ok) (s .models) (t .last) (t .marks) mid (t .all) in
-      let n = mid .many in
+      let partly = partly-steps choose choice (sampled e) before (s .ok) (t .steps) (partly-start choose choice (sampled e) before (s .ok)) in
+      let stepped = tick-stepped choose choice sampled own E e before (s .ok) (s .models) (t .last) (t .marks) partly (t .all) in
+      let models = tick-models choose choice sampled own E e before (s .ok) (s .models) (t .last) (t .marks) partly (t .all) in
+      let n = partly .many in
       let p = s .some-slots in
       let some-last : 0 < length (t .last) = omega arith in
       let m = close-modelled choose choice (t .last) some-last stepped (shifted e E) models in
