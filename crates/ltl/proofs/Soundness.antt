@@ -4,80 +4,23 @@
 -- The rules for and, or and not are each an equivalence (`joined-keeps`, `negated-keeps`); the member rule because a member
 -- follows from an and and implies an or. Assumes nothing.
 use mathlib.Core.Path.{_≡_, refl, sym, subst}
-use mathlib.Core.Bool.{Bool, true, false, not}
+use mathlib.Core.Bool.{Bool, true, false}
 use mathlib.Core.List.{List, [], _∷_}
 use mathlib.Core.Logic.{_⊎_, inl, inr, ⊎-elim, _↔_, Iff·rfl, Iff·trans, Iff·symm}
 use Prim.Native.Nat.{ℕ, zero, suc, _<_, _≤_}
 use native.Mathlib.Nat.{eq-or-lt-of-le}
 use native.Mathlib.Omega.{arith}
-use Rattle.lists.specs.Tests.{pick, either, bit}
+use Rattle.lists.specs.Tests.{bit}
 use Rattle.kinds.specs.declared.Leaf.the-variants.{Const, Prop, Hold}
 use Rattle.kinds.specs.declared.Unary.the-variants.{Not, Next, Eventually, Always}
 use Rattle.kinds.specs.declared.Join.{Join}
 use Rattle.kinds.specs.declared.Join.the-variants.{And, Or}
 use Rattle.kinds.specs.declared.Binary.the-variants.{Joined, Until}
-use Rattle.ltl.specs.Formula.{Formula, leaf, one, two, constant, join, sameBool, sameJoin, same}
+use Rattle.ltl.specs.Formula.{Formula, leaf, one, two, constant, join}
 use Rattle.ltl.specs.Meaning.{Event, Trace, Meets, Satisfies, continued}
-use Rattle.ltl.specs.Progression.{isConstant, negated, deciding, member, joined, progressed, progressedOver}
-use Rattle.lists.proofs.Tests.{no-true, either-elim, pick-elim}
-use Rattle.ltl.proofs.Equal.{same-eq, join-eq}
-
--- ---- a constant is what the test says
-pub constant-is : (v : Bool) (f : Formula) → isConstant v f ≡ true → f ≡ constant v
-unfolding isConstant sameBool
-constant-is true (leaf (Const true)) e = refl
-constant-is true (leaf (Const false)) e = absurd (no-true e)
-constant-is false (leaf (Const true)) e = absurd (no-true e)
-constant-is false (leaf (Const false)) e = refl
-constant-is v (leaf (Prop i)) e = absurd (no-true e)
-constant-is v (leaf (Hold k)) e = absurd (no-true e)
-constant-is v (one o f) e = absurd (no-true e)
-constant-is v (two o f g) e = absurd (no-true e)
-
--- ---- what `joined` and `negated` may give, by cases
-pub joined-elim : (P : Formula → Type 0) (j : Join) (l r : Formula)
-    → (l ≡ constant (deciding j) → P (constant (deciding j)))
-    → (r ≡ constant (deciding j) → P (constant (deciding j)))
-    → (l ≡ constant (not (deciding j)) → P r)
-    → (r ≡ constant (not (deciding j)) → P l)
-    → (member j l r ≡ true → P r)
-    → P (join j l r)
-    → P (joined j l r)
-unfolding joined
-joined-elim P j l r dl dr nl nr m h =
-    pick-elim P (either (isConstant (deciding j) l) (isConstant (deciding j) r)) _ _
-    (λ e. either-elim (isConstant (deciding j) l) (isConstant (deciding j) r) (P (constant (deciding j))) (λ k. dl (constant-is _ l k)) (λ k. dr (constant-is _ r k)) e)
-    (λ _. pick-elim P (isConstant (not (deciding j)) l) _ _ (λ k. nl (constant-is _ l k))
-    (λ _. pick-elim P (isConstant (not (deciding j)) r) _ _ (λ k. nr (constant-is _ r k))
-    (λ _. pick-elim P (member j l r) _ _ m (λ _. h))))
-
-pub negated-elim : (P : Formula → Type 0) (f : Formula) → (f ≡ constant true → P (constant false)) → (f ≡ constant false → P (constant true)) → P (one Not f) → P (negated f)
-unfolding negated
-negated-elim P f t n h =
-    pick-elim P (isConstant true f) _ _ (λ k. t (constant-is _ f k)) (λ _. pick-elim P (isConstant false f) _ _ (λ k. n (constant-is _ f k)) (λ _. h))
-
--- ---- the members of a formula
-pub data Member (j : Join) (l : Formula) : Formula → Type 0 where
-  whole : {r : Formula} → l ≡ r → Member j l r
-  onLeft : {f g : Formula} → l ≡ f → Member j l (join j f g)
-  onRight : {f g : Formula} → Member j l g → Member j l (join j f g)
-
-pub member-is : (j : Join) (l r : Formula) → member j l r ≡ true → Member j l r
-unfolding member pick
-member-is j l (leaf a) e = whole (same-eq l (leaf a) e)
-member-is j l (one o f) e = whole (same-eq l (one o f) e)
-member-is j l (two Until f g) e = whole (same-eq l (two Until f g) e)
-member-is j l (two (Joined k) f g) e =
-    either-elim (same l (join k f g)) (pick (sameJoin j k) (either (same l f) (member j l g)) false) (Member j l (join k f g))
-    (λ q. whole (same-eq l (join k f g) q))
-    (λ q. chain (sameJoin j k) refl (member-is j l g) q)
-    e
-  where
-    chain : (b : Bool) → sameJoin j k ≡ b → (member j l g ≡ true → Member j l g) → pick b (either (same l f) (member j l g)) false ≡ true → Member j l (join k f g)
-    chain true n ih q =
-        subst (λ (x : Join). Member j l (join x f g)) (join-eq j k n)
-        (either-elim (same l f) (member j l g) (Member j l (join j f g)) (λ h. onLeft (same-eq l f h)) (λ h. onRight (ih h)) q)
-    chain false n ih q = absurd (no-true q)
+use Rattle.ltl.specs.Progression.{negated, joined, progressed, progressedOver}
+use Rattle.lists.proofs.Tests.{no-true}
+use Rattle.ltl.proofs.Joining.{joined-elim, negated-elim, Member, whole, onLeft, onRight, member-is}
 
 -- ---- a trace, at any tick
 module _ (w : Trace) where

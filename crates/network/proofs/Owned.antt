@@ -13,7 +13,7 @@ use Rattle.answers.specs.declared.Verdict.the-variants.{False, True, Pending}
 use Rattle.ltl.specs.Formula.{Formula, leaf, one, two}
 use Rattle.ltl.specs.Meaning.{Event}
 use Rattle.ltl.specs.Progression.{unfolded, resolved, filledBy, filled}
-use Rattle.ltl.proofs.Soundness.{joined-elim, negated-elim}
+use Rattle.ltl.proofs.Joining.{joined-elim, negated-elim}
 
 module _ (choose : Formula → Option ℕ) where
   -- the proposition has a board

@@ -17,7 +17,7 @@ use Rattle.answers.specs.declared.Verdict.the-variants.{False, True, Pending}
 use Rattle.ltl.specs.Formula.{Formula, leaf, one, two}
 use Rattle.ltl.specs.Meaning.{Event}
 use Rattle.ltl.specs.Progression.{resolved, filled, filledBy, verdictOf}
-use Rattle.ltl.proofs.Soundness.{joined-elim, negated-elim}
+use Rattle.ltl.proofs.Joining.{joined-elim, negated-elim}
 use Rattle.network.specs.Layout.{Slot, slotAt}
 use Rattle.network.specs.Tick.{verdictAt, AllMarked}
 use Rattle.network.proofs.Verdicts.{known, opposite, together}

@@ -5,8 +5,7 @@ use mathlib.Core.Bool.{Bool, true, false, not}
 use mathlib.Core.List.{List, [], _∷_}
 use mathlib.Core.Option.{Option}
 use Prim.Native.Nat.{ℕ}
-use Rattle.lists.specs.Tests.{pick, either, bit}
-use Rattle.lists.proofs.Tests.{no-true}
+use Rattle.lists.specs.Tests.{pick, bit}
 use Rattle.kinds.specs.declared.Leaf.the-variants.{Const, Prop, Hold}
 use Rattle.kinds.specs.declared.Unary.the-variants.{Not, Next, Eventually, Always}
 use Rattle.kinds.specs.declared.Join.{Join}
@@ -14,10 +13,10 @@ use Rattle.kinds.specs.declared.Join.the-variants.{And, Or}
 use Rattle.kinds.specs.declared.Binary.the-variants.{Joined, Until}
 use Rattle.answers.specs.declared.Verdict.{Verdict}
 use Rattle.answers.specs.declared.Verdict.the-variants.{Pending}
-use Rattle.ltl.specs.Formula.{Formula, leaf, one, two, constant, join, sameBool}
+use Rattle.ltl.specs.Formula.{Formula, leaf, one, two, constant, join}
 use Rattle.ltl.specs.Meaning.{Event}
-use Rattle.ltl.specs.Progression.{unfolded, isConstant, negated, deciding, member, joined, progressed, progressedOver, verdictOf}
-use Rattle.ltl.proofs.Soundness.{constant-is, Member, whole, onLeft, onRight, member-is}
+use Rattle.ltl.specs.Progression.{unfolded, isConstant, negated, deciding, joined, progressed, progressedOver, verdictOf}
+use Rattle.ltl.proofs.Joining.{constant-is, two-ways, pending, joined-cases, Member, whole, onLeft, onRight, member-is}
 use Rattle.network.proofs.Owned.{Free}
 use Rattle.network.proofs.Verdicts.{known, opposite, together, together-left, together-right, together-skip, together-keep, together-same, together-again, together-swap}
 
@@ -46,48 +45,6 @@ pub value-constant : (E : Env) (u : List Event) (v : Bool) → value E u (consta
 value-constant E [] true = refl
 value-constant E [] false = refl
 value-constant E (e ∷ u) v = refl
-
--- ---- what is no constant is pending
-pub pending : (f : Formula) → ((v : Bool) → isConstant v f ≡ false) → verdictOf f ≡ Pending
-unfolding isConstant sameBool
-pending (leaf (Const true)) p = absurd (no-true (sym (p true)))
-pending (leaf (Const false)) p = absurd (no-true (sym (p false)))
-pending (leaf (Prop i)) p = refl
-pending (leaf (Hold k)) p = refl
-pending (one o f) p = refl
-pending (two o f g) p = refl
-
-two-ways : (w v : Bool) (f : Formula) → isConstant w f ≡ false → isConstant (not w) f ≡ false → isConstant v f ≡ false
-two-ways true true f a b = a
-two-ways true false f a b = b
-two-ways false true f a b = b
-two-ways false false f a b = a
-
--- what `joined` gives, by cases, with what is known of the operands in each
-joined-cases : (P : Formula → Type 0) (j : Join) (l r : Formula)
-    → (l ≡ constant (deciding j) → P (constant (deciding j)))
-    → (r ≡ constant (deciding j) → P (constant (deciding j)))
-    → (l ≡ constant (not (deciding j)) → P r)
-    → (r ≡ constant (not (deciding j)) → P l)
-    → (member j l r ≡ true → verdictOf l ≡ Pending → verdictOf r ≡ Pending → P r)
-    → (verdictOf l ≡ Pending → verdictOf r ≡ Pending → P (join j l r))
-    → P (joined j l r)
-unfolding joined pick either
-joined-cases P j l r dl dr nl nr m h =
-    go (isConstant (deciding j) l) refl (isConstant (deciding j) r) refl (isConstant (not (deciding j)) l) refl (isConstant (not (deciding j)) r) refl (member j l r) refl
-  where
-    settled : (f : Formula) → isConstant (deciding j) f ≡ false → isConstant (not (deciding j)) f ≡ false → verdictOf f ≡ Pending
-    settled f a b = pending f (λ v. two-ways (deciding j) v f a b)
-
-    go : (a : Bool) → isConstant (deciding j) l ≡ a → (b : Bool) → isConstant (deciding j) r ≡ b → (c : Bool) → isConstant (not (deciding j)) l ≡ c
-        → (d : Bool) → isConstant (not (deciding j)) r ≡ d → (e : Bool) → member j l r ≡ e
-        → P (pick (either a b) (constant (deciding j)) (pick c r (pick d l (pick e r (join j l r)))))
-    go true p b q c s d t e u = dl (constant-is (deciding j) l p)
-    go false p true q c s d t e u = dr (constant-is (deciding j) r q)
-    go false p false q true s d t e u = nl (constant-is (not (deciding j)) l s)
-    go false p false q false s true t e u = nr (constant-is (not (deciding j)) r t)
-    go false p false q false s false t true u = m u (settled l p s) (settled r q t)
-    go false p false q false s false t false u = h (settled l p s) (settled r q t)
 
 -- ---- the connectives, for all events
 module _ (E : Env) (e : Event) (u : List Event) where

@@ -10,7 +10,7 @@ use Rattle.answers.specs.declared.Verdict.{Verdict}
 use Rattle.answers.specs.declared.Verdict.the-variants.{False, True, Pending}
 use Rattle.ltl.specs.Formula.{Formula, leaf, one, two, Within}
 use Rattle.ltl.specs.Progression.{negated, joined, resolved, filledBy}
-use Rattle.ltl.proofs.Soundness.{joined-elim, negated-elim}
+use Rattle.ltl.proofs.Joining.{joined-elim, negated-elim}
 use Rattle.resolving.specs.declared.Seen.{Seen}
 use Rattle.resolving.specs.Settles.{heldBy, settled, settledLeaf}
 

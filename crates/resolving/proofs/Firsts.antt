@@ -18,7 +18,7 @@ use Rattle.kinds.specs.declared.Binary.the-variants.{Joined, Until}
 use Rattle.kinds.specs.Kinds.{leafCode, unaryCode, binaryCode}
 use Rattle.ltl.specs.Formula.{Formula, leaf, one, two, constant, join, sameBool, encode}
 use Rattle.ltl.specs.Progression.{isConstant, negated, deciding, member, joined}
-use Rattle.ltl.proofs.Soundness.{constant-is}
+use Rattle.ltl.proofs.Joining.{constant-is}
 
 abbrev pub first : Formula → ℕ
 first f = getD (encode f) 0 0
