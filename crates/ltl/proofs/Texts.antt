@@ -17,7 +17,7 @@ use Rattle.kinds.specs.declared.Kind.{Kind}
 use Rattle.kinds.specs.Kinds.{leafWithin, unaryCode, binaryCode}
 use Rattle.kinds.proofs.Codes.{CodeOf, isZero, isOne, isTwo, isNone, code, kind-leaf, kind-unary, kind-binary}
 use Rattle.ltl.specs.Formula.{Formula, leaf, one, two, size, encode, Within, leafOver, over}
-use Rattle.ltl.specs.Text.{Parsed, Reader, withOne, withSecond, withTwo, node, parse, before, alone, textOf, overAlone, ruleText}
+use Rattle.ltl.specs.Text.{Parsed, Reader, withOne, withSecond, withTwo, node, parse, before, alone, textOf, overAlone, textOver, ruleText}
 use Rattle.lists.proofs.Tests.{no-true, both-0, both-1, both-true}
 
 -- ---- sizes
@@ -151,15 +151,15 @@ pub record RuleText (p : ℕ) (l : List ℕ) : Type 0 where
   pub bytes : l ≡ encode formula
 
 pub rule-is : (p : ℕ) (l : List ℕ) → ruleText p l ≡ true → RuleText p l
-unfolding ruleText
+unfolding textOver
 rule-is p l e = go (textOf l) refl e
   where
-    go : (x : Option Formula) → textOf l ≡ x → overAlone p x ≡ true → RuleText p l
+    go : (x : Option Formula) → textOf l ≡ x → overAlone p 0 x ≡ true → RuleText p l
     go none q r = absurd (no-true r)
     go (some f) q r = record { formula = f; within = over-within p 0 f r; bytes = text-is l f q .1 }
 
 pub rule-of : (p : ℕ) (l : List ℕ) → p ≤ 64 → RuleText p l → ruleText p l ≡ true
-unfolding ruleText
+unfolding textOver
 rule-of p l h t =
     let f = t .formula in
     let e : textOf l ≡ some f = ap textOf (t .bytes) ∙ text-of f (wider p 0 64 64 h (omega arith) f (t .within)) in

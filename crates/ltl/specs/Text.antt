@@ -1,4 +1,4 @@
--- Bytes read as a formula. Others use `textOf`, `ruleText` and their laws in proofs/Texts.antt.
+-- Bytes read as a formula. Others use `textOf`, `textOver`, `ruleText` and their laws in proofs/Texts.antt.
 -- Assumes nothing: these are definitions.
 use Prim.Native.Nat.{ℕ, zero, suc}
 use mathlib.Core.Bool.{Bool, false}
@@ -59,10 +59,14 @@ alone (some x) = before (x .behind) (x .formula)
 abbrev pub textOf : List ℕ → Option Formula
 textOf l = alone (parse (length l) l)
 
--- one whole formula of the language with propositions below p alone and no place holder
-abbrev pub overAlone : ℕ → Option Formula → Bool
-overAlone p none = false
-overAlone p (some f) = over p 0 f
+-- one whole formula of the language with propositions below p and place holders below h alone
+abbrev pub overAlone : ℕ → ℕ → Option Formula → Bool
+overAlone p h none = false
+overAlone p h (some f) = over p h f
 
-unfoldable pub ruleText : ℕ → List ℕ → Bool
-ruleText p l = overAlone p (textOf l)
+unfoldable pub textOver : ℕ → ℕ → List ℕ → Bool
+textOver p h l = overAlone p h (textOf l)
+
+-- a rule's formula: no place holder
+abbrev pub ruleText : ℕ → List ℕ → Bool
+ruleText p l = textOver p 0 l

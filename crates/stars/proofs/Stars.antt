@@ -12,7 +12,7 @@ use Rattle.kinds.specs.Kinds.{kindOf}
 use Rattle.ltl.specs.Formula.{encode, sameBool, sameLeaf, same, leafOver, over}
 use Rattle.ltl.specs.Meaning.{Event}
 use Rattle.ltl.specs.Progression.{isConstant, negated, member, joined, progressed, progressedOver}
-use Rattle.ltl.specs.Text.{ruleText}
+use Rattle.ltl.specs.Text.{textOver}
 use Rattle.central.specs.Central.{lengthsOk, formulaOf, centralSays}
 
 -- progressing the bytes of a formula over one event gives the bytes of another: what the call answers, and what it leaves
@@ -45,7 +45,7 @@ for-ever [] = refl
 for-ever (e ∷ us) = for-ever us
 
 pub stars : Stars
-unfolding pick both either bit inOrder kindOf sameBool sameLeaf same leafOver over ruleText isConstant negated member joined lengthsOk centralSays
+unfolding pick both either bit inOrder kindOf sameBool sameLeaf same leafOver over textOver isConstant negated member joined lengthsOk centralSays
 stars =
     record {
       until-a = record { says = refl; leaves = refl };

@@ -21,70 +21,74 @@ use Rattle.kinds.specs.declared.Kind.the-variants.{Zero, One, Two, NoCode}
 use Rattle.kinds.specs.Kinds.{leafWithin, kindOf, leafCode, unaryCode, binaryCode}
 use Rattle.kinds.proofs.Codes.{CodeOf, isZero, isOne, isTwo, isNone, code, kind-leaf, kind-unary, kind-binary}
 use Rattle.ltl.specs.Formula.{Formula, leaf, one, two, encode, Within}
-use Rattle.ltl.specs.Text.{textOf, overAlone, ruleText}
+use Rattle.ltl.specs.Text.{textOf, overAlone, textOver}
 use Rattle.lists.proofs.Tests.{no-true, test-eq}
 use Rattle.ltl.proofs.Texts.{text-of, text-is, over-within, within-over}
 use Rattle.texts.specs.declared.Owed.the-variants.{Operands, Broken}
 use Rattle.texts.specs.Scan.{owedAfter, goOn, scan}
 
-scan-cons : (p b n : ℕ) (l : List ℕ) → scan p (b ∷ l) (suc n) ≡ goOn (owedAfter p (kindOf b) n) (λ m. scan p l m)
+scan-cons : (p z b n : ℕ) (l : List ℕ) → scan p z (b ∷ l) (suc n) ≡ goOn (owedAfter p z (kindOf b) n) (λ m. scan p z l m)
 unfolding scan
-scan-cons p b n l = refl
+scan-cons p z b n l = refl
 
 -- at the end nothing is owed
-scan-done : (p : ℕ) → scan p [] 0 ≡ true
+scan-done : (p z : ℕ) → scan p z [] 0 ≡ true
 unfolding scan
-scan-done p = refl
+scan-done p z = refl
 
-scan-empty : (p n : ℕ) → scan p [] (suc n) ≡ true → ⊥
+scan-empty : (p z n : ℕ) → scan p z [] (suc n) ≡ true → ⊥
 unfolding scan
-scan-empty p n h = let e = eqb-true (suc n) 0 h in omega arith
+scan-empty p z n h = let e = eqb-true (suc n) 0 h in omega arith
 
-scan-nothing : (p : ℕ) (r : List ℕ) → scan p r 0 ≡ true → r ≡ []
+scan-nothing : (p z : ℕ) (r : List ℕ) → scan p z r 0 ≡ true → r ≡ []
 unfolding scan
-scan-nothing p [] h = refl
-scan-nothing p (b ∷ r) h = absurd (no-true h)
+scan-nothing p z [] h = refl
+scan-nothing p z (b ∷ r) h = absurd (no-true h)
 
 -- ---- a formula in front
-scan-leaf : (p : ℕ) (a : Leaf) (n : ℕ) (l : List ℕ) → leafWithin p 0 a → leafWithin 64 64 a → scan p (leafCode a ∷ l) (suc n) ≡ scan p l n
+scan-leaf : (p z : ℕ) (a : Leaf) (n : ℕ) (l : List ℕ) → leafWithin p z a → leafWithin 64 64 a → scan p z (leafCode a ∷ l) (suc n) ≡ scan p z l n
 unfolding pick
-scan-leaf p (Const v) n l w c = scan-cons p (leafCode (Const v)) n l ∙ rw (kind-leaf (Const v) tt)
-scan-leaf p (Prop i) n l w c = scan-cons p (64 + i) n l ∙ rw (kind-leaf (Prop i) c, lt-ltb i p w)
-scan-leaf p (Hold k) n l w c = absurd (omega arith)
+scan-leaf p z (Const v) n l w c = scan-cons p z (leafCode (Const v)) n l ∙ rw (kind-leaf (Const v) tt)
+scan-leaf p z (Prop i) n l w c = scan-cons p z (64 + i) n l ∙ rw (kind-leaf (Prop i) c, lt-ltb i p w)
+scan-leaf p z (Hold k) n l w c = scan-cons p z (128 + k) n l ∙ rw (kind-leaf (Hold k) c, lt-ltb k z w)
 
-scan-encode : (p : ℕ) (f : Formula) (n : ℕ) (l : List ℕ) → Within p 0 f → Within 64 64 f → scan p (encode f ++ l) (suc n) ≡ scan p l n
-scan-encode p (leaf a) n l w c = scan-leaf p a n l w c
-scan-encode p (one o f) n l w c = scan-cons p (unaryCode o) n (encode f ++ l) ∙ rw (kind-unary o, add-one) (scan-encode p f n l w c)
-scan-encode p (two o f g) n l w c =
+scan-encode : (p z : ℕ) (f : Formula) (n : ℕ) (l : List ℕ) → Within p z f → Within 64 64 f → scan p z (encode f ++ l) (suc n) ≡ scan p z l n
+scan-encode p z (leaf a) n l w c = scan-leaf p z a n l w c
+scan-encode p z (one o f) n l w c = scan-cons p z (unaryCode o) n (encode f ++ l) ∙ rw (kind-unary o, add-one) (scan-encode p z f n l w c)
+scan-encode p z (two o f g) n l w c =
     let e : n + 2 ≡ suc (suc n) = omega arith in
-    scan-cons p (binaryCode o) n ((encode f ++ encode g) ++ l)
-    ∙ rw (kind-binary o, e, append-assoc (encode f) (encode g) l) (scan-encode p f (suc n) (encode g ++ l) (w .0) (c .0) ∙ scan-encode p g n l (w .1) (c .1))
+    scan-cons p z (binaryCode o) n ((encode f ++ encode g) ++ l)
+    ∙ rw (kind-binary o, e, append-assoc (encode f) (encode g) l) (scan-encode p z f (suc n) (encode g ++ l) (w .0) (c .0) ∙ scan-encode p z g n l (w .1) (c .1))
 
 -- ---- and only then
-pub record Leading (p n : ℕ) (l : List ℕ) : Type 0 where
+pub record Leading (p z n : ℕ) (l : List ℕ) : Type 0 where
   pub formula : Formula
   pub behind : List ℕ
-  pub within : Within p 0 formula
+  pub within : Within p z formula
   pub coded : Within 64 64 formula
   pub bytes : l ≡ encode formula ++ behind
-  pub goes : scan p behind n ≡ true
+  pub goes : scan p z behind n ≡ true
 
-leading-leaf : (p : ℕ) (a : Leaf) (n b : ℕ) (l : List ℕ) → b ≡ leafCode a → leafWithin 64 64 a → goOn (owedAfter p (Zero a) n) (λ m. scan p l m) ≡ true → Leading p n (b ∷ l)
+leading-leaf : (p z : ℕ) (a : Leaf) (n b : ℕ) (l : List ℕ) → b ≡ leafCode a → leafWithin 64 64 a → goOn (owedAfter p z (Zero a) n) (λ m. scan p z l m) ≡ true → Leading p z n (b ∷ l)
 unfolding pick
-leading-leaf p (Const v) n b l e c h = record { formula = leaf (Const v); behind = l; within = tt; coded = tt; bytes = ap (_∷ l) e; goes = h }
-leading-leaf p (Prop i) n b l e c h = go (ltb i p) refl h
+leading-leaf p z (Const v) n b l e c h = record { formula = leaf (Const v); behind = l; within = tt; coded = tt; bytes = ap (_∷ l) e; goes = h }
+leading-leaf p z (Prop i) n b l e c h = go (ltb i p) refl h
   where
-    go : (x : Bool) → ltb i p ≡ x → goOn (pick x (Operands n) Broken) (λ m. scan p l m) ≡ true → Leading p n (b ∷ l)
+    go : (x : Bool) → ltb i p ≡ x → goOn (pick x (Operands n) Broken) (λ m. scan p z l m) ≡ true → Leading p z n (b ∷ l)
     go true q k = record { formula = leaf (Prop i); behind = l; within = ltb-true i p q; coded = c; bytes = ap (_∷ l) e; goes = k }
     go false q k = absurd (no-true k)
-leading-leaf p (Hold k) n b l e c h = absurd (no-true h)
+leading-leaf p z (Hold k) n b l e c h = go (ltb k z) refl h
+  where
+    go : (x : Bool) → ltb k z ≡ x → goOn (pick x (Operands n) Broken) (λ m. scan p z l m) ≡ true → Leading p z n (b ∷ l)
+    go true q h = record { formula = leaf (Hold k); behind = l; within = ltb-true k z q; coded = c; bytes = ap (_∷ l) e; goes = h }
+    go false q h = absurd (no-true h)
 
-leading-one : (p : ℕ) (o : Unary) (n b : ℕ) (l : List ℕ) → b ≡ unaryCode o → Leading p n l → Leading p n (b ∷ l)
-leading-one p o n b l e x =
+leading-one : (p z : ℕ) (o : Unary) (n b : ℕ) (l : List ℕ) → b ≡ unaryCode o → Leading p z n l → Leading p z n (b ∷ l)
+leading-one p z o n b l e x =
     record { formula = one o (x .formula); behind = x .behind; within = x .within; coded = x .coded; bytes = rw (e, ← x .bytes); goes = x .goes }
 
-leading-two : (p : ℕ) (o : Binary) (n b : ℕ) (l : List ℕ) → b ≡ binaryCode o → (x : Leading p (suc n) l) → Leading p n (x .behind) → Leading p n (b ∷ l)
-leading-two p o n b l e x y =
+leading-two : (p z : ℕ) (o : Binary) (n b : ℕ) (l : List ℕ) → b ≡ binaryCode o → (x : Leading p z (suc n) l) → Leading p z n (x .behind) → Leading p z n (b ∷ l)
+leading-two p z o n b l e x y =
     record {
       formula = two o (x .formula) (y .formula);
       behind = y .behind;
@@ -94,81 +98,85 @@ leading-two p o n b l e x y =
       goes = y .goes;
     }
 
-leading-node : (p n m b : ℕ) (l : List ℕ) {k : Kind} → CodeOf b k → length l ≤ m
-    → ((n : ℕ) (l : List ℕ) → length l ≤ m → scan p l (suc n) ≡ true → Leading p n l)
-    → goOn (owedAfter p k n) (λ m. scan p l m) ≡ true → Leading p n (b ∷ l)
-leading-node p n m b l (isZero {a = a} e c) q ih h = leading-leaf p a n b l e c h
-leading-node p n m b l (isOne {o = o} e) q ih h = leading-one p o n b l e (ih n l q (rw add-one at h))
-leading-node p n m b l (isTwo {o = o} e) q ih h =
+leading-node : (p z n m b : ℕ) (l : List ℕ) {k : Kind} → CodeOf b k → length l ≤ m
+    → ((n : ℕ) (l : List ℕ) → length l ≤ m → scan p z l (suc n) ≡ true → Leading p z n l)
+    → goOn (owedAfter p z k n) (λ m. scan p z l m) ≡ true → Leading p z n (b ∷ l)
+leading-node p z n m b l (isZero {a = a} e c) q ih h = leading-leaf p z a n b l e c h
+leading-node p z n m b l (isOne {o = o} e) q ih h = leading-one p z o n b l e (ih n l q (rw add-one at h))
+leading-node p z n m b l (isTwo {o = o} e) q ih h =
     let r : n + 2 ≡ suc (suc n) = omega arith in
     let x = ih (suc n) l q (rw r at h) in
-    leading-two p o n b l e x (ih n (x .behind) (behind-short x) (x .goes))
+    leading-two p z o n b l e x (ih n (x .behind) (behind-short x) (x .goes))
   where
-    behind-short : (x : Leading p (suc n) l) → length (x .behind) ≤ m
+    behind-short : (x : Leading p z (suc n) l) → length (x .behind) ≤ m
     behind-short x = let a = ap length (x .bytes) in let d = length-append (encode (x .formula)) (x .behind) in omega arith
-leading-node p n m b l isNone q ih h = absurd (no-true h)
+leading-node p z n m b l isNone q ih h = absurd (no-true h)
 
-scan-leading : (m p n : ℕ) (l : List ℕ) → length l ≤ m → scan p l (suc n) ≡ true → Leading p n l
-scan-leading zero p n [] q h = absurd (scan-empty p n h)
-scan-leading zero p n (b ∷ l) q h = absurd (omega arith)
-scan-leading (suc m) p n [] q h = absurd (scan-empty p n h)
-scan-leading (suc m) p n (b ∷ l) q h =
-    leading-node p n m b l (code b) (omega arith) (λ n l. scan-leading m p n l) (sym (scan-cons p b n l) ∙ h)
+scan-leading : (m p z n : ℕ) (l : List ℕ) → length l ≤ m → scan p z l (suc n) ≡ true → Leading p z n l
+scan-leading zero p z n [] q h = absurd (scan-empty p z n h)
+scan-leading zero p z n (b ∷ l) q h = absurd (omega arith)
+scan-leading (suc m) p z n [] q h = absurd (scan-empty p z n h)
+scan-leading (suc m) p z n (b ∷ l) q h =
+    leading-node p z n m b l (code b) (omega arith) (λ n l. scan-leading m p z n l) (sym (scan-cons p z b n l) ∙ h)
 
 -- ---- the pass is the rule's formula
-scan-text : (p : ℕ) (l : List ℕ) → scan p l 1 ≡ true → ruleText p l ≡ true
-unfolding ruleText
-scan-text p l h =
-    let x = scan-leading (length l) p 0 l (omega arith) h in
-    let e : l ≡ encode (x .formula) = x .bytes ∙ ap (encode (x .formula) ++_) (scan-nothing p (x .behind) (x .goes)) ∙ append-nil (encode (x .formula)) in
+scan-text : (p z : ℕ) (l : List ℕ) → scan p z l 1 ≡ true → textOver p z l ≡ true
+unfolding textOver
+scan-text p z l h =
+    let x = scan-leading (length l) p z 0 l (omega arith) h in
+    let e : l ≡ encode (x .formula) = x .bytes ∙ ap (encode (x .formula) ++_) (scan-nothing p z (x .behind) (x .goes)) ∙ append-nil (encode (x .formula)) in
     let t : textOf l ≡ some (x .formula) = ap textOf e ∙ text-of (x .formula) (x .coded) in
-    rw t (within-over p 0 (x .formula) (x .within))
+    rw t (within-over p z (x .formula) (x .within))
 
-text-scan : (p : ℕ) (l : List ℕ) → ruleText p l ≡ true → scan p l 1 ≡ true
-unfolding ruleText
-text-scan p l h = go (textOf l) refl h
+text-scan : (p z : ℕ) (l : List ℕ) → textOver p z l ≡ true → scan p z l 1 ≡ true
+unfolding textOver
+text-scan p z l h = go (textOf l) refl h
   where
-    go : (x : Option Formula) → textOf l ≡ x → overAlone p x ≡ true → scan p l 1 ≡ true
+    go : (x : Option Formula) → textOf l ≡ x → overAlone p z x ≡ true → scan p z l 1 ≡ true
     go none q r = absurd (no-true r)
     go (some f) q r =
         let t = text-is l f q in
-        ap (λ (k : List ℕ). scan p k 1) (t .1 ∙ sym (append-nil (encode f))) ∙ scan-encode p f 0 [] (over-within p 0 f r) (t .0) ∙ scan-done p
+        ap (λ (k : List ℕ). scan p z k 1) (t .1 ∙ sym (append-nil (encode f))) ∙ scan-encode p z f 0 [] (over-within p z f r) (t .0) ∙ scan-done p z
 
-pub scan-is : (p : ℕ) (l : List ℕ) → scan p l 1 ≡ ruleText p l
-scan-is p l = test-eq (scan p l 1) (ruleText p l) (scan-text p l) (text-scan p l)
+pub scan-is : (p z : ℕ) (l : List ℕ) → scan p z l 1 ≡ textOver p z l
+scan-is p z l = test-eq (scan p z l 1) (textOver p z l) (scan-text p z l) (text-scan p z l)
 
 -- ---- one turn of the loop, over plain lists
-module _ (p : ℕ) (s : List ℕ) (i owed : ℕ) where
-  pub turn-over : i < length s → owed ≡ 0 → scan p (drop i s) owed ≡ false
+module _ (p z : ℕ) (s : List ℕ) (i owed : ℕ) where
+  pub turn-over : i < length s → owed ≡ 0 → scan p z (drop i s) owed ≡ false
   unfolding scan
   turn-over h e = rw (drop-cons s i 0 h, e)
 
   module _ (h : i < length s) (k : owed ≡ 0 → ⊥) where
-    turn : scan p (drop i s) owed ≡ goOn (owedAfter p (kindOf (getD s i 0)) (owed - 1)) (λ m. scan p (drop (i + 1) s) m)
+    turn : scan p z (drop i s) owed ≡ goOn (owedAfter p z (kindOf (getD s i 0)) (owed - 1)) (λ m. scan p z (drop (i + 1) s) m)
     turn =
         let e : owed ≡ suc (owed - 1) = omega arith in
-        rw (drop-cons s i 0 h, add-one) (ap (scan p (getD s i 0 ∷ drop (suc i) s)) e ∙ scan-cons p (getD s i 0) (owed - 1) (drop (suc i) s))
+        rw (drop-cons s i 0 h, add-one) (ap (scan p z (getD s i 0 ∷ drop (suc i) s)) e ∙ scan-cons p z (getD s i 0) (owed - 1) (drop (suc i) s))
 
-    pub turn-on : (n : ℕ) → owedAfter p (kindOf (getD s i 0)) (owed - 1) ≡ Operands n → scan p (drop i s) owed ≡ scan p (drop (i + 1) s) n
+    pub turn-on : (n : ℕ) → owedAfter p z (kindOf (getD s i 0)) (owed - 1) ≡ Operands n → scan p z (drop i s) owed ≡ scan p z (drop (i + 1) s) n
     turn-on n e = turn ∙ rw e
 
-    pub turn-broken : owedAfter p (kindOf (getD s i 0)) (owed - 1) ≡ Broken → scan p (drop i s) owed ≡ false
+    pub turn-broken : owedAfter p z (kindOf (getD s i 0)) (owed - 1) ≡ Broken → scan p z (drop i s) owed ≡ false
     turn-broken e = turn ∙ rw e
 
-  pub turn-end : length s ≤ i → scan p (drop i s) owed ≡ eqb owed 0
+  pub turn-end : length s ≤ i → scan p z (drop i s) owed ≡ eqb owed 0
   unfolding scan
   turn-end h = rw (drop-of-length-le s h)
 
 -- a node takes one off what is owed, and adds at most two
-pub owed-bound : (p : ℕ) (k : Kind) (n m : ℕ) → owedAfter p k n ≡ Operands m → m ≤ n + 2
+pub owed-bound : (p z : ℕ) (k : Kind) (n m : ℕ) → owedAfter p z k n ≡ Operands m → m ≤ n + 2
 unfolding pick
-owed-bound p (Zero (Const v)) n m e = let q : n ≡ m = cc in omega arith
-owed-bound p (Zero (Prop i)) n m e = go (ltb i p) e
+owed-bound p z (Zero (Const v)) n m e = let q : n ≡ m = cc in omega arith
+owed-bound p z (Zero (Prop i)) n m e = go (ltb i p) e
   where
     go : (x : Bool) → pick x (Operands n) Broken ≡ Operands m → m ≤ n + 2
     go true e = let q : n ≡ m = cc in omega arith
     go false e = absurd (let z : _≡_ {A = ℕ} 0 1 = cc in omega arith)
-owed-bound p (Zero (Hold k)) n m e = absurd (let z : _≡_ {A = ℕ} 0 1 = cc in omega arith)
-owed-bound p (One o) n m e = let q : n + 1 ≡ m = cc in omega arith
-owed-bound p (Two o) n m e = let q : n + 2 ≡ m = cc in omega arith
-owed-bound p NoCode n m e = absurd (let z : _≡_ {A = ℕ} 0 1 = cc in omega arith)
+owed-bound p z (Zero (Hold k)) n m e = go (ltb k z) e
+  where
+    go : (x : Bool) → pick x (Operands n) Broken ≡ Operands m → m ≤ n + 2
+    go true e = let q : n ≡ m = cc in omega arith
+    go false e = absurd (let y : _≡_ {A = ℕ} 0 1 = cc in omega arith)
+owed-bound p z (One o) n m e = let q : n + 1 ≡ m = cc in omega arith
+owed-bound p z (Two o) n m e = let q : n + 2 ≡ m = cc in omega arith
+owed-bound p z NoCode n m e = absurd (let z : _≡_ {A = ℕ} 0 1 = cc in omega arith)

@@ -1,5 +1,5 @@
--- One pass over bytes with a count of the operands still owed: the shape of the loop in `is_rule`. What it means is
--- `ruleText`; proofs/Scans.antt has the law. Assumes nothing: these are definitions.
+-- One pass over bytes with a count of the operands still owed: the shape of the loop in `is_text`. What it means is
+-- `textOver`; proofs/Scans.antt has the law. Assumes nothing: these are definitions.
 use Prim.Native.Nat.{ℕ, zero, suc, _+_}
 use mathlib.Core.Bool.{Bool, false}
 use mathlib.Core.List.{List, [], _∷_}
@@ -12,21 +12,21 @@ use Rattle.kinds.specs.Kinds.{kindOf}
 use Rattle.texts.specs.declared.Owed.{Owed}
 use Rattle.texts.specs.declared.Owed.the-variants.{Operands, Broken}
 
--- what is owed behind a node that was itself owed, with n operands owed beside it; the rule's propositions are below p
-abbrev pub owedAfter : ℕ → Kind → ℕ → Owed
-owedAfter p (Zero (Const v)) n = Operands n
-owedAfter p (Zero (Prop i)) n = pick (ltb i p) (Operands n) Broken
-owedAfter p (Zero (Hold k)) n = Broken
-owedAfter p (One o) n = Operands (n + 1)
-owedAfter p (Two o) n = Operands (n + 2)
-owedAfter p NoCode n = Broken
+-- what is owed behind a node that was itself owed, with n operands owed beside it; propositions are below p, place holders below z
+abbrev pub owedAfter : ℕ → ℕ → Kind → ℕ → Owed
+owedAfter p z (Zero (Const v)) n = Operands n
+owedAfter p z (Zero (Prop i)) n = pick (ltb i p) (Operands n) Broken
+owedAfter p z (Zero (Hold k)) n = pick (ltb k z) (Operands n) Broken
+owedAfter p z (One o) n = Operands (n + 1)
+owedAfter p z (Two o) n = Operands (n + 2)
+owedAfter p z NoCode n = Broken
 
 abbrev pub goOn : Owed → (ℕ → Bool) → Bool
 goOn (Operands n) rest = rest n
 goOn Broken rest = false
 
--- exactly n formulas of the rule, one behind the other
-unfoldable pub scan : ℕ → List ℕ → ℕ → Bool
-scan p [] n = eqb n 0
-scan p (b ∷ l) zero = false
-scan p (b ∷ l) (suc n) = goOn (owedAfter p (kindOf b) n) (λ m. scan p l m)
+-- exactly n such formulas, one behind the other
+unfoldable pub scan : ℕ → ℕ → List ℕ → ℕ → Bool
+scan p z [] n = eqb n 0
+scan p z (b ∷ l) zero = false
+scan p z (b ∷ l) (suc n) = goOn (owedAfter p z (kindOf b) n) (λ m. scan p z l m)

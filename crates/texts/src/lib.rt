@@ -1,22 +1,23 @@
-// Whether bytes are one whole formula of a rule: one pass with a count of the operands still owed.
+// Whether bytes are one whole formula: one pass with a count of the operands still owed.
 ghost use mathlib.Core.Path.{_≡_};
 ghost use Prim.Native.Nat.{ℕ, _+_, _<_, _^_};
 ghost use Rattle.kinds.specs.Kinds.{kindOf};
-ghost use Rattle.ltl.specs.Text.{ruleText};
+ghost use Rattle.ltl.specs.Text.{textOver, ruleText};
 ghost use Rattle.texts.specs.Scan.{owedAfter};
 use kinds::Kind;
 use kinds::Leaf;
 
-// How many operands are still owed behind a node, or that no rule has the node.
+// How many operands are still owed behind a node, or that the node may not stand there.
 pub enum Owed {
     Operands(usize),
     Broken,
 }
 
-// What is owed behind a node of kind k that was itself owed, with `others` operands owed beside it. The rule's propositions are below p.
-fn after(k: Kind, others: usize, p: u64) -> Owed
+// What is owed behind a node of kind k that was itself owed, with `others` operands owed beside it.
+// Propositions are below p, place holders below h.
+fn after(k: Kind, others: usize, p: u64, h: u64) -> Owed
     requires { ⌜ others + 2 < 2 ^ 64 ⌝ }
-    ensures { λ r. ⌜ r ≡ owedAfter p k others ⌝ }
+    ensures { λ r. ⌜ r ≡ owedAfter p h k others ⌝ }
 {
     match k {
         Kind::Zero(a) => match a {
@@ -26,7 +27,11 @@ fn after(k: Kind, others: usize, p: u64) -> Owed
             } else {
                 Owed::Broken
             },
-            Leaf::Hold(_) => Owed::Broken,
+            Leaf::Hold(m) => if (m as u64) < h {
+                Owed::Operands(others)
+            } else {
+                Owed::Broken
+            },
         },
         Kind::One(_) => Owed::Operands(others + 1),
         Kind::Two(_) => Owed::Operands(others + 2),
@@ -34,9 +39,9 @@ fn after(k: Kind, others: usize, p: u64) -> Owed
     }
 }
 
-// One whole formula of the language with propositions below p alone and no place holder.
-pub fn is_rule(s: &[u8], p: u64) -> bool
-    ensures { λ r. ⌜ r ≡ ruleText p (now (s .entry)) ⌝ }
+// One whole formula of the language with propositions below p and place holders below h alone.
+pub fn is_text(s: &[u8], p: u64, h: u64) -> bool
+    ensures { λ r. ⌜ r ≡ textOver p h (now (s .entry)) ⌝ }
 {
     let mut owed: usize = 1;
     let mut i: usize = 0;
@@ -44,7 +49,7 @@ pub fn is_rule(s: &[u8], p: u64) -> bool
         if owed == 0 {
             return false;
         }
-        let next = after(Kind::of(s[i]), owed - 1, p);
+        let next = after(Kind::of(s[i]), owed - 1, p, h);
         let Owed::Operands(n) = next else {
             return false;
         };
@@ -52,4 +57,11 @@ pub fn is_rule(s: &[u8], p: u64) -> bool
         i += 1;
     }
     owed == 0
+}
+
+// A rule's formula: propositions below p alone and no place holder.
+pub fn is_rule(s: &[u8], p: u64) -> bool
+    ensures { λ r. ⌜ r ≡ ruleText p (now (s .entry)) ⌝ }
+{
+    is_text(s, p, 0)
 }

@@ -1,0 +1,2 @@
+-- Worked values of states and of the calls on them.
+pub mod Worked

@@ -1,0 +1,56 @@
+-- A network as the bytes of a state with nothing sampled or stepped, and the network that a state holds.
+-- Assumes nothing: these are definitions.
+use Prim.Native.Nat.{ℕ, zero, suc, _+_}
+use mathlib.Core.Bool.{false}
+use mathlib.Core.List.{List, [], _∷_, _++_}
+use mathlib.Core.Option.{Option, none, some}
+use lib.ListN.{length, replicate}
+use Rattle.lists.specs.Runs.{padded}
+use Rattle.le.specs.Le.{le}
+use Rattle.ltl.specs.Formula.{Formula, constant, size, encode}
+use Rattle.network.specs.Layout.{Slot}
+use Rattle.state.specs.Fields.{stateLength, boardsAt, slotsAt, nodesAt, slotsIn, boardOfIn, formulaIn}
+
+-- the nodes of all slots
+abbrev pub nodesOf : List Slot → ℕ
+nodesOf [] = 0
+nodesOf (s ∷ ss) = size (s .formula) + nodesOf ss
+
+-- ---- the bytes of a network
+abbrev pub header : ℕ → ℕ → ℕ → ℕ → List ℕ
+header b s n ticks = le 2 b ++ (le 2 s ++ (le 2 n ++ (le 2 boardsAt ++ (le 2 (slotsAt b) ++ (le 2 (nodesAt b s) ++ le 4 ticks)))))
+
+-- a mask, no sample, not sampled
+abbrev pub boardRecords : List ℕ → List ℕ
+boardRecords [] = []
+boardRecords (m ∷ ms) = le 8 m ++ (replicate 9 0 ++ boardRecords ms)
+
+-- a board, not stepped, a start and a length; each next slot starts where the last one's stretch ends
+abbrev pub slotRecords : ℕ → List Slot → List ℕ
+slotRecords start [] = []
+slotRecords start (s ∷ ss) = s .board ∷ 0 ∷ (le 2 start ++ (le 2 (size (s .formula)) ++ slotRecords (start + size (s .formula)) ss))
+
+abbrev pub nodeBytes : List Slot → List ℕ
+nodeBytes [] = []
+nodeBytes (s ∷ ss) = encode (s .formula) ++ nodeBytes ss
+
+unfoldable pub stateOf : List ℕ → List Slot → ℕ → List ℕ
+stateOf masks slots ticks =
+    padded stateLength (header (length masks) (length slots) (nodesOf slots) ticks ++ (boardRecords masks ++ (slotRecords 0 slots ++ nodeBytes slots)))
+
+-- ---- the network of a state
+-- the formula of a slot; what bytes that are none would be does not matter, since such a state fails its check
+abbrev pub someFormula : Option Formula → Formula
+someFormula none = constant false
+someFormula (some f) = f
+
+abbrev pub formulaAt : List ℕ → ℕ → Formula
+formulaAt s k = someFormula (formulaIn s k)
+
+-- slots k, k + 1, .. , n of them
+unfoldable pub slotsFrom : List ℕ → ℕ → ℕ → List Slot
+slotsFrom s k zero = []
+slotsFrom s k (suc n) = record { board = boardOfIn s k; formula = formulaAt s k } ∷ slotsFrom s (k + 1) n
+
+abbrev pub networkOf : List ℕ → List Slot
+networkOf s = slotsFrom s 0 (slotsIn s)
