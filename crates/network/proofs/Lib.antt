@@ -5,6 +5,7 @@ pub mod Values
 pub mod Laying
 pub mod Origins
 pub mod Relaying
+pub mod Numbers
 pub mod Settling
 pub mod Ticking
 pub mod Watched

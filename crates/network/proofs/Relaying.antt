@@ -114,14 +114,14 @@ module _ (choose : Formula → Option ℕ) (choice : Choice choose) where
 
   -- ---- loading a rule
   module _ (rule : Formula) (free : Free choose rule) where
-    root-headed : Headed choose (orZero (choose (unfolded rule))) (unfolded rule)
+    pub root-headed : Headed choose (orZero (choose (unfolded rule))) (unfolded rule)
     root-headed = go (choose (unfolded rule)) refl
       where
         go : (o : Option ℕ) → choose (unfolded rule) ≡ o → Headed choose (orZero o) (unfolded rule)
         go none e = headed-chosen choose choice 0 (unfolded rule) (free-clean choose (unfolded rule) (unfolded-free choose rule free)) (inl e)
         go (some b) e = headed-chosen choose choice b (unfolded rule) (free-clean choose (unfolded rule) (unfolded-free choose rule free)) (inr e)
 
-    rule-clean : Clean choose (unfolded rule)
+    pub rule-clean : Clean choose (unfolded rule)
     rule-clean = free-clean choose (unfolded rule) (unfolded-free choose rule free)
 
     pub load-ok : AllOk (length (load choose rule)) 0 (load choose rule)

@@ -1,0 +1,94 @@
+-- A formula's scores by its top node (`counted-..`), and one law for each way in which the walk that takes them returns
+-- (`tallied-..`); `left-tallied` says what is known once the left one of two operands was scored. `counted-chosen`: the highest of
+-- the counts is the formula's choice. Assumes nothing.
+use mathlib.Core.Path.{_≡_, refl, sym, ap, ap₂, _∙_, subst}
+use mathlib.Core.Bool.{Bool}
+use mathlib.Core.Option.{none}
+use mathlib.Core.List.{List, _++_}
+use Prim.Native.Nat.{ℕ, _+_}
+use native.Mathlib.Omega.{arith}
+use lib.ListN.{getD}
+use Rattle.lists.specs.Runs.{tail}
+use Rattle.lists.specs.Tests.{bit}
+use Rattle.kinds.specs.declared.Leaf.{Leaf}
+use Rattle.kinds.specs.declared.Leaf.the-variants.{Prop}
+use Rattle.kinds.specs.declared.Unary.{Unary}
+use Rattle.kinds.specs.declared.Binary.{Binary}
+use Rattle.kinds.specs.declared.Kind.the-variants.{Zero}
+use Rattle.kinds.specs.Kinds.{leafWithin}
+use Rattle.ltl.specs.Limits.{boardsMost}
+use Rattle.ltl.specs.Formula.{Formula, leaf, one, two, size, encode, Within}
+use Rattle.ltl.proofs.Texts.{size-some}
+use Rattle.network.specs.Scores.{occurrences, highest, chosen}
+use Rattle.nodes.specs.Begins.{Front}
+use Rattle.nodes.proofs.Fronts.{Parts, isZero, Single, Double}
+use Rattle.scores.specs.Scored.{noneScored, oneScored, added}
+use Rattle.scores.specs.Owned.{Owned}
+use Rattle.scores.specs.Tallies.{Counted, Tallies}
+use Rattle.scores.proofs.Added.{zeros-few, one-few, added-few}
+use Rattle.scores.proofs.Padding.{added-padded, zeros-padded, one-padded, chosen-padded}
+
+-- ---- formulas
+-- where no proposition occurs
+pub counted-nothing : (owner : List ℕ) (f : Formula) → ((test : ℕ → Bool) → occurrences test f ≡ 0) → Counted owner f noneScored
+counted-nothing owner f h =
+    record {
+      few = λ b. omega (arith, zeros-few boardsMost b, size-some f);
+      scores = λ p q masks o w. zeros-padded boardsMost (λ m. occurrences (bit m) f) masks (o .few) (λ b. h (bit (getD masks b 0)));
+    }
+
+pub counted-proposition : (owner : List ℕ) (i : ℕ) → Counted owner (leaf (Prop i)) (oneScored (getD owner i 0))
+counted-proposition owner i =
+    record {
+      few = λ b. one-few noneScored (getD owner i 0) b (zeros-few boardsMost);
+      scores = λ p q masks o w. one-padded boardsMost (getD owner i 0) i masks (o .few) (λ j. o .has i j w);
+    }
+
+pub counted-one : {owner counts : List ℕ} {f : Formula} (o : Unary) → Counted owner f counts → Counted owner (one o f) counts
+counted-one o c = record { few = λ b. omega (arith, c .few b); scores = c .scores }
+
+pub counted-two : {owner xs ys : List ℕ} {f g : Formula} (o : Binary) → Counted owner f xs → Counted owner g ys → Counted owner (two o f g) (added xs ys)
+counted-two {owner} {xs} {ys} {f} {g} o c d =
+    record {
+      few = λ b. added-few xs ys (size f) (size g) (size (two o f g)) (c .few) (d .few) (omega arith) b;
+      scores = λ p q masks u w.
+          ap₂ added (c .scores p q masks u (w .0)) (d .scores p q masks u (w .1))
+          ∙ added-padded boardsMost (λ m. occurrences (bit m) f) (λ m. occurrences (bit m) g) masks;
+    }
+
+-- ---- the choice
+pub counted-chosen : {owner counts : List ℕ} {f : Formula} (p q : ℕ) (masks : List ℕ) → Counted owner f counts → Owned p masks owner → Within p q f
+    → highest none 0 0 counts ≡ chosen masks f
+counted-chosen {f = f} p q masks c o w = ap (highest none 0 0) (c .scores p q masks o w) ∙ chosen-padded boardsMost masks f
+
+-- ---- the walk's returns
+pub tallied-leaf : {s rest : List ℕ} {f : Formula} {a : Leaf} {owner counts : List ℕ} → Parts s rest f (Zero a) → Counted owner (leaf a) counts
+    → (1 ≡ size f) × Counted owner f counts
+tallied-leaf (isZero w e) c = (refl, c)
+
+pub leaf-coded : {s rest : List ℕ} {f : Formula} {a : Leaf} → Parts s rest f (Zero a) → leafWithin 64 64 a
+leaf-coded (isZero w e) = w
+
+-- a node with one operand
+pub tallied-one : {s rest : List ℕ} {f : Formula} {o : Unary} {r : ℕ} {owner counts : List ℕ} → Single s rest f o → Tallies owner (tail 1 s) r counts
+    → (1 + r ≡ size f) × Counted owner f counts
+tallied-one {rest = rest} {o = o} x h = let a = h (x .operand) rest (x .front) in rw (x .same) (let e = a .0 in omega arith, counted-one o (a .1))
+
+-- a node with two operands, of which the left one was scored
+pub record LeftTallied (owner s rest : List ℕ) (f : Formula) (o : Binary) (r : ℕ) (counts : List ℕ) : Type 0 where
+  pub node : Double s rest f o
+  pub reads : r ≡ size (node .left)
+  pub counted : Counted owner (node .left) counts
+  pub front : Front (tail (1 + r) s) (node .right) rest
+
+pub left-tallied : {owner s rest : List ℕ} {f : Formula} {o : Binary} {r : ℕ} {counts : List ℕ} → Double s rest f o → Tallies owner (tail 1 s) r counts
+    → LeftTallied owner s rest f o r counts
+left-tallied {s = s} {rest = rest} x u =
+    let a = u (x .left) (encode (x .right) ++ rest) (x .front) in
+    record { node = x; reads = a .0; counted = a .1; front = subst (λ (i : ℕ). Front (tail (1 + i) s) (x .right) rest) (sym (a .0)) (x .second) }
+
+pub tallied-two : {owner s rest : List ℕ} {f : Formula} {o : Binary} {r q : ℕ} {xs ys : List ℕ} → LeftTallied owner s rest f o r xs → Tallies owner (tail (1 + r) s) q ys
+    → (1 + r + q ≡ size f) × Counted owner f (added xs ys)
+tallied-two {rest = rest} {o = o} x h =
+    let a = h (x .node .right) rest (x .front) in
+    rw (x .node .same) (let e = a .0 in let d = x .reads in omega arith, counted-two o (x .counted) (a .1))

@@ -1,0 +1,4 @@
+-- What the contracts of `scores` cite.
+pub mod Scored
+pub mod Owned
+pub mod Tallies

@@ -1,0 +1,28 @@
+-- Scores as the code holds them: a list of as many counts as there may be boards, added board by board, and the choice among them.
+-- Assumes nothing: these are definitions.
+use Prim.Native.Nat.{ℕ, _+_}
+use mathlib.Core.List.{List, [], _∷_}
+use mathlib.Core.Option.{Option, none, some}
+use lib.ListN.{replicate, set}
+use Rattle.ltl.specs.Limits.{boardsMost}
+use Rattle.scores.specs.declared.Choice.{Choice}
+use Rattle.scores.specs.declared.Choice.the-variants.{Board, Stays}
+
+-- nothing is scored
+abbrev pub noneScored : List ℕ
+noneScored = replicate boardsMost 0
+
+-- board b scores 1
+abbrev pub oneScored : ℕ → List ℕ
+oneScored b = set noneScored b 1
+
+-- board by board
+unfoldable pub added : List ℕ → List ℕ → List ℕ
+added [] ys = []
+added (x ∷ xs) [] = []
+added (x ∷ xs) (y ∷ ys) = (x + y) ∷ added xs ys
+
+-- the board that a part is chosen for; none where it stays
+abbrev pub boardOf : Choice → Option ℕ
+boardOf (Board b) = some b
+boardOf Stays = none
