@@ -18,7 +18,7 @@ use Rattle.network.specs.Scores.{highest, chosen}
 use Rattle.network.specs.Layout.{looked, laid, load, relaid, close}
 use Rattle.network.specs.Tick.{holdsOnly}
 use Rattle.state.specs.Fields.{masksFrom, stretchEnd}
-use Rattle.state.specs.Clauses.{eachBelow, allZero, eachTrue, tidy, unfoldedOwn, loneOther, heldBy, among, distinct, boardOk, recordOk, gapOk, holdersIn, stateOk}
+use Rattle.state.specs.Clauses.{eachBelow, allZero, eachTrue, tidy, unfoldedOwn, loneOther, heldBy, among, distinct, boardOk, recordOk, gapOk, holdersIn, headerOk, masksOk, restOk, stateOk}
 use Rattle.state.specs.Bytes.{stateOf, slotsFrom}
 use Rattle.state.specs.Calls.{finishedIn, verdictIn, askSays, sampleSays, sampleLeaves, readyIn, stepSays, steppedTo, stepLeaves, doneIn, closeSays, closeLeaves, loadedState}
 
@@ -57,7 +57,7 @@ pub record Worked : Type 0 where
   pub or-pending : askSays (loadedState (1 ∷ []) (join Or (constant true) (leaf (Prop 0)))) ≡ accepted (2 ∷ 0 ∷ 1 ∷ 3 ∷ [])
 
 pub worked : Worked
-unfolding started sampled answered closed pick both either bit left inOrder kindOf le leAt sameBool sameLeaf same leafOver over isConstant negated member joined sumTo onesOf sumOnes unionWith masksRule highest chosen looked laid load relaid close holdsOnly masksFrom stretchEnd eachBelow allZero eachTrue tidy unfoldedOwn loneOther heldBy among distinct boardOk recordOk gapOk holdersIn stateOk stateOf slotsFrom finishedIn verdictIn askSays sampleSays readyIn stepSays steppedTo doneIn closeSays
+unfolding started sampled answered closed pick both either bit left inOrder kindOf le leAt sameBool sameLeaf same leafOver over isConstant negated member joined sumTo onesOf sumOnes unionWith masksRule highest chosen looked laid load relaid close holdsOnly masksFrom stretchEnd eachBelow allZero eachTrue tidy unfoldedOwn loneOther heldBy among distinct boardOk recordOk gapOk holdersIn headerOk masksOk restOk stateOk stateOf slotsFrom finishedIn verdictIn askSays sampleSays readyIn stepSays steppedTo doneIn closeSays
 worked =
     record {
       loaded = refl;

@@ -140,25 +140,39 @@ unfoldable pub holdersIn : List ℕ → ℕ → List ℕ
 holdersIn s zero = []
 holdersIn s (suc n) = holdersIn s n ++ heldOf (formulaIn s n)
 
--- ---- the clauses
-abbrev pub clauses : List ℕ → List Bool
-clauses s =
-    eqb (length s) stateLength
-    ∷ inRange boardsMost (boardsIn s)
+-- ---- clauses of the whole
+-- the counts are in range, and the offsets are theirs
+unfoldable pub headerOk : List ℕ → Bool
+headerOk s =
+    eachTrue
+    (inRange boardsMost (boardsIn s)
     ∷ inRange slotsMost (slotsIn s)
     ∷ inRange nodesMost (nodesIn s)
     ∷ eqb (boardsOffsetIn s) boardsAt
     ∷ eqb (slotsOffsetIn s) (slotsAt (boardsIn s))
     ∷ eqb (nodesOffsetIn s) (nodesAt (boardsIn s) (slotsIn s))
-    ∷ inRange propositionsMost (sumOnes (masksIn s))
-    ∷ masksRule (sumOnes (masksIn s)) (masksIn s)
+    ∷ [])
+
+-- masks disjoint, their union the lowest 1 to 64 bits
+unfoldable pub masksOk : List ℕ → Bool
+masksOk s = both (inRange propositionsMost (sumOnes (masksIn s))) (masksRule (sumOnes (masksIn s)) (masksIn s))
+
+-- the bytes behind the nodes are zero
+unfoldable pub restOk : List ℕ → Bool
+restOk s = allZero (drop (nodesAt (boardsIn s) (slotsIn s) + nodesIn s) s)
+
+abbrev pub clauses : List ℕ → List Bool
+clauses s =
+    eqb (length s) stateLength
+    ∷ headerOk s
+    ∷ masksOk s
     ∷ eachBelow (boardsIn s) (boardOk s)
     ∷ eqb (startIn s 0) 0
     ∷ eachBelow (slotsIn s) (recordOk s)
     ∷ eachBelow (slotsIn s) (λ k. formulaOk s (sumOnes (masksIn s)) k (formulaIn s k))
     ∷ distinct (holdersIn s (slotsIn s))
     ∷ eachBelow (slotsIn s) (gapOk s)
-    ∷ allZero (drop (nodesAt (boardsIn s) (slotsIn s) + nodesIn s) s)
+    ∷ restOk s
     ∷ []
 
 -- a state passes where every clause holds

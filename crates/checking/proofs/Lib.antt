@@ -1,0 +1,3 @@
+-- Laws of the clauses.
+pub mod Each
+pub mod Stretched

@@ -1,0 +1,75 @@
+-- Where every slot's record passes, every slot lies in its stretch, and every stretch ends with the nodes at the latest: the next
+-- slot's start is before its own stretch's end. Assumes nothing.
+use mathlib.Core.Path.{_≡_, sym, ap, ap₂, _∙_}
+use mathlib.Core.Bool.{Bool, true}
+use mathlib.Core.List.{List}
+use Prim.Native.Nat.{ℕ, zero, suc, _+_, _-_, _*_, _<_, _≤_}
+use native.Mathlib.Nat.{eq-or-lt-of-le}
+use native.Mathlib.Omega.{arith}
+use mathlib.Core.Logic.{⊎-elim}
+use lib.ListN.{take, drop}
+use Rattle.lists.specs.Runs.{tail}
+use Rattle.lists.proofs.Parts.{tail-is}
+use borrow.Author.Tests.{leb-true, lt-ltb, le-ltb}
+use Rattle.lists.specs.Tests.{pick}
+use Rattle.lists.proofs.Tests.{both-0, both-1}
+use Rattle.state.specs.Fields.{nodesAt, boardsIn, slotsIn, nodesIn, startIn, lengthIn, stretchEnd}
+use Rattle.state.specs.Clauses.{eachBelow, allZero, recordOk, gapOk, restOk}
+use Rattle.checking.specs.Header.{InStretch}
+
+each-at : (test : ℕ → Bool) (n i : ℕ) → eachBelow n test ≡ true → i < n → test i ≡ true
+unfolding eachBelow
+each-at test zero i e l = absurd (omega arith)
+each-at test (suc n) i e l =
+    ⊎-elim
+    (λ q. (let k : n ≡ i = omega arith in ap test (sym k) ∙ both-1 (eachBelow n test) (test n) e))
+    (λ q. each-at test n i (both-0 (eachBelow n test) (test n) e) (omega arith))
+    (eq-or-lt-of-le l)
+
+-- what a record that passes says of its stretch
+record-used : (s : List ℕ) (k : ℕ) → recordOk s k ≡ true → startIn s k + lengthIn s k ≤ stretchEnd s k
+unfolding recordOk
+record-used s k e =
+    let a = both-1 _ _ e in
+    let b = both-1 _ _ a in
+    let c = both-1 _ _ b in
+    leb-true _ _ (both-0 _ _ c)
+
+next-end : (s : List ℕ) (k : ℕ) → k + 1 < slotsIn s → stretchEnd s k ≡ startIn s (k + 1)
+unfolding stretchEnd pick
+next-end s k h = rw (lt-ltb (k + 1) (slotsIn s) h)
+
+last-end : (s : List ℕ) (k : ℕ) → slotsIn s ≤ k + 1 → stretchEnd s k ≡ nodesIn s
+unfolding stretchEnd pick
+last-end s k h = rw (le-ltb (k + 1) (slotsIn s) h)
+
+module _ (s : List ℕ) (all : eachBelow (slotsIn s) (recordOk s) ≡ true) where
+  used : (k : ℕ) → k < slotsIn s → startIn s k + lengthIn s k ≤ stretchEnd s k
+  used k l = record-used s k (each-at (recordOk s) (slotsIn s) k all l)
+
+  ends : (d k : ℕ) → slotsIn s ≤ k + 1 + d → k < slotsIn s → stretchEnd s k ≤ nodesIn s
+  ends zero k h l = let e = last-end s k (omega arith) in omega arith
+  ends (suc d) k h l =
+      ⊎-elim
+      (λ q. (let e = last-end s k (omega arith) in omega arith))
+      (λ q. (let e = next-end s k q in let u = used (k + 1) q in let n = ends d (k + 1) (omega arith) q in omega arith))
+      (eq-or-lt-of-le (let z : k + 1 ≤ slotsIn s = omega arith in z))
+
+  pub in-stretch : (k : ℕ) → k < slotsIn s → InStretch s k
+  in-stretch k l = record { used = used k l; ends = ends (slotsIn s) k (omega arith) l }
+
+-- ---- the parts that are looked at
+pub gap-is : (s : List ℕ) (k b n start long end : ℕ) → b ≡ boardsIn s → n ≡ slotsIn s → start ≡ startIn s k → long ≡ lengthIn s k → end ≡ stretchEnd s k
+    → allZero (take (16 + 17 * b + 6 * n + end - (16 + 17 * b + 6 * n + (start + long))) (drop (16 + 17 * b + 6 * n + (start + long)) s)) ≡ gapOk s k
+unfolding gapOk
+gap-is s k b n start long end eb en es el ee =
+    let d : 16 + 17 * b + 6 * n + end - (16 + 17 * b + 6 * n + (start + long)) ≡ stretchEnd s k - (startIn s k + lengthIn s k) = omega arith in
+    let f : 16 + 17 * b + 6 * n + (start + long) ≡ nodesAt (boardsIn s) (slotsIn s) + (startIn s k + lengthIn s k) = omega arith in
+    ap₂ (λ (i j : ℕ). allZero (take i (drop j s))) d f
+
+pub rest-is : (s : List ℕ) (b n m : ℕ) → b ≡ boardsIn s → n ≡ slotsIn s → m ≡ nodesIn s
+    → allZero (tail (16 + 17 * b + 6 * n + m) s) ≡ restOk s
+unfolding restOk
+rest-is s b n m eb en em =
+    let f : 16 + 17 * b + 6 * n + m ≡ nodesAt (boardsIn s) (slotsIn s) + nodesIn s = omega arith in
+    ap allZero (tail-is (16 + 17 * b + 6 * n + m) s ∙ ap (λ (j : ℕ). drop j s) f)

@@ -1,0 +1,2 @@
+-- What the contracts of `checking` cite.
+pub mod Header
