@@ -9,8 +9,10 @@ use native.Mathlib.Omega.{arith}
 use mathlib.Core.Logic.{⊎-elim}
 use lib.ListN.{length, getD, drop, drop-of-length-le}
 use lib.Seq.{drop-cons}
-use borrow.Author.Tests.{eq-eqb, ne-eqb}
-use Rattle.lists.specs.Tests.{both}
+use lib.Dec.{leb}
+use borrow.Author.Tests.{leb-true, eq-eqb, ne-eqb}
+use Rattle.lists.specs.Tests.{both, inRange}
+use Rattle.lists.proofs.Tests.{both-0, both-1}
 use Rattle.state.specs.Clauses.{eachBelow, allZero}
 
 -- ---- below a number
@@ -36,6 +38,15 @@ each-false test i (suc n) l t =
     (λ h. (let k : i < n = omega arith in rw (each-false test i n k t)))
     (eq-or-lt-of-le l)
 
+pub each-at : (test : ℕ → Bool) (n i : ℕ) → eachBelow n test ≡ true → i < n → test i ≡ true
+unfolding eachBelow
+each-at test zero i e l = absurd (omega arith)
+each-at test (suc n) i e l =
+    ⊎-elim
+    (λ q. (let k : n ≡ i = omega arith in ap test (sym k) ∙ both-1 (eachBelow n test) (test n) e))
+    (λ q. each-at test n i (both-0 (eachBelow n test) (test n) e) (omega arith))
+    (eq-or-lt-of-le l)
+
 -- ---- all bytes
 module _ (s : List ℕ) (i : ℕ) where
   pub zero-on : i < length s → getD s i 0 ≡ 0 → allZero (drop i s) ≡ allZero (drop (i + 1) s)
@@ -49,6 +60,10 @@ module _ (s : List ℕ) (i : ℕ) where
   pub zero-end : length s ≤ i → allZero (drop i s) ≡ true
   unfolding allZero
   zero-end h = rw (drop-of-length-le s h)
+
+-- ---- a range
+pub range-most : (most n : ℕ) → inRange most n ≡ true → n ≤ most
+range-most most n e = leb-true n most (both-1 (leb 1 n) (leb n most) e)
 
 -- the last of some tests
 pub both-last : (a : Bool) → a ≡ both a true

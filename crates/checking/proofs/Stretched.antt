@@ -1,7 +1,7 @@
 -- Where every slot's record passes, every slot lies in its stretch, and every stretch ends with the nodes at the latest: the next
 -- slot's start is before its own stretch's end. Assumes nothing.
-use mathlib.Core.Path.{_≡_, sym, ap, ap₂, _∙_}
-use mathlib.Core.Bool.{Bool, true}
+use mathlib.Core.Path.{_≡_, ap, ap₂, _∙_}
+use mathlib.Core.Bool.{true}
 use mathlib.Core.List.{List}
 use Prim.Native.Nat.{ℕ, zero, suc, _+_, _-_, _*_, _<_, _≤_}
 use native.Mathlib.Nat.{eq-or-lt-of-le}
@@ -16,15 +16,7 @@ use Rattle.lists.proofs.Tests.{both-0, both-1}
 use Rattle.state.specs.Fields.{nodesAt, boardsIn, slotsIn, nodesIn, startIn, lengthIn, stretchEnd}
 use Rattle.state.specs.Clauses.{eachBelow, allZero, recordOk, gapOk, restOk}
 use Rattle.checking.specs.Header.{InStretch}
-
-each-at : (test : ℕ → Bool) (n i : ℕ) → eachBelow n test ≡ true → i < n → test i ≡ true
-unfolding eachBelow
-each-at test zero i e l = absurd (omega arith)
-each-at test (suc n) i e l =
-    ⊎-elim
-    (λ q. (let k : n ≡ i = omega arith in ap test (sym k) ∙ both-1 (eachBelow n test) (test n) e))
-    (λ q. each-at test n i (both-0 (eachBelow n test) (test n) e) (omega arith))
-    (eq-or-lt-of-le l)
+use Rattle.checking.proofs.Each.{each-at}
 
 -- what a record that passes says of its stretch
 record-used : (s : List ℕ) (k : ℕ) → recordOk s k ≡ true → startIn s k + lengthIn s k ≤ stretchEnd s k
@@ -59,12 +51,12 @@ module _ (s : List ℕ) (all : eachBelow (slotsIn s) (recordOk s) ≡ true) wher
   in-stretch k l = record { used = used k l; ends = ends (slotsIn s) k (omega arith) l }
 
 -- ---- the parts that are looked at
-pub gap-is : (s : List ℕ) (k b n start long end : ℕ) → b ≡ boardsIn s → n ≡ slotsIn s → start ≡ startIn s k → long ≡ lengthIn s k → end ≡ stretchEnd s k
-    → allZero (take (16 + 17 * b + 6 * n + end - (16 + 17 * b + 6 * n + (start + long))) (drop (16 + 17 * b + 6 * n + (start + long)) s)) ≡ gapOk s k
+pub gap-is : (s : List ℕ) (k b n from to : ℕ) → b ≡ boardsIn s → n ≡ slotsIn s → from ≡ startIn s k + lengthIn s k → to ≡ stretchEnd s k
+    → allZero (take (16 + 17 * b + 6 * n + to - (16 + 17 * b + 6 * n + from)) (drop (16 + 17 * b + 6 * n + from) s)) ≡ gapOk s k
 unfolding gapOk
-gap-is s k b n start long end eb en es el ee =
-    let d : 16 + 17 * b + 6 * n + end - (16 + 17 * b + 6 * n + (start + long)) ≡ stretchEnd s k - (startIn s k + lengthIn s k) = omega arith in
-    let f : 16 + 17 * b + 6 * n + (start + long) ≡ nodesAt (boardsIn s) (slotsIn s) + (startIn s k + lengthIn s k) = omega arith in
+gap-is s k b n from to eb en ef et =
+    let d : 16 + 17 * b + 6 * n + to - (16 + 17 * b + 6 * n + from) ≡ stretchEnd s k - (startIn s k + lengthIn s k) = omega arith in
+    let f : 16 + 17 * b + 6 * n + from ≡ nodesAt (boardsIn s) (slotsIn s) + (startIn s k + lengthIn s k) = omega arith in
     ap₂ (λ (i j : ℕ). allZero (take i (drop j s))) d f
 
 pub rest-is : (s : List ℕ) (b n m : ℕ) → b ≡ boardsIn s → n ≡ slotsIn s → m ≡ nodesIn s

@@ -1,9 +1,10 @@
 // The state check, clause by clause: each function answers one clause of the definition.
 ghost use mathlib.Core.Path.{_≡_};
 ghost use mathlib.Core.Bool.{true};
-ghost use Prim.Native.Nat.{_<_, _≤_};
+ghost use Prim.Native.Nat.{_+_, _<_, _≤_};
 ghost use lib.ListN.{length};
-ghost use Rattle.state.specs.Fields.{stateLength, stretchEnd};
+ghost use Rattle.lists.specs.Tests.{inRange};
+ghost use Rattle.state.specs.Fields.{stateLength, startIn, lengthIn, stretchEnd};
 ghost use Rattle.state.specs.Clauses.{eachBelow, allZero, headerOk, boardOk, recordOk, gapOk, restOk};
 ghost use Rattle.checking.specs.Header.{Header, Sized, InStretch};
 
@@ -40,27 +41,28 @@ pub fn counts_of(s: &[u8]) -> Counts
     }
 }
 
+// A count from 1 to the most.
+fn in_range(n: usize, most: usize) -> bool
+    ensures { λ r. ⌜ r ≡ inRange most n ⌝ }
+{
+    if n < 1 {
+        return false;
+    }
+    n <= most
+}
+
 // The counts are in range, and the offsets are theirs.
 pub fn header_ok(s: &[u8], c: Counts) -> bool
     requires { ⌜ (length (now s) ≡ stateLength) × Header (now s) (c .boards) (c .slots) (c .nodes) ⌝ }
     ensures { λ r. ⌜ r ≡ headerOk (now (s .entry)) ⌝ }
 {
-    if c.boards < 1 {
+    if !in_range(c.boards, 16) {
         return false;
     }
-    if 16 < c.boards {
+    if !in_range(c.slots, 64) {
         return false;
     }
-    if c.slots < 1 {
-        return false;
-    }
-    if 64 < c.slots {
-        return false;
-    }
-    if c.nodes < 1 {
-        return false;
-    }
-    if 4096 < c.nodes {
+    if !in_range(c.nodes, 4096) {
         return false;
     }
     if le::u16_at(s, 6) != 16 {
@@ -119,6 +121,15 @@ fn stretch_end(s: &[u8], c: Counts, k: usize) -> usize
     c.nodes
 }
 
+// Where slot k's nodes end.
+fn slot_end(s: &[u8], c: Counts, k: usize) -> usize
+    requires { ⌜ Sized (now s) (c .boards) (c .slots) (c .nodes) × (k < c .slots) ⌝ }
+    ensures { λ r. ⌜ (r ≡ startIn (now (s .entry)) k + lengthIn (now (s .entry)) k) × (r < 131072) ⌝ }
+{
+    let at = 16 + 17 * c.boards + 6 * k;
+    le::u16_at(s, at + 2) as usize + le::u16_at(s, at + 4) as usize
+}
+
 // Slot k's record: its board, its mark, and that it lies in its stretch, which it fills where it is not stepped.
 fn record_ok(s: &[u8], c: Counts, k: usize) -> bool
     requires { ⌜ Sized (now s) (c .boards) (c .slots) (c .nodes) × (k < c .slots) ⌝ }
@@ -127,25 +138,24 @@ fn record_ok(s: &[u8], c: Counts, k: usize) -> bool
     let at = 16 + 17 * c.boards + 6 * k;
     let board = s[at] as usize;
     let stepped = s[at + 1];
-    let start = le::u16_at(s, at + 2) as usize;
-    let length = le::u16_at(s, at + 4) as usize;
     if c.boards <= board {
         return false;
     }
     if 1 < stepped {
         return false;
     }
-    if length < 1 {
+    if le::u16_at(s, at + 4) < 1 {
         return false;
     }
-    let end = stretch_end(s, c, k);
-    if end < start + length {
+    let end = slot_end(s, c, k);
+    let stretch = stretch_end(s, c, k);
+    if stretch < end {
         return false;
     }
     if stepped == 1 {
         return true;
     }
-    start + length == end
+    end == stretch
 }
 
 pub fn records_ok(s: &[u8], c: Counts) -> bool
@@ -168,10 +178,8 @@ fn gap_ok(s: &[u8], c: Counts, k: usize) -> bool
     requires { ⌜ Sized (now s) (c .boards) (c .slots) (c .nodes) × (k < c .slots) × InStretch (now s) k ⌝ }
     ensures { λ r. ⌜ r ≡ gapOk (now (s .entry)) k ⌝ }
 {
-    let at = 16 + 17 * c.boards + 6 * k;
-    let used = le::u16_at(s, at + 2) as usize + le::u16_at(s, at + 4) as usize;
     let nodes = 16 + 17 * c.boards + 6 * c.slots;
-    let from = nodes + used;
+    let from = nodes + slot_end(s, c, k);
     let to = nodes + stretch_end(s, c, k);
     zeros(&s[from..to])
 }

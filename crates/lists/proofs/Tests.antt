@@ -1,12 +1,17 @@
--- Laws of tests: what a test that holds says of its parts, and a value picked by a test. Assumes nothing.
+-- Laws of tests: false is not true and none not some, what a test that holds says of its parts, and a value picked by a test.
+-- Assumes nothing.
 use mathlib.Core.Path.{_≡_, refl, sym}
 use mathlib.Core.Bool.{Bool, true, false}
+use mathlib.Core.Option.{Option, none, some}
 use Prim.Native.Nat.{ℕ}
 use native.Mathlib.Omega.{arith}
 use Rattle.lists.specs.Tests.{pick, both, either}
 
 pub no-true : false ≡ true → ⊥
 no-true e = let z : _≡_ {A = ℕ} 0 1 = cc in omega arith
+
+pub no-some : {A : Type 0} (x : A) → _≡_ {A = Option A} none (some x) → ⊥
+no-some x e = let z : _≡_ {A = ℕ} 0 1 = cc in omega arith
 
 -- two tests that hold together are equal
 pub test-eq : (x y : Bool) → (x ≡ true → y ≡ true) → (y ≡ true → x ≡ true) → x ≡ y

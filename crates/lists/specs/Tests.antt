@@ -2,7 +2,7 @@
 -- through one names it on an `unfolding` line. Assumes nothing: these are definitions.
 use Prim.Native.Nat.{ℕ, _/_, _%_, _^_}
 use mathlib.Core.Bool.{Bool, true, false}
-use lib.Dec.{eqb}
+use lib.Dec.{leb, eqb}
 
 -- the first where the test holds, else the second
 unfoldable pub pick : {A : Type 0} → Bool → A → A → A
@@ -18,6 +18,10 @@ both false b = false
 unfoldable pub either : Bool → Bool → Bool
 either true b = true
 either false b = b
+
+-- n is from 1 to the most
+abbrev pub inRange : ℕ → ℕ → Bool
+inRange most n = both (leb 1 n) (leb n most)
 
 -- bit i of n, of value 2 to the i, is 1
 unfoldable pub bit : ℕ → ℕ → Bool

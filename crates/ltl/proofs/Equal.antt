@@ -21,7 +21,7 @@ sameBool-eq true w e = sym e
 sameBool-eq false true e = e
 sameBool-eq false false e = refl
 
-sameBool-refl : (v : Bool) → sameBool v v ≡ true
+pub sameBool-refl : (v : Bool) → sameBool v v ≡ true
 unfolding sameBool
 sameBool-refl true = refl
 sameBool-refl false = refl

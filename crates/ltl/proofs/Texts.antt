@@ -18,7 +18,7 @@ use Rattle.kinds.specs.Kinds.{leafWithin, unaryCode, binaryCode}
 use Rattle.kinds.proofs.Codes.{CodeOf, isZero, isOne, isTwo, isNone, code, kind-leaf, kind-unary, kind-binary}
 use Rattle.ltl.specs.Formula.{Formula, leaf, one, two, size, encode, Within, leafOver, over}
 use Rattle.ltl.specs.Text.{Parsed, Reader, withOne, withSecond, withTwo, node, parse, before, alone, textOf, overAlone, textOver, ruleText}
-use Rattle.lists.proofs.Tests.{no-true, both-0, both-1, both-true}
+use Rattle.lists.proofs.Tests.{no-true, no-some, both-0, both-1, both-true}
 
 -- ---- sizes
 pub size-some : (f : Formula) → 0 < size f
@@ -94,10 +94,7 @@ text-of f w =
 
 empty-behind : (l : List ℕ) (f g : Formula) → before l f ≡ some g → (l ≡ []) × (f ≡ g)
 empty-behind [] f g e = (refl, cc)
-empty-behind (b ∷ l) f g e = absurd (no-some e)
-  where
-    no-some : _≡_ {A = Option Formula} none (some g) → ⊥
-    no-some e = let z : _≡_ {A = ℕ} 0 1 = cc in omega arith
+empty-behind (b ∷ l) f g e = absurd (no-some g e)
 
 pub text-is : (l : List ℕ) (f : Formula) → textOf l ≡ some f → Within 64 64 f × (l ≡ encode f)
 text-is l f e = go (parse (length l) l) refl e

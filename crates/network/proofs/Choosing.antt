@@ -12,6 +12,7 @@ use lib.Dec.{eqb, ltb}
 use lib.Bits.{bitAnd, and-shr, and-step}
 use borrow.Author.Tests.{eqb-true, eqb-false, lt-ltb}
 use Rattle.lists.specs.Tests.{pick, bit}
+use Rattle.lists.proofs.Tests.{no-some}
 use Rattle.kinds.specs.declared.Leaf.{Leaf}
 use Rattle.kinds.specs.declared.Leaf.the-variants.{Const, Prop, Hold}
 use Rattle.kinds.specs.declared.Unary.the-variants.{Next}
@@ -23,9 +24,6 @@ use Rattle.masks.proofs.Exact.{owners, below, exact}
 use Rattle.network.specs.Scores.{occurrences, scoresOf, highest, chosen, sampleOf}
 use Rattle.network.proofs.Owned.{Free}
 use Rattle.network.proofs.Laying.{Choice}
-
-no-some : (c : ℕ) → _≡_ {A = Option ℕ} none (some c) → ⊥
-no-some c e = let z : _≡_ {A = ℕ} 0 1 = cc in omega arith
 
 -- ---- all scores 0
 none-highest : (masks : List ℕ) (f : Formula) → ((test : ℕ → Bool) → occurrences test f ≡ 0) → (k : ℕ) → highest none 0 k (scoresOf masks f) ≡ none

@@ -5,11 +5,11 @@ use mathlib.Core.Bool.{Bool, true, false}
 use mathlib.Core.Logic.{_⊎_, inl, inr, ⊎-elim}
 use mathlib.Core.Option.{Option, none, some}
 use Prim.Native.Nat.{ℕ, _+_}
-use native.Mathlib.Omega.{arith}
 use lib.ListN.{length}
 use lib.Dec.{eqb}
 use borrow.Author.Tests.{eqb-true}
 use Rattle.lists.specs.Tests.{pick}
+use Rattle.lists.proofs.Tests.{no-some}
 use Rattle.kinds.specs.declared.Leaf.the-variants.{Const, Prop, Hold}
 use Rattle.kinds.specs.declared.Unary.the-variants.{Not, Next, Eventually, Always}
 use Rattle.kinds.specs.declared.Join.{Join}
@@ -38,9 +38,6 @@ HoldsIn Q (two (Joined j) f g) = HoldsIn Q f × HoldsIn Q g
 HoldsIn Q (two Until f g) = Unit {0}
 
 module _ (choose : Formula → Option ℕ) (choice : Choice choose) where
-  no-some : (c : ℕ) → _≡_ {A = Option ℕ} none (some c) → ⊥
-  no-some c e = let z : _≡_ {A = ℕ} 0 1 = cc in omega arith
-
   -- a part that stays on a board is headed by the board's own proposition, if by any
   pub headed-chosen : (b : ℕ) (f : Formula) → Clean choose f → (choose f ≡ none) ⊎ (choose f ≡ some b) → Headed choose b f
   headed-chosen b (leaf (Const v)) x c = tt

@@ -8,6 +8,7 @@ use native.Mathlib.Omega.{arith}
 use lib.ListN.{getD}
 use Rattle.lists.specs.Tests.{pick, either}
 use Rattle.lists.proofs.Tests.{either-right}
+use Rattle.ltl.proofs.Equal.{sameBool-refl}
 use Rattle.kinds.specs.declared.Leaf.the-variants.{Const, Prop, Hold}
 use Rattle.kinds.specs.declared.Unary.{Unary}
 use Rattle.kinds.specs.declared.Unary.the-variants.{Not, Next, Eventually, Always}
@@ -76,14 +77,9 @@ unfolding sameBool
 not-same true = refl
 not-same false = refl
 
-same-self : (v : Bool) → sameBool v v ≡ true
-unfolding sameBool
-same-self true = refl
-same-self false = refl
-
 constant-self : (v : Bool) → isConstant v (constant v) ≡ true
 unfolding isConstant
-constant-self v = same-self v
+constant-self v = sameBool-refl v
 
 constant-other : (v : Bool) → isConstant v (constant (not v)) ≡ false
 unfolding isConstant

@@ -4,8 +4,7 @@ use Prim.Native.Nat.{ℕ, zero, suc, _+_, _*_}
 use mathlib.Core.Bool.{Bool}
 use mathlib.Core.List.{List, [], _∷_, _++_}
 use lib.ListN.{length, drop}
-use lib.Dec.{leb}
-use Rattle.lists.specs.Tests.{both}
+use Rattle.lists.specs.Tests.{both, inRange}
 use Rattle.ltl.specs.Limits.{boardsMost, propositionsMost, ruleNodesMost}
 use Rattle.le.specs.Le.{le, leAt}
 
@@ -28,9 +27,6 @@ totalOf b n = formulaAt b + n
 -- the longest file, and the buffer that one is written into
 abbrev pub fileMost : ℕ
 fileMost = totalOf boardsMost ruleNodesMost
-
-abbrev pub inRange : ℕ → ℕ → Bool
-inRange most n = both (leb 1 n) (leb n most)
 
 -- the counts b of boards, p of propositions and n of nodes are in range
 unfoldable pub countsOk : ℕ → ℕ → ℕ → Bool

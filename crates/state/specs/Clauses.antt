@@ -6,7 +6,7 @@ use mathlib.Core.Option.{Option, none, some}
 use lib.ListN.{length, take, drop, getD}
 use lib.Dec.{leb, ltb, eqb}
 use lib.Bits.{bitAnd}
-use Rattle.lists.specs.Tests.{pick, both, either, bit}
+use Rattle.lists.specs.Tests.{pick, both, either, inRange, bit}
 use Rattle.kinds.specs.declared.Leaf.the-variants.{Const, Prop, Hold}
 use Rattle.kinds.specs.declared.Unary.the-variants.{Not, Next, Eventually, Always}
 use Rattle.kinds.specs.declared.Binary.the-variants.{Joined, Until}
@@ -21,9 +21,6 @@ abbrev pub slotsMost : ℕ
 slotsMost = 64
 
 -- ---- small tests
-abbrev pub inRange : ℕ → ℕ → Bool
-inRange most n = both (leb 1 n) (leb n most)
-
 -- a flag
 abbrev pub isFlag : ℕ → Bool
 isFlag n = leb n 1
