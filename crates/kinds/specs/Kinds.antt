@@ -29,13 +29,6 @@ kindOf b =
     (pick (ltb b 128) (Zero (Prop (b - 64)))
     (pick (ltb b 192) (Zero (Hold (b - 128))) NoCode))
 
--- how many operands a node has; where there is no node, none
-abbrev pub operandsOf : Kind → ℕ
-operandsOf (Zero a) = 0
-operandsOf (One o) = 1
-operandsOf (Two o) = 2
-operandsOf NoCode = 0
-
 -- the byte of a node
 abbrev pub leafCode : Leaf → ℕ
 leafCode (Const false) = 0

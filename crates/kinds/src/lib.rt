@@ -2,7 +2,7 @@
 // constants of `Kind`, and `Kind::of` is the only place that reads them off a byte.
 ghost use mathlib.Core.Path.{_≡_};
 ghost use Prim.Native.Nat.{_≤_};
-ghost use Rattle.kinds.specs.Kinds.{kindOf, operandsOf};
+ghost use Rattle.kinds.specs.Kinds.{kindOf};
 
 // A node with no operand: a constant, a proposition, or the place holder of a slot.
 pub enum Leaf {
@@ -80,18 +80,6 @@ impl Kind {
             Kind::EVENTUALLY => Kind::One(Unary::Eventually),
             Kind::ALWAYS => Kind::One(Unary::Always),
             _ => Kind::of_range(b),
-        }
-    }
-
-    // How many operands a node has; where there is no node, none.
-    pub fn operands(self) -> usize
-        ensures { λ r. ⌜ r ≡ operandsOf self ⌝ }
-    {
-        match self {
-            Kind::Zero(_) => 0,
-            Kind::One(_) => 1,
-            Kind::Two(_) => 2,
-            Kind::NoCode => 0,
         }
     }
 
