@@ -12,7 +12,9 @@ use Rattle.answers.specs.declared.Refusal.{Refusal}
 use Rattle.answers.specs.declared.Refusal.the-variants.{Length, Version, Range, Offset, Masks, Formula, Slots, Nodes, State, Finished, Nowhere, Outside, Already, Unready, Ticks}
 use Rattle.answers.specs.declared.Verdict.{Verdict}
 use Rattle.answers.specs.declared.Verdict.the-variants.{False, True, Pending}
-use Rattle.answers.specs.Said.{Said, accepted, refused, left, numberOf, verdictNumber, Check, check, inOrder}
+use Rattle.answers.specs.declared.Outcome.{Outcome}
+use Rattle.answers.specs.declared.Outcome.the-variants.{Refused, Done}
+use Rattle.answers.specs.Said.{Said, accepted, refused, left, numberOf, verdictNumber, saidOutcome, Check, check, inOrder}
 
 -- ---- the refusals by number
 named : List Refusal
@@ -55,6 +57,12 @@ verdict-injective a b e = sym (there a) ∙ ap (λ (n : ℕ). getD (False ∷ Tr
     there False = refl
     there True = refl
     there Pending = refl
+
+pub saidOutcome-injective : (a b : Outcome) → saidOutcome a ≡ saidOutcome b → a ≡ b
+saidOutcome-injective (Refused v) (Refused w) e = ap Refused (number-injective v w (ap (λ (s : Said). s .number) e))
+saidOutcome-injective (Refused v) Done e = let z = number-some v in let y = ap (λ (s : Said). s .number) e in absurd (omega arith)
+saidOutcome-injective Done (Refused w) e = let z = number-some w in let y = ap (λ (s : Said). s .number) e in absurd (omega arith)
+saidOutcome-injective Done Done e = refl
 
 -- ---- what a lent buffer holds
 pub left-refused : (why : Refusal) (x y : List ℕ) → left (refused (numberOf why)) x y ≡ y

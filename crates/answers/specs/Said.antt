@@ -9,6 +9,8 @@ use Rattle.answers.specs.declared.Refusal.{Refusal}
 use Rattle.answers.specs.declared.Refusal.the-variants.{Length, Version, Range, Offset, Masks, Formula, Slots, Nodes, State, Finished, Nowhere, Outside, Already, Unready, Ticks}
 use Rattle.answers.specs.declared.Verdict.{Verdict}
 use Rattle.answers.specs.declared.Verdict.the-variants.{False, True, Pending}
+use Rattle.answers.specs.declared.Outcome.{Outcome}
+use Rattle.answers.specs.declared.Outcome.the-variants.{Refused, Done}
 
 pub record Said : Type 0 where
   pub number : ℕ
@@ -49,6 +51,11 @@ abbrev pub verdictNumber : Verdict → ℕ
 verdictNumber False = 0
 verdictNumber True = 1
 verdictNumber Pending = 2
+
+-- the cases of an answer without values
+abbrev pub saidOutcome : Outcome → Said
+saidOutcome (Refused why) = refused (numberOf why)
+saidOutcome Done = accepted []
 
 -- ---- refusals in order
 -- a check that a call makes, and the number with which it refuses where the check fails

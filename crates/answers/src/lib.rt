@@ -1,4 +1,4 @@
-// What the calls answer: the refusals by name, with their numbers, and the three verdicts.
+// What the calls answer: the refusals by name, with their numbers, the three verdicts, and the answer of a call without values.
 ghost use mathlib.Core.Path.{_≡_};
 ghost use Rattle.answers.specs.Said.{numberOf, verdictNumber};
 
@@ -62,4 +62,10 @@ impl Verdict {
             Verdict::Pending => 2,
         }
     }
+}
+
+// What a call answers that has no values to give: load, sample, step and close.
+pub enum Outcome {
+    Refused(Refusal),
+    Done,
 }
