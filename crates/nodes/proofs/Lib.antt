@@ -1,2 +1,3 @@
 -- Laws of bytes that begin with a formula, for every walk over them.
 pub mod Fronts
+pub mod Operands

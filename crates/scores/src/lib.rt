@@ -84,7 +84,7 @@ pub struct Tallied {
 }
 
 // The owner's score for a proposition; constants and place holders score nothing.
-fn score_leaf(a: Leaf, owner: &[u8]) -> Scores
+pub fn score_leaf(a: Leaf, owner: &[u8]) -> Scores
     requires { ⌜ leafWithin 64 64 a × Table (now owner) ⌝ }
     ensures { λ r. ⌜ Counted (now (owner .entry)) (leaf a) (r .counts) ⌝ }
 {

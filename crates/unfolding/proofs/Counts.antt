@@ -19,7 +19,7 @@ use Rattle.ltl.specs.Progression.{unfolded}
 use Rattle.nodes.specs.Begins.{Front}
 use Rattle.nodes.proofs.Fronts.{Parts, isZero, Single, Double}
 use Rattle.unfolding.specs.Unfolds.{Counted}
-use Rattle.unfolding.proofs.Operands.{two-of, right-at}
+use Rattle.nodes.proofs.Operands.{two-of, right-at}
 
 -- the formula was read, and its unfolded nodes counted up to 4,097
 abbrev pub Count : Formula → ℕ → ℕ → Type 0

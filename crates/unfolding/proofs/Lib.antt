@@ -1,4 +1,3 @@
 -- Laws of unfolding over plain lists.
-pub mod Operands
 pub mod Counts
 pub mod Unfoldings

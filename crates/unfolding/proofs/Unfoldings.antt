@@ -22,7 +22,7 @@ use Rattle.ltl.proofs.Texts.{size-some, length-encode}
 use Rattle.nodes.specs.Begins.{Front, Begins, Ends}
 use Rattle.nodes.proofs.Fronts.{front-length, front-own, front-one-way, Parts, isZero, Single, Double}
 use Rattle.unfolding.specs.Unfolds.{Room, UnfoldedTo, Unfolds, RoomBehind, UnfoldedBehind, UnfoldsBehind, Ever, Both}
-use Rattle.unfolding.proofs.Operands.{one-of, two-of, right-at}
+use Rattle.nodes.proofs.Operands.{one-of, two-of, right-at}
 use Rattle.lists.proofs.Stretches.{set-first, put-first, put-more}
 
 -- ---- the formula in front is the only one

@@ -11,7 +11,7 @@ use Rattle.lists.proofs.Parts.{tail-length}
 use Rattle.kinds.specs.declared.Kind.the-variants.{One, Two}
 use Rattle.ltl.specs.Formula.{encode}
 use Rattle.nodes.proofs.Fronts.{parts-as, no-code, begins-some}
-use Rattle.unfolding.proofs.Operands.{one-of, two-of}
+use Rattle.nodes.proofs.Operands.{one-of, two-of}
 use Rattle.unfolding.proofs.Counts.{counted-leaf, counted-not, counted-next, counted-eventually, counted-always, left-counted, counted-joined, counted-until}
 use borrow.Fn.Kinds.{In}
 use borrow.Fn.PlainCycle.{Measures, is, falls, and}

@@ -12,7 +12,7 @@ use Rattle.kinds.specs.declared.Unary.the-variants.{Eventually, Always}
 use Rattle.kinds.specs.declared.Join.the-variants.{And, Or}
 use Rattle.kinds.specs.declared.Kind.the-variants.{One, Two}
 use Rattle.nodes.proofs.Fronts.{parts-as, no-code, begins-some}
-use Rattle.unfolding.proofs.Operands.{one-of}
+use Rattle.nodes.proofs.Operands.{one-of}
 use Rattle.unfolding.proofs.Unfoldings.{behind, room-some, leaf-done, room-not, not-done, ends-within, next-fits, next-done, ever, room-ever, ever-read, ever-done, both-of, both, room-both, both-read, both-done, until, left-begins, until-end, room-right, until-read, room-left, until-made, until-done}
 use borrow.Fn.Kinds.{In}
 use borrow.Fn.PlainCycle.{Measures, is, falls, and}

@@ -1,0 +1,81 @@
+-- An operand is looked at by its choice as a number: `looked-by` is what it adds to the cuts of a slot on the board where the code
+-- places it, which `place-is` says. Assumes nothing.
+use mathlib.Core.Path.{_≡_, refl, sym, ap, _∙_}
+use mathlib.Core.Bool.{Bool, true, false}
+use mathlib.Core.List.{List}
+use mathlib.Core.Logic.{_⊎_, inl, inr}
+use mathlib.Core.Option.{Option, none, some}
+use Prim.Native.Nat.{ℕ, _+_, _<_, _≤_}
+use native.Mathlib.Omega.{arith}
+use lib.Dec.{eqb}
+use borrow.Author.Tests.{eq-eqb, ne-eqb, eqb-true, eqb-false}
+use Rattle.lists.specs.Tests.{pick, either}
+use Rattle.ltl.specs.Limits.{boardsMost}
+use Rattle.ltl.specs.Formula.{Formula}
+use Rattle.network.specs.Scores.{highest}
+use Rattle.cutting.specs.Cuts.{lookedAs, codeOf, placeOf, cutBy, Lies}
+
+-- ---- one cut or none
+pub cut-stays : (board : ℕ) → cutBy boardsMost board ≡ 0
+unfolding cutBy either pick
+cut-stays board = refl
+
+pub cut-own : (c : ℕ) → cutBy c c ≡ 0
+unfolding cutBy pick either
+cut-own c = rw (eq-eqb c c refl) (go (eqb c boardsMost))
+  where
+    go : (t : Bool) → _≡_ {A = ℕ} (pick (either t true) 0 1) 0
+    go true = refl
+    go false = refl
+
+pub cut-other : (c board : ℕ) → (c ≡ boardsMost → ⊥) → (c ≡ board → ⊥) → cutBy c board ≡ 1
+unfolding cutBy either pick
+cut-other c board l n = rw (ne-eqb c boardsMost l, ne-eqb c board n)
+
+pub cut-few : (c board : ℕ) → cutBy c board ≤ 1
+unfolding cutBy pick
+cut-few c board = go (either (eqb c boardsMost) (eqb c board))
+  where
+    go : (t : Bool) → pick t 0 1 ≤ 1
+    go true = omega arith
+    go false = omega arith
+
+-- an operand that has no choice, or whose choice is the board, stays there; another one is cut, to the board of its choice
+pub looked-by : (o : Option ℕ) (b place : ℕ) (stays cut : ℕ → ℕ) (n : ℕ) → (place ≡ b) ⊎ (o ≡ none)
+    → ((c : ℕ) → o ≡ some c → c < boardsMost)
+    → ((c : ℕ) → (o ≡ none) ⊎ (o ≡ some c) → stays c ≡ n)
+    → ((c : ℕ) → o ≡ some c → cut c ≡ n + 1)
+    → lookedAs o b stays cut ≡ n + cutBy (codeOf o) place
+unfolding lookedAs pick
+looked-by none b place stays cut n w below stay cuts = rw (cut-stays place) (let e = stay b (inl refl) in omega arith)
+looked-by (some c) b place stays cut n w below stay cuts = go (eqb c b) refl
+  where
+    same : (place ≡ b) ⊎ (some c ≡ none) → place ≡ b
+    same (inl e) = e
+    same (inr e) = absurd (let z : _≡_ {A = ℕ} 0 1 = cc in omega arith)
+
+    go : (t : Bool) → eqb c b ≡ t → pick t (stays b) (cut c) ≡ n + cutBy c place
+    go true q =
+        let e = eqb-true c b q in
+        let p : place ≡ c = same w ∙ sym e in
+        rw (p, cut-own c) (let h = stay b (inr (ap some e)) in omega arith)
+    go false q =
+        let d = eqb-false c b q in
+        let p = same w in
+        let l = below c refl in
+        rw (cut-other c place (λ e. omega arith) (λ e. d (e ∙ p))) (cuts c refl)
+
+-- ---- the board that a node is laid on
+pub place-own : (on : ℕ) (counts : List ℕ) → on ≡ boardsMost → placeOf on counts ≡ codeOf (highest none 0 0 counts)
+unfolding placeOf pick
+place-own on counts e = rw (eq-eqb on boardsMost e)
+
+pub place-given : (on : ℕ) (counts : List ℕ) → (on ≡ boardsMost → ⊥) → placeOf on counts ≡ on
+unfolding placeOf pick
+place-given on counts n = rw (ne-eqb on boardsMost n)
+
+pub place-is : (choose : Formula → Option ℕ) (f g : Formula) (on b : ℕ) (counts : List ℕ) → highest none 0 0 counts ≡ choose g
+    → (choose g ≡ none → choose f ≡ none) → Lies choose g on b → (placeOf on counts ≡ b) ⊎ (choose f ≡ none)
+place-is choose f g on b counts e h (inl (o, inl z)) = inr (h z)
+place-is choose f g on b counts e h (inl (o, inr z)) = inl (place-own on counts o ∙ ap codeOf (e ∙ z))
+place-is choose f g on b counts e h (inr (o, l)) = inl (place-given on counts (λ q. omega arith) ∙ o)

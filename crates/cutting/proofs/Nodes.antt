@@ -1,0 +1,95 @@
+-- A part's scores and cuts by its top node: `parted-..`. `walked-..` is the same of the formula as it stands. Assumes nothing.
+use mathlib.Core.Path.{_≡_, refl, sym, ap, ap₂, _∙_, subst}
+use mathlib.Core.List.{List}
+use mathlib.Core.Logic.{inl, inr}
+use mathlib.Core.Option.{none}
+use Prim.Native.Nat.{ℕ, _+_, _*_, _<_, _≤_, _^_}
+use native.Mathlib.Omega.{arith}
+use Rattle.kinds.specs.declared.Leaf.{Leaf}
+use Rattle.kinds.specs.declared.Unary.the-variants.{Not, Next, Eventually, Always}
+use Rattle.kinds.specs.declared.Join.{Join}
+use Rattle.kinds.specs.declared.Binary.the-variants.{Joined, Until}
+use Rattle.ltl.specs.Limits.{boardsMost}
+use Rattle.ltl.specs.Formula.{Formula, leaf, one, two, size, Within}
+use Rattle.ltl.specs.Progression.{unfolded}
+use Rattle.network.specs.Scores.{highest, chosen}
+use Rattle.scores.specs.Owned.{Owned}
+use Rattle.scores.specs.Tallies.{Counted}
+use Rattle.scores.proofs.Counting.{counted-one, counted-two, counted-chosen}
+use Rattle.cutting.specs.declared.Part.{Part}
+use Rattle.cutting.specs.Cuts.{lookedAs, cutsOn, codeOf, placeOf, cutBy, lookedCuts, Lies, Parted, Joinable, Joins}
+use Rattle.cutting.proofs.Choices.{chosen-below, chosen-one, chosen-left, chosen-right}
+use Rattle.cutting.proofs.Looking.{looked-by, cut-few, place-is}
+
+-- ---- an operand that is looked at
+module _ {owner : List ℕ} {f : Formula} {x : Part} (h : Parted owner f boardsMost x) where
+  looked-is : (p q : ℕ) (masks : List ℕ) → Owned p masks owner → Within p q f → (g : Formula) (on b : ℕ) (counts : List ℕ)
+      → highest none 0 0 counts ≡ chosen masks g → (chosen masks g ≡ none → chosen masks f ≡ none) → Lies (chosen masks) g on b
+      → lookedAs (chosen masks f) b (cutsOn (chosen masks) f) (λ c. 1 + cutsOn (chosen masks) f c) ≡ lookedCuts x (placeOf on counts)
+  looked-is p q masks o w g on b counts e n l =
+      let c = counted-chosen p q masks (h .scored) o w in
+      looked-by (chosen masks f) b (placeOf on counts) (cutsOn (chosen masks) f) (λ c. 1 + cutsOn (chosen masks) f c) (x .cuts)
+      (place-is (chosen masks) f g on b counts e n l)
+      (λ c z. chosen-below boardsMost masks (o .few) f c z)
+      (λ c z. sym (h .cuts-are p q masks o w c (inl (refl, z))))
+      (λ c z. (let k = h .cuts-are p q masks o w c (inl (refl, inr z)) in omega arith))
+      ∙ ap (λ (i : ℕ). x .cuts + cutBy i (placeOf on counts)) (ap codeOf (sym c))
+
+  looked-few : (board : ℕ) → lookedCuts x board ≤ size f
+  looked-few board = let l = h .few in let c = cut-few (codeOf (highest none 0 0 (x .scores .counts))) board in omega arith
+
+-- ---- by the top node
+module _ {owner counts : List ℕ} (on : ℕ) (x : Part) (e : (x .scores .counts ≡ counts) × (x .cuts ≡ 0)) where
+  pub parted-leaf : (a : Leaf) → Counted owner (leaf a) counts → Parted owner (leaf a) on x
+  unfolding cutsOn
+  parted-leaf a c =
+      record { scored = subst (Counted owner (leaf a)) (sym (e .0)) c; few = let z = e .1 in omega arith; cuts-are = λ p q masks o w b l. e .1 }
+
+  pub parted-next : (f : Formula) → Counted owner f counts → Parted owner (one Next f) on x
+  unfolding cutsOn
+  parted-next f c =
+      record { scored = subst (Counted owner (one Next f)) (sym (e .0)) (counted-one Next c); few = let z = e .1 in omega arith; cuts-are = λ p q masks o w b l. e .1 }
+
+pub parted-not : {owner : List ℕ} {f : Formula} {a : Part} (on : ℕ) (x : Part) → Parted owner f boardsMost a
+    → x .scores .counts ≡ a .scores .counts → x .cuts ≡ lookedCuts a (placeOf on (a .scores .counts)) → Parted owner (one Not f) on x
+unfolding cutsOn
+parted-not {owner} {f} {a} on x h s e =
+    record {
+      scored = subst (Counted owner (one Not f)) (sym s) (counted-one Not (h .scored));
+      few = let l = looked-few h (placeOf on (a .scores .counts)) in omega arith;
+      cuts-are = λ p q masks o w b l.
+          e ∙ sym (looked-is h p q masks o w (one Not f) on b (a .scores .counts) (counted-chosen p q masks (counted-one Not (h .scored)) o w) (λ z. sym (chosen-one masks Not f) ∙ z) l);
+    }
+
+pub parted-joined : {owner : List ℕ} {f g : Formula} {a b : Part} (j : Join) (on : ℕ) (x : Part) → Parted owner f boardsMost a → Parted owner g boardsMost b → Joins a b on x
+    → Parted owner (two (Joined j) f g) on x
+unfolding cutsOn
+parted-joined {owner} {f} {g} {a} {b} j on x h k e =
+    let d = subst (Counted owner (two (Joined j) f g)) (sym (e .scores)) (counted-two (Joined j) (h .scored) (k .scored)) in
+    record {
+      scored = d;
+      few = let n = e .cuts in let l = looked-few h (placeOf on (x .scores .counts)) in let m = looked-few k (placeOf on (x .scores .counts)) in omega arith;
+      cuts-are = λ p q masks o w i l.
+          e .cuts
+          ∙ sym
+          (ap₂ _+_
+          (looked-is h p q masks o (w .0) (two (Joined j) f g) on i (x .scores .counts) (counted-chosen p q masks d o w) (chosen-left masks (Joined j) f g) l)
+          (looked-is k p q masks o (w .1) (two (Joined j) f g) on i (x .scores .counts) (counted-chosen p q masks d o w) (chosen-right masks (Joined j) f g) l));
+    }
+
+-- ---- how large
+pub unfolded-few : (f : Formula) → size f ≤ 4096 → size (unfolded f) ≤ 4100 * size f
+unfolded-few (leaf a) l = omega arith
+unfolded-few (one Not f) l = omega (arith, unfolded-few f (omega arith))
+unfolded-few (one Next f) l = omega arith
+unfolded-few (one Eventually f) l = omega (arith, unfolded-few f (omega arith))
+unfolded-few (one Always f) l = omega (arith, unfolded-few f (omega arith))
+unfolded-few (two (Joined j) f g) l = omega (arith, unfolded-few f (omega arith), unfolded-few g (omega arith))
+unfolded-few (two Until f g) l = omega (arith, unfolded-few f (omega arith), unfolded-few g (omega arith))
+
+pub joinable : {owner : List ℕ} {f g : Formula} {a b : Part} (on : ℕ) → Parted owner f boardsMost a → Parted owner g on b → size f + size g < 2 ^ 40 → Joinable a b
+joinable {b = b} on h k l =
+    record {
+      scores = λ i. (let x = h .scored .few i in let y = k .scored .few i in omega arith);
+      cuts = let x = h .few in let y = k .few in omega arith;
+    }

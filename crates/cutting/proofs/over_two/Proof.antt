@@ -1,0 +1,57 @@
+-- Each operator is a law of `Walks`; no sum is large, since the operands are not. Assumes nothing.
+use mathlib.Core.Path.{refl, _∙_}
+use Rattle.cutting.proofs.Walks.{walked-joined, walked-until, raws-few, both-joinable, copy-joinable, until-joinable}
+use native.Mathlib.Omega.{arith}
+use borrow.Author.Needs.{needs}
+use Rattle.cutting.proofs.over_two.Statement.{statement}
+use Rattle.cutting.proofs.over_two.Tie as tie
+use Rattle.cutting.proofs.over_two.Reads as reads
+
+plus-requires : tie.Need-plus-requires
+plus-requires c κs = raws-few (c .before .before .pre .walked-left) (c .before .before .pre .walked-right) (c .before .before .pre .small)
+
+add-read : tie.Need-add-read
+add-read c = let w = c .before .before .before .before .before .before .pre .walked-left .reads in let l = c .before .before .before .before .before .before .pre .small in omega arith
+
+add-read-2 : tie.Need-add-read-2
+add-read-2 c = let w = c .before .before .before .before .before .before .before .pre .walked-left .reads in let v = c .before .before .before .before .before .before .before .pre .walked-right .reads in let l = c .before .before .before .before .before .before .before .pre .small in omega arith
+
+enum-told : tie.Need-enum-told
+enum-told c = search needs
+
+joined-requires : tie.Need-joined-requires
+joined-requires c κs = both-joinable (c .before .before .before .before .before .before .before .before .before .pre .walked-left) (c .before .before .before .before .before .before .before .before .before .pre .walked-right) (c .before .before .before .before .before .before .before .before .before .pre .small)
+
+enum-told-2 : tie.Need-enum-told-2
+enum-told-2 c = search needs
+
+under-next-requires : tie.Need-under-next-requires
+under-next-requires c κs = search needs
+
+joined-requires-2 : tie.Need-joined-requires-2
+joined-requires-2 c κs = copy-joinable (c .before .before .before .before .before .before .before .before .before .before .pre .walked-left) (c .before .before .before .before .before .before .before .before .before .before .pre .walked-right) (c .before .before .before .before .before .before .before .before .before .before .pre .small) (c .under-next .result) (c .under-next .ensures .0 ∙ c .before .before .before .before .before .before .before .plus .ensures, c .under-next .ensures .1)
+
+joined-requires-3 : tie.Need-joined-requires-3
+joined-requires-3 c κs = until-joinable (c .before .before .before .before .before .before .before .before .before .before .before .pre .walked-left) (c .before .before .before .before .before .before .before .before .before .before .before .pre .walked-right) (c .before .before .before .before .before .before .before .before .before .before .before .pre .small) (c .before .under-next .result) (c .before .under-next .ensures .0 ∙ c .before .before .before .before .before .before .before .before .plus .ensures, c .before .under-next .ensures .1) (c .joined2 .result) (c .joined2 .ensures)
+
+returns : tie.Need-returns
+returns c = λ owner f g w v. walked-joined w v (c .before .before .before .before .before .before .before .before .before .before .args .on) _ refl (c .before .before .before .before .before .before .before .plus .ensures) (c .before .enum-told .given .1) (c .joined .ensures)
+
+returns-2 : tie.Need-returns-2
+returns-2 c = λ owner f g w v. walked-until w v (c .before .before .before .before .before .before .before .before .before .before .before .before .args .on) _ refl (c .before .before .before .before .before .before .before .before .before .plus .ensures) (c .before .before .under-next .result) (c .before .joined2 .result) (c .before .before .before .enum-told2 .given .1) (c .before .before .under-next .ensures) (c .before .joined2 .ensures) (c .joined3 .ensures)
+
+pub over-two-spec : {M : Type 1} → statement M
+over-two-spec =
+    tie.close
+    (tie.spec
+    plus-requires
+    add-read
+    add-read-2
+    enum-told
+    joined-requires
+    enum-told-2
+    under-next-requires
+    joined-requires-2
+    joined-requires-3
+    returns
+    returns-2)

@@ -1,0 +1,2 @@
+-- What the contracts of `cutting` cite.
+pub mod Cuts

@@ -1,0 +1,193 @@
+// How many parts are cut out of a formula when it is unfolded and laid on a board, counted without unfolding or laying it: one walk
+// over the formula as it stands, from the leaves up. A part's cuts on its own chosen board are all that its node needs of it: on
+// another board the part is cut itself, and is then laid on that board of its own.
+ghost use mathlib.Core.Path.{_≡_};
+ghost use mathlib.Core.Option.{none};
+ghost use Prim.Native.Nat.{_+_, _<_, _≤_, _^_};
+ghost use lib.ListN.{length};
+ghost use Rattle.network.specs.Scores.{highest};
+ghost use Rattle.nodes.specs.Begins.{Begins};
+ghost use Rattle.scores.specs.Owned.{Table};
+ghost use Rattle.cutting.specs.Cuts.{codeOf, placeOf, cutBy, Joinable, Joins, Countable, OverOne, Pairable, OverTwo, Cutting};
+use kinds::Binary;
+use kinds::Kind;
+use kinds::Unary;
+use scores::Choice;
+use scores::Scores;
+
+// Stands for a board: the part's own choice where a board is asked for, and that it stays where a choice is told.
+pub const STAYS: u8 = 16;
+
+// A part that is laid on a board: its scores, and how many parts are cut out of it there.
+pub struct Part {
+    pub scores: Scores,
+    pub cuts: usize,
+}
+
+// A formula as it was walked over: its length, its scores as it stands, and what it is unfolded.
+pub struct Counted {
+    pub read: usize,
+    pub raw: Scores,
+    pub part: Part,
+}
+
+// The board that scores choose, as a number.
+pub fn choice_of(scores: Scores) -> u8
+    ensures { λ r. ⌜ r ≡ codeOf (highest none 0 0 (scores .counts)) ⌝ }
+{
+    let c = scores.choice();
+    match c {
+        Choice::Board(b) => b,
+        Choice::Stays => STAYS,
+    }
+}
+
+// The board that a part is laid on: the one given, or its own.
+pub fn place_of(scores: Scores, on: u8) -> u8
+    ensures { λ r. ⌜ r ≡ placeOf on (scores .counts) ⌝ }
+{
+    if on == STAYS { choice_of(scores) } else { on }
+}
+
+// Whether a part of this choice is cut out of a slot on that board, as a number of cuts.
+fn cut_by(choice: u8, board: u8) -> usize
+    ensures { λ r. ⌜ (r ≡ cutBy choice board) × (r ≤ 1) ⌝ }
+{
+    if choice == STAYS {
+        return 0;
+    }
+    if choice == board { 0 } else { 1 }
+}
+
+impl Part {
+    // The cuts where this part is looked at as an operand of a slot on the board.
+    fn looked(self, board: u8) -> usize
+        requires { ⌜ self .cuts + 1 < 2 ^ 64 ⌝ }
+        ensures { λ r. ⌜ r ≡ self .cuts + cutBy (codeOf (highest none 0 0 (self .scores .counts))) board ⌝ }
+    {
+        let scores = self.scores;
+        self.cuts + cut_by(choice_of(scores), board)
+    }
+}
+
+// Two parts under a join, laid on the board given or on their own choice.
+fn joined(a: Part, b: Part, on: u8) -> Part
+    requires { ⌜ Joinable a b ⌝ }
+    ensures { λ r. ⌜ Joins a b on r ⌝ }
+{
+    let left = a.scores;
+    let right = b.scores;
+    let scores = left.plus(right);
+    let board = place_of(scores, on);
+    Part {
+        scores: scores,
+        cuts: a.looked(board) + b.looked(board),
+    }
+}
+
+// A formula under next: nothing is cut out of it.
+fn under_next(raw: Scores) -> Part
+    ensures { λ r. ⌜ (r .scores .counts ≡ raw .counts) × (r .cuts ≡ 0) ⌝ }
+{
+    Part {
+        scores: raw,
+        cuts: 0,
+    }
+}
+
+// A node with one operand, which was walked over.
+fn over_one(o: Unary, a: Counted, on: u8) -> Counted
+    requires { ⌜ Countable a ⌝ }
+    ensures { λ r. ⌜ OverOne o a on r ⌝ }
+{
+    let raw = a.raw;
+    let part = a.part;
+    let read = 1 + a.read;
+    match o {
+        Unary::Not => {
+            let scores = part.scores;
+            let cuts = part.looked(place_of(scores, on));
+            Counted {
+                read: read,
+                raw: raw,
+                part: Part {
+                    scores: scores,
+                    cuts: cuts,
+                },
+            }
+        }
+        Unary::Next => Counted {
+            read: read,
+            raw: raw,
+            part: under_next(raw),
+        },
+        Unary::Eventually => Counted {
+            read: read,
+            raw: raw,
+            part: joined(part, under_next(raw), on),
+        },
+        Unary::Always => Counted {
+            read: read,
+            raw: raw,
+            part: joined(part, under_next(raw), on),
+        },
+    }
+}
+
+// A node with two operands, which were walked over.
+fn over_two(o: Binary, a: Counted, c: Counted, on: u8) -> Counted
+    requires { ⌜ Pairable a c ⌝ }
+    ensures { λ r. ⌜ OverTwo o a c on r ⌝ }
+{
+    let left = a.raw;
+    let right = c.raw;
+    let raw = left.plus(right);
+    let f = a.part;
+    let g = c.part;
+    let read = 1 + a.read + c.read;
+    match o {
+        Binary::Joined(_) => Counted {
+            read: read,
+            raw: raw,
+            part: joined(f, g, on),
+        },
+        Binary::Until => Counted {
+            read: read,
+            raw: raw,
+            part: joined(g, joined(f, under_next(raw), STAYS), on),
+        },
+    }
+}
+
+// The cuts of the formula that s begins with, unfolded, on the board given or on its own choice.
+pub fn count_cuts(s: &[u8], owner: &[u8], on: u8) -> Counted
+    requires { ⌜ Begins (now s) × Table (now owner) × (length (now s) ≤ 4096) ⌝ }
+    ensures { λ r. ⌜ Cutting (now (owner .entry)) (now (s .entry)) on r ⌝ }
+{
+    let k = Kind::of(s[0]);
+    match k {
+        Kind::Zero(a) => {
+            let raw = scores::score_leaf(a, owner);
+            Counted {
+                read: 1,
+                raw: raw,
+                part: under_next(raw),
+            }
+        }
+        Kind::One(o) => over_one(o, count_cuts(&s[1..], owner, STAYS), on),
+        Kind::Two(o) => {
+            let a = count_cuts(&s[1..], owner, STAYS);
+            let m = 1 + a.read;
+            over_two(o, a, count_cuts(&s[m..], owner, STAYS), on)
+        }
+        // No formula begins with such a byte.
+        Kind::NoCode => {
+            let raw = Scores::none();
+            Counted {
+                read: 0,
+                raw: raw,
+                part: under_next(raw),
+            }
+        }
+    }
+}
