@@ -1,5 +1,5 @@
--- An operand is looked at by its choice as a number: `looked-by` is what it adds to the cuts of a slot on the board where the code
--- places it, which `place-is` says. Assumes nothing.
+-- An operand is looked at by its choice as a number: `looked-by` says whether it stays in a slot on the board where the code places
+-- it, which `place-is` says. Assumes nothing.
 use mathlib.Core.Path.{_≡_, refl, sym, ap, _∙_}
 use mathlib.Core.Bool.{Bool, true, false}
 use mathlib.Core.List.{List}
@@ -13,57 +13,75 @@ use Rattle.lists.specs.Tests.{pick, either}
 use Rattle.ltl.specs.Limits.{boardsMost}
 use Rattle.ltl.specs.Formula.{Formula}
 use Rattle.network.specs.Scores.{highest}
-use Rattle.cutting.specs.Cuts.{lookedAs, codeOf, placeOf, cutBy, Lies}
+use Rattle.cutting.specs.Cuts.{lookedAs, codeOf, placeOf, staysOn, cutBy, Lies}
 
--- ---- one cut or none
-pub cut-stays : (board : ℕ) → cutBy boardsMost board ≡ 0
-unfolding cutBy either pick
-cut-stays board = refl
+-- ---- a part stays or is cut
+pub stays-none : (board : ℕ) → staysOn boardsMost board ≡ true
+unfolding staysOn either
+stays-none board = refl
 
-pub cut-own : (c : ℕ) → cutBy c c ≡ 0
-unfolding cutBy pick either
-cut-own c = rw (eq-eqb c c refl) (go (eqb c boardsMost))
+pub stays-own : (c : ℕ) → staysOn c c ≡ true
+unfolding staysOn either
+stays-own c = rw (eq-eqb c c refl) (go (eqb c boardsMost))
   where
-    go : (t : Bool) → _≡_ {A = ℕ} (pick (either t true) 0 1) 0
+    go : (t : Bool) → either t true ≡ true
     go true = refl
     go false = refl
 
-pub cut-other : (c board : ℕ) → (c ≡ boardsMost → ⊥) → (c ≡ board → ⊥) → cutBy c board ≡ 1
-unfolding cutBy either pick
-cut-other c board l n = rw (ne-eqb c boardsMost l, ne-eqb c board n)
-
-pub cut-few : (c board : ℕ) → cutBy c board ≤ 1
-unfolding cutBy pick
-cut-few c board = go (either (eqb c boardsMost) (eqb c board))
-  where
-    go : (t : Bool) → pick t 0 1 ≤ 1
-    go true = omega arith
-    go false = omega arith
+-- a choice that is a board's
+pub stays-board : (c board : ℕ) → (c ≡ boardsMost → ⊥) → staysOn c board ≡ eqb c board
+unfolding staysOn either
+stays-board c board l = rw (ne-eqb c boardsMost l)
 
 -- an operand that has no choice, or whose choice is the board, stays there; another one is cut, to the board of its choice
-pub looked-by : (o : Option ℕ) (b place : ℕ) (stays cut : ℕ → ℕ) (n : ℕ) → (place ≡ b) ⊎ (o ≡ none)
+pub looked-by : (o : Option ℕ) (b place : ℕ) (stays cut : ℕ → ℕ) (n m : ℕ) → (place ≡ b) ⊎ (o ≡ none)
     → ((c : ℕ) → o ≡ some c → c < boardsMost)
     → ((c : ℕ) → (o ≡ none) ⊎ (o ≡ some c) → stays c ≡ n)
-    → ((c : ℕ) → o ≡ some c → cut c ≡ n + 1)
-    → lookedAs o b stays cut ≡ n + cutBy (codeOf o) place
+    → ((c : ℕ) → o ≡ some c → cut c ≡ m)
+    → lookedAs o b stays cut ≡ pick (staysOn (codeOf o) place) n m
 unfolding lookedAs pick
-looked-by none b place stays cut n w below stay cuts = rw (cut-stays place) (let e = stay b (inl refl) in omega arith)
-looked-by (some c) b place stays cut n w below stay cuts = go (eqb c b) refl
+looked-by none b place stays cut n m w below stay cuts = rw (stays-none place) (stay b (inl refl))
+looked-by (some c) b place stays cut n m w below stay cuts = go (eqb c b) refl
   where
     same : (place ≡ b) ⊎ (some c ≡ none) → place ≡ b
     same (inl e) = e
     same (inr e) = absurd (let z : _≡_ {A = ℕ} 0 1 = cc in omega arith)
 
-    go : (t : Bool) → eqb c b ≡ t → pick t (stays b) (cut c) ≡ n + cutBy c place
+    go : (t : Bool) → eqb c b ≡ t → pick t (stays b) (cut c) ≡ pick (staysOn c place) n m
     go true q =
         let e = eqb-true c b q in
         let p : place ≡ c = same w ∙ sym e in
-        rw (p, cut-own c) (let h = stay b (inr (ap some e)) in omega arith)
+        rw (p, stays-own c) (stay b (inr (ap some e)))
     go false q =
         let d = eqb-false c b q in
         let p = same w in
         let l = below c refl in
-        rw (cut-other c place (λ e. omega arith) (λ e. d (e ∙ p))) (cuts c refl)
+        rw (stays-board c place (λ e. omega arith), ne-eqb c place (λ e. d (e ∙ p))) (cuts c refl)
+
+-- ---- one cut or none
+pub cut-none : (c board : ℕ) → staysOn c board ≡ true → cutBy c board ≡ 0
+unfolding cutBy pick
+cut-none c board e = rw e
+
+pub cut-one : (c board : ℕ) → staysOn c board ≡ false → cutBy c board ≡ 1
+unfolding cutBy pick
+cut-one c board e = rw e
+
+pub cut-few : (c board : ℕ) → cutBy c board ≤ 1
+unfolding cutBy pick
+cut-few c board = go (staysOn c board)
+  where
+    go : (t : Bool) → pick t 0 1 ≤ 1
+    go true = omega arith
+    go false = omega arith
+
+pub cut-more : (c board n : ℕ) → pick (staysOn c board) n (n + 1) ≡ n + cutBy c board
+unfolding cutBy pick
+cut-more c board n = go (staysOn c board)
+  where
+    go : (t : Bool) → pick t n (n + 1) ≡ n + pick t 0 1
+    go true = omega arith
+    go false = refl
 
 -- ---- the board that a node is laid on
 pub place-own : (on : ℕ) (counts : List ℕ) → on ≡ boardsMost → placeOf on counts ≡ codeOf (highest none 0 0 counts)

@@ -19,7 +19,7 @@ use Rattle.scores.proofs.Counting.{counted-one, counted-two, counted-chosen}
 use Rattle.cutting.specs.declared.Part.{Part}
 use Rattle.cutting.specs.Cuts.{lookedAs, cutsOn, codeOf, placeOf, cutBy, lookedCuts, Lies, Parted, Joinable, Joins}
 use Rattle.cutting.proofs.Choices.{chosen-below, chosen-one, chosen-left, chosen-right}
-use Rattle.cutting.proofs.Looking.{looked-by, cut-few, place-is}
+use Rattle.cutting.proofs.Looking.{looked-by, cut-few, cut-more, place-is}
 
 -- ---- an operand that is looked at
 module _ {owner : List ℕ} {f : Formula} {x : Part} (h : Parted owner f boardsMost x) where
@@ -28,11 +28,12 @@ module _ {owner : List ℕ} {f : Formula} {x : Part} (h : Parted owner f boardsM
       → lookedAs (chosen masks f) b (cutsOn (chosen masks) f) (λ c. 1 + cutsOn (chosen masks) f c) ≡ lookedCuts x (placeOf on counts)
   looked-is p q masks o w g on b counts e n l =
       let c = counted-chosen p q masks (h .scored) o w in
-      looked-by (chosen masks f) b (placeOf on counts) (cutsOn (chosen masks) f) (λ c. 1 + cutsOn (chosen masks) f c) (x .cuts)
+      looked-by (chosen masks f) b (placeOf on counts) (cutsOn (chosen masks) f) (λ c. 1 + cutsOn (chosen masks) f c) (x .cuts) (x .cuts + 1)
       (place-is (chosen masks) f g on b counts e n l)
       (λ c z. chosen-below boardsMost masks (o .few) f c z)
       (λ c z. sym (h .cuts-are p q masks o w c (inl (refl, z))))
       (λ c z. (let k = h .cuts-are p q masks o w c (inl (refl, inr z)) in omega arith))
+      ∙ cut-more (codeOf (chosen masks f)) (placeOf on counts) (x .cuts)
       ∙ ap (λ (i : ℕ). x .cuts + cutBy i (placeOf on counts)) (ap codeOf (sym c))
 
   looked-few : (board : ℕ) → lookedCuts x board ≤ size f

@@ -2,6 +2,7 @@
 -- these are definitions.
 use mathlib.Core.Path.{_≡_}
 use Prim.Native.Nat.{ℕ, _+_, _<_, _^_}
+use mathlib.Core.Bool.{Bool}
 use mathlib.Core.List.{List}
 use mathlib.Core.Logic.{_⊎_}
 use mathlib.Core.Option.{Option, none, some}
@@ -49,9 +50,13 @@ codeOf (some b) = b
 unfoldable pub placeOf : ℕ → List ℕ → ℕ
 placeOf on counts = pick (eqb on boardsMost) (codeOf (highest none 0 0 counts)) on
 
--- 1 where a part of this choice is cut out of a slot on the board
+-- a part of this choice stays in a slot on the board
+unfoldable pub staysOn : ℕ → ℕ → Bool
+staysOn choice board = either (eqb choice boardsMost) (eqb choice board)
+
+-- 1 where it is cut
 unfoldable pub cutBy : ℕ → ℕ → ℕ
-cutBy choice board = pick (either (eqb choice boardsMost) (eqb choice board)) 0 1
+cutBy choice board = pick (staysOn choice board) 0 1
 
 -- a part may stay on a board: it has no choice, or that one
 abbrev pub Rests : (Formula → Option ℕ) → Formula → ℕ → Type 0

@@ -8,7 +8,7 @@ ghost use lib.ListN.{length};
 ghost use Rattle.network.specs.Scores.{highest};
 ghost use Rattle.nodes.specs.Begins.{Begins};
 ghost use Rattle.scores.specs.Owned.{Table};
-ghost use Rattle.cutting.specs.Cuts.{codeOf, placeOf, cutBy, Joinable, Joins, Countable, OverOne, Pairable, OverTwo, Cutting};
+ghost use Rattle.cutting.specs.Cuts.{codeOf, placeOf, staysOn, cutBy, Joinable, Joins, Countable, OverOne, Pairable, OverTwo, Cutting};
 use kinds::Binary;
 use kinds::Kind;
 use kinds::Unary;
@@ -49,14 +49,21 @@ pub fn place_of(scores: Scores, on: u8) -> u8
     if on == STAYS { choice_of(scores) } else { on }
 }
 
-// Whether a part of this choice is cut out of a slot on that board, as a number of cuts.
+// Whether a part of this choice stays in a slot on the board.
+pub fn stays_on(choice: u8, board: u8) -> bool
+    ensures { λ r. ⌜ r ≡ staysOn choice board ⌝ }
+{
+    if choice == STAYS {
+        return true;
+    }
+    choice == board
+}
+
+// The cuts that looking at a part of this choice makes in a slot on the board: one, or none where it stays.
 fn cut_by(choice: u8, board: u8) -> usize
     ensures { λ r. ⌜ (r ≡ cutBy choice board) × (r ≤ 1) ⌝ }
 {
-    if choice == STAYS {
-        return 0;
-    }
-    if choice == board { 0 } else { 1 }
+    if stays_on(choice, board) { 0 } else { 1 }
 }
 
 impl Part {

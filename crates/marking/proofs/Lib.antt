@@ -1,0 +1,4 @@
+-- Laws of marks.
+pub mod Places
+pub mod Tops
+pub mod Walks

@@ -1,0 +1,75 @@
+-- Marks by their places: a formula's marks are those at the places of its nodes (`marked-same`), and a number has its length and
+-- its board back (`mark-has`). Assumes nothing.
+use mathlib.Core.Path.{_≡_, sym, ap, _∙_, subst}
+use mathlib.Core.List.{List, _++_}
+use mathlib.Core.Option.{Option}
+use Prim.Native.Nat.{ℕ, _+_, _/_, _%_, _<_, _≤_}
+use native.Mathlib.Omega.{arith}
+use lib.ListN.{length, getD, take, drop, length-append, take-append-drop, List·getD-append}
+use lib.Seq.{getD-drop, getD-take, drop-at, length-take-le}
+use Rattle.lists.specs.Runs.{tail, tailAs}
+use Rattle.lists.proofs.Parts.{tail-length, handed-tail}
+use Rattle.kinds.specs.declared.Unary.the-variants.{Not, Next, Eventually, Always}
+use Rattle.kinds.specs.declared.Binary.the-variants.{Joined, Until}
+use Rattle.ltl.specs.Limits.{boardsMost}
+use Rattle.ltl.specs.Formula.{Formula, leaf, one, two, size}
+use Rattle.ltl.proofs.Texts.{size-some}
+use Rattle.marking.specs.Marks.{markOf, Marks, Marked}
+
+-- equal numbers at the first n places
+abbrev pub Agree : ℕ → List ℕ → List ℕ → Type 0
+Agree n xs ys = (i : ℕ) → i < n → getD xs i 0 ≡ getD ys i 0
+
+agree-drop : (a n m : ℕ) (xs ys : List ℕ) → a + n ≤ m → Agree m xs ys → Agree n (drop a xs) (drop a ys)
+agree-drop a n m xs ys l h i k = getD-drop a xs i 0 ∙ h (a + i) (omega arith) ∙ sym (getD-drop a ys i 0)
+
+pub marked-same : (choose : Formula → Option ℕ) (f : Formula) (xs ys : List ℕ) → Agree (size f) xs ys → Marked choose f xs → Marked choose f ys
+marked-same choose (leaf a) xs ys h m = tt
+marked-same choose (one Not f) xs ys h m =
+    let d = agree-drop 1 (size f) (1 + size f) xs ys (omega arith) h in
+    (subst (Marks choose f boardsMost) (d 0 (size-some f)) (m .0), marked-same choose f (drop 1 xs) (drop 1 ys) d (m .1))
+marked-same choose (one Next f) xs ys h m = tt
+marked-same choose (one Eventually f) xs ys h m = tt
+marked-same choose (one Always f) xs ys h m = tt
+marked-same choose (two (Joined j) f g) xs ys h m =
+    let d = agree-drop 1 (size f) (1 + size f + size g) xs ys (omega arith) h in
+    let e = agree-drop (1 + size f) (size g) (1 + size f + size g) xs ys (omega arith) h in (
+      (subst (Marks choose f boardsMost) (d 0 (size-some f)) (m .0 .0), marked-same choose f (drop 1 xs) (drop 1 ys) d (m .0 .1)),
+      (subst (Marks choose g boardsMost) (e 0 (size-some g)) (m .1 .0), marked-same choose g (drop (1 + size f) xs) (drop (1 + size f) ys) e (m .1 .1)),
+    )
+marked-same choose (two Until f g) xs ys h m = tt
+
+-- ---- marks that were lent on
+module _ (a : ℕ) (s T : List ℕ) (l : a ≤ length s) where
+  handed-is : tailAs a s T ≡ take a s ++ T
+  handed-is = handed-tail s (take a s) (drop a s) a (sym (take-append-drop a s)) (length-take-le a s l) T
+
+  pub handed-length : length T ≡ length (tail a s) → length (tailAs a s T) ≡ length s
+  handed-length e = ap length handed-is ∙ length-append (take a s) T ∙ (let t = tail-length a s in let u = length-take-le a s l in omega arith)
+
+  pub handed-back : drop a (tailAs a s T) ≡ T
+  handed-back = ap (drop a) handed-is ∙ drop-at (take a s) T a (length-take-le a s l)
+
+  pub handed-front : (i : ℕ) → i < a → getD (tailAs a s T) i 0 ≡ getD s i 0
+  handed-front i k =
+      ap (λ (x : List ℕ). getD x i 0) handed-is
+      ∙ List·getD-append (take a s) T 0 i (let e = length-take-le a s l in omega arith)
+      ∙ getD-take a s i 0 k
+
+-- the left operand's marks are still there when the right one's were written
+pub left-stays : (n : ℕ) (s left right : List ℕ) → 1 + n ≤ length s → length left ≡ length (tail 1 s)
+    → Agree n left (drop 1 (tailAs (1 + n) (tailAs 1 s left) right))
+left-stays n s left right l h i k =
+    let e = handed-length 1 s left (omega arith) h in
+    ap (λ (x : List ℕ). getD x i 0) (sym (handed-back 1 s left (omega arith)))
+    ∙ getD-drop 1 (tailAs 1 s left) i 0
+    ∙ sym (handed-front (1 + n) (tailAs 1 s left) right (omega arith) (1 + i) (omega arith))
+    ∙ sym (getD-drop 1 (tailAs (1 + n) (tailAs 1 s left) right) i 0)
+
+-- ---- a length and a board in one number
+pub record Has (mark here board : ℕ) : Type 0 where
+  pub here-is : mark / 32 ≡ here
+  pub board-is : mark % 32 ≡ board
+
+pub mark-has : (mark here board : ℕ) → mark ≡ markOf here board → board < 32 → Has mark here board
+mark-has mark here board e l = record { here-is = omega arith; board-is = omega arith }

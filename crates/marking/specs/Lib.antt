@@ -1,0 +1,2 @@
+-- What the contracts of `marking` cite.
+pub mod Marks

@@ -1,0 +1,111 @@
+// Marks for laying an unfolded formula: for each of its operands the board that it is chosen for, and how long it is in a slot on
+// that board. One walk from the leaves up, a mark for each node outside next, at the node's place.
+ghost use mathlib.Core.Path.{_≡_};
+ghost use Prim.Native.Nat.{_+_, _*_, _<_, _≤_};
+ghost use lib.ListN.{length};
+ghost use Rattle.nodes.specs.Begins.{Begins};
+ghost use Rattle.scores.specs.Owned.{Table};
+ghost use Rattle.marking.specs.Marks.{shownAs, Seals, Small, SmallPair, OverNot, OverPair, Whole, Marking};
+use cutting::STAYS;
+use kinds::Binary;
+use kinds::Kind;
+use kinds::Unary;
+use scores::Scores;
+
+// A part that was marked: its length, its scores, the board that it is laid on, and its length in a slot there.
+pub struct Placed {
+    pub read: usize,
+    pub scores: Scores,
+    pub board: u8,
+    pub here: usize,
+}
+
+// The length of an operand in a slot on the board: its own where it stays, one place holder where it is cut.
+fn shown(a: Placed, board: u8) -> usize
+    ensures { λ r. ⌜ r ≡ shownAs (a .board) (a .here) board ⌝ }
+{
+    if cutting::stays_on(a.board, board) {
+        a.here
+    } else {
+        1
+    }
+}
+
+// Puts the mark of a part at the front of the marks.
+fn seal(marks: &mut [u32], read: usize, scores: Scores, board: u8, here: usize) -> Placed
+    requires { ⌜ (0 < length (now marks)) × (here ≤ 8192) ⌝ }
+    ensures { λ r. ⌜ Seals read scores board here (now (marks .entry)) (now (marks .exit)) r ⌝ }
+{
+    marks[0] = (here * 32 + board as usize) as u32;
+    Placed {
+        read: read,
+        scores: scores,
+        board: board,
+        here: here,
+    }
+}
+
+// Not of a part that was marked.
+fn over_not(marks: &mut [u32], a: Placed, on: u8) -> Placed
+    requires { ⌜ (0 < length (now marks)) × Small a ⌝ }
+    ensures { λ r. ⌜ OverNot a on (now (marks .entry)) (now (marks .exit)) r ⌝ }
+{
+    let scores = a.scores;
+    let board = cutting::place_of(scores, on);
+    seal(marks, 1 + a.read, scores, board, 1 + shown(a, board))
+}
+
+// Two parts that were marked, under a join.
+fn over_pair(marks: &mut [u32], a: Placed, c: Placed, on: u8) -> Placed
+    requires { ⌜ (0 < length (now marks)) × SmallPair a c ⌝ }
+    ensures { λ r. ⌜ OverPair a c on (now (marks .entry)) (now (marks .exit)) r ⌝ }
+{
+    let left = a.scores;
+    let right = c.scores;
+    let scores = left.plus(right);
+    let board = cutting::place_of(scores, on);
+    let here = 1 + shown(a, board) + shown(c, board);
+    seal(marks, 1 + a.read + c.read, scores, board, here)
+}
+
+// A part that stays whole: a node without operands, next, or a temporal operator.
+fn mark_whole(u: &[u8], marks: &mut [u32], owner: &[u8], on: u8) -> Placed
+    requires { ⌜ Begins (now u) × Table (now owner) × (length (now u) ≤ length (now marks)) × (length (now u) ≤ 4096) ⌝ }
+    ensures { λ r. ⌜ Whole (now (owner .entry)) (now (u .entry)) on (now (marks .entry)) (now (marks .exit)) r ⌝ }
+{
+    let t = scores::tally(u, owner);
+    let scores = t.scores;
+    let board = cutting::place_of(scores, on);
+    seal(marks, t.read, scores, board, t.read)
+}
+
+// Marks the formula that u begins with, laid on the board given or on its own choice.
+pub fn mark(u: &[u8], marks: &mut [u32], owner: &[u8], on: u8) -> Placed
+    requires { ⌜ Begins (now u) × Table (now owner) × (length (now u) ≤ length (now marks)) × (length (now u) ≤ 4096) ⌝ }
+    ensures { λ r. ⌜ Marking (now (owner .entry)) (now (u .entry)) on (now (marks .exit)) r ⌝ }
+{
+    let k = Kind::of(u[0]);
+    match k {
+        Kind::Zero(_) => mark_whole(u, marks, owner, on),
+        Kind::One(o) => match o {
+            Unary::Not => {
+                let a = mark(&u[1..], &mut marks[1..], owner, STAYS);
+                over_not(marks, a, on)
+            }
+            Unary::Next => mark_whole(u, marks, owner, on),
+            Unary::Eventually => mark_whole(u, marks, owner, on),
+            Unary::Always => mark_whole(u, marks, owner, on),
+        },
+        Kind::Two(o) => match o {
+            Binary::Joined(_) => {
+                let a = mark(&u[1..], &mut marks[1..], owner, STAYS);
+                let m = 1 + a.read;
+                let c = mark(&u[m..], &mut marks[m..], owner, STAYS);
+                over_pair(marks, a, c, on)
+            }
+            Binary::Until => mark_whole(u, marks, owner, on),
+        },
+        // No formula begins with such a byte.
+        Kind::NoCode => mark_whole(u, marks, owner, on),
+    }
+}
