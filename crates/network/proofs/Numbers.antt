@@ -30,7 +30,7 @@ abbrev pub timesHeld : ℕ → List Slot → ℕ
 timesHeld m [] = 0
 timesHeld m (s ∷ ss) = timesIn m (s .formula) + timesHeld m ss
 
-times-both : (m : ℕ) (ss ts : List Slot) → timesHeld m (ss ++ ts) ≡ timesHeld m ss + timesHeld m ts
+pub times-both : (m : ℕ) (ss ts : List Slot) → timesHeld m (ss ++ ts) ≡ timesHeld m ss + timesHeld m ts
 times-both m [] ts = omega arith
 times-both m (s ∷ ss) ts = omega (arith, times-both m ss ts)
 

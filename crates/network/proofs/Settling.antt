@@ -42,7 +42,7 @@ filled-same p q (two Until f g) x = refl
 
 -- ---- place holders of a slot that is ready
 -- a plain formula that holds stepped slots alone passes the test
-free-only : (choose : Formula → Option ℕ) (test : ℕ → Bool) (f : Formula) → Free choose f → holdsOnly test f ≡ true
+pub free-only : (choose : Formula → Option ℕ) (test : ℕ → Bool) (f : Formula) → Free choose f → holdsOnly test f ≡ true
 unfolding holdsOnly
 free-only choose test (leaf (Const v)) x = refl
 free-only choose test (leaf (Prop i)) x = refl
