@@ -26,10 +26,14 @@ module _ (P : ℕ → Slot → Type 0) where
   each-both n m [] ts e a b = let q : m ≡ n = omega arith in subst (λ (i : ℕ). EachSlot P i ts) q b
   each-both n m (s ∷ ss) ts e a b = (a .0, each-both (n + 1) m ss ts (omega arith) (a .1) b)
 
-  pub each-slot : (n : ℕ) (ss : List Slot) → EachSlot P n ss → (i : ℕ) → i < length ss → P (n + i) (slotAt ss i)
-  each-slot n [] a i l = absurd (omega arith)
-  each-slot n (s ∷ ss) a zero l = let q : n ≡ n + 0 = omega arith in subst (λ (j : ℕ). P j s) q (a .0)
-  each-slot n (s ∷ ss) a (suc i) l = let q : n + 1 + i ≡ n + suc i = omega arith in subst (λ (j : ℕ). P j (slotAt ss i)) q (each-slot (n + 1) ss (a .1) i (omega arith))
+  each-from : (n : ℕ) (ss : List Slot) → EachSlot P n ss → (i : ℕ) → i < length ss → P (n + i) (slotAt ss i)
+  each-from n [] a i l = absurd (omega arith)
+  each-from n (s ∷ ss) a zero l = let q : n ≡ n + 0 = omega arith in subst (λ (j : ℕ). P j s) q (a .0)
+  each-from n (s ∷ ss) a (suc i) l = let q : n + 1 + i ≡ n + suc i = omega arith in subst (λ (j : ℕ). P j (slotAt ss i)) q (each-from (n + 1) ss (a .1) i (omega arith))
+
+  -- a row from slot 0 on
+  pub each-slot : (ss : List Slot) → EachSlot P 0 ss → (k : ℕ) → k < length ss → P k (slotAt ss k)
+  each-slot ss a k l = let q : 0 + k ≡ k = omega arith in subst (λ (j : ℕ). P j (slotAt ss k)) q (each-from 0 ss a k l)
 
 module _ (choose : Formula → Option ℕ) (Top : ℕ → Formula → Type 0) where
   -- a slot that can be laid out again: clean, its unfolded top as laying asks, and holding slots of higher numbers alone

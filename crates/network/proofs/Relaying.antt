@@ -16,7 +16,7 @@ use Rattle.network.proofs.Owned.{Free, Clean, Headed, Plain, unfolded-h
 use Rattle.network.proofs.Values.{Env, value, value-constant, value-free, never}
 use Rattle.network.proofs.Laying.{Choice, HoldsIn, Kept, headed-tops}
 use Rattle.network.proofs.Holding.{holds-map}
-use Rattle.network.proofs.Layouts.{EachSlot, each-both, each-slot, Standing, load-elim, close-elim}
+use Rattle.network.proofs.Layouts.{EachSlot, each-both, Standing, load-elim, close-elim}
 use Rattle.network.proofs.Origins.{From, from-whole, from-under, from-cut, from-beside, from-hold, Models, Modelled, modelled}
 
 module _ (choose : Formula → Option ℕ) (choice : Choice choose) where
@@ -27,9 +27,6 @@ module _ (choose : Formula → Option ℕ) (choice : Choice choose) where
 
   abbrev pub AllOk : ℕ → ℕ → List Slot → Type 0
   AllOk end n ss = EachSlot (SlotOk end) n ss
-
-  pub ok-at : (end n : ℕ) (ss : List Slot) → AllOk end n ss → (i : ℕ) → i < length ss → SlotOk end (n + i) (slotAt ss i)
-  ok-at end n ss a i l = each-slot (SlotOk end) n ss a i l
 
   -- a part as laying leaves it, for every end that has room for its slots
   abbrev pub PartOk : ℕ → ℕ → Formula → Laid → Type 0

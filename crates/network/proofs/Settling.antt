@@ -26,7 +26,8 @@ use Rattle.network.specs.Tick.{holdsOnly, marked, verdictAt, stepped, St
 use Rattle.network.proofs.Owned.{Free, Plain}
 use Rattle.network.proofs.Laying.{Choice, HoldsIn}
 use Rattle.network.proofs.Holding.{holds-map, only-holds}
-use Rattle.network.proofs.Relaying.{SlotOk, AllOk, ok-at}
+use Rattle.network.proofs.Layouts.{each-slot}
+use Rattle.network.proofs.Relaying.{SlotOk, AllOk}
 
 -- filling in depends only on the slots that are held
 pub filled-same : (p q : ℕ → Verdict) (f : Formula) → HoldsIn (λ m. p m ≡ q m) f → filled p f ≡ filled q f
@@ -71,7 +72,7 @@ not-below d n h = omega arith
 
 module _ (choose : Formula → Option ℕ) (choice : Choice choose) (sample : ℕ → Event) (before : List Slot) (ok : AllOk choose choice (length before) 0 before) where
   pub slot-ok : (k : ℕ) → k < length before → SlotOk choose choice (length before) k (slotAt before k)
-  slot-ok k l = let q : 0 + k ≡ k = omega arith in subst (λ (i : ℕ). SlotOk choose choice (length before) i (slotAt before k)) q (ok-at choose choice (length before) 0 before ok k l)
+  slot-ok k l = each-slot (SlotOk choose choice (length before)) before ok k l
 
   -- slot k as it is once stepped, with the other slots as they stand
   abbrev pub settledSlot : List Slot → ℕ → Slot

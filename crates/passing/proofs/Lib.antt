@@ -7,4 +7,5 @@ pub mod Fitting
 pub mod Holders
 pub mod Tidy
 pub mod Written
-pub mod Begun
+pub mod Loaded
+pub mod Closed

@@ -1,5 +1,5 @@
--- The rest of a state that was written: its length, its offsets, its masks, its boards that have not sampled, its stretches without a
--- gap and the zeros behind its nodes. Assumes nothing.
+-- The rest of a state that was written: its length, its offsets and ticks, its masks, its boards that have not sampled, its stretches
+-- without a gap and the zeros behind its nodes. Assumes nothing.
 use mathlib.Core.Path.{_≡_, refl, sym, ap, ap₂, _∙_}
 use mathlib.Core.Bool.{true}
 use mathlib.Core.List.{List, [], _∷_, _++_, append-assoc}
@@ -10,62 +10,17 @@ use lib.ListN.{length, getD, drop, replicate, length-append, length-replicate}
 use lib.Seq.{drop-at, drop-drop, getD-append-add, ext-getD}
 use borrow.Author.Tests.{lt-ltb, le-ltb}
 use Rattle.lists.specs.Tests.{pick, both}
-use Rattle.le.specs.Le.{le, leAt}
-use Rattle.le.proofs.Laws.{le-length, leAt-behind}
+use Rattle.le.specs.Le.{leAt}
+use Rattle.le.proofs.Laws.{leAt-behind}
 use Rattle.ltl.specs.Formula.{size, encode, Within}
 use Rattle.ltl.proofs.Texts.{length-encode}
 use Rattle.network.specs.Layout.{Slot, slotAt}
-use Rattle.state.specs.Fields.{stateLength, boardsOffsetIn, slotsOffsetIn, nodesOffsetIn, boardsAt, slotsAt, nodesAt, boardAt, maskIn, sampleIn, sampledIn, masksIn, stretchEnd}
+use Rattle.state.specs.Fields.{stateLength, ticksIn, boardsOffsetIn, slotsOffsetIn, nodesOffsetIn, boardsAt, slotsAt, nodesAt, boardAt, maskIn, sampleIn, sampledIn, masksIn, stretchEnd}
 use Rattle.state.specs.Clauses.{allZero, restOk}
 use Rattle.state.specs.Bytes.{nodesOf, boardRecords, slotRecords, nodeBytes, stateOf}
 use Rattle.state.proofs.Reading.{skip, field, header-length, boards-length, records-length, startOf, zeros, head, behind-header, behind-slots, slots-end, reads-boards, reads-slots, reads-nodes, reads-start}
+use Rattle.state.proofs.BoardRows.{row-mask, row-sample, row-sampled}
 use Rattle.state.proofs.Rows.{masks-length, masks-at}
-
--- ---- the fields of record i in a row of boards' records, with anything behind
-module _ (rest : List ℕ) where
-  abbrev row : List ℕ → List ℕ
-  row ms = boardRecords ms ++ rest
-
-  -- a record: the mask, and nine zeros
-  row-cons : (m : ℕ) (ms : List ℕ) → row (m ∷ ms) ≡ le 8 m ++ (replicate 9 0 ++ row ms)
-  row-cons m ms = append-assoc (le 8 m) (replicate 9 0 ++ boardRecords ms) rest
-
-  row-on : (m : ℕ) (ms : List ℕ) (at n : ℕ) → leAt (row (m ∷ ms)) (17 + at) n ≡ leAt (row ms) at n
-  row-on m ms at n =
-      let e : 17 + at ≡ 8 + (9 + at) = omega arith in
-      ap₂ (λ (x : List ℕ) (i : ℕ). leAt x i n) (row-cons m ms) e ∙ skip 8 m (replicate 9 0 ++ row ms) (9 + at) n ∙ leAt-behind (replicate 9 0) (row ms) at n
-
-  -- a byte of a record behind its mask
-  row-byte : (m : ℕ) (ms : List ℕ) (at : ℕ) → getD (row (m ∷ ms)) (8 + at) 0 ≡ getD (replicate 9 0 ++ row ms) at 0
-  row-byte m ms at =
-      ap₂ (λ (x : List ℕ) (i : ℕ). getD x (i + at) 0) (row-cons m ms) (sym (le-length 8 m)) ∙ getD-append-add (le 8 m) (replicate 9 0 ++ row ms) at 0
-
-  row-on-byte : (m : ℕ) (ms : List ℕ) (at : ℕ) → getD (row (m ∷ ms)) (17 + at) 0 ≡ getD (row ms) at 0
-  row-on-byte m ms at =
-      let e : 17 + at ≡ 8 + (9 + at) = omega arith in
-      ap (λ (i : ℕ). getD (row (m ∷ ms)) i 0) e ∙ row-byte m ms (9 + at) ∙ getD-append-add (replicate 9 0) (row ms) at 0
-
-  row-mask : (ms : List ℕ) (i : ℕ) → i < length ms → getD ms i 0 < 256 ^ 8 → leAt (row ms) (17 * i) 8 ≡ getD ms i 0
-  row-mask [] i l h = absurd (omega arith)
-  row-mask (m ∷ ms) zero l h = ap (λ (x : List ℕ). leAt x 0 8) (row-cons m ms) ∙ field 8 m (replicate 9 0 ++ row ms) h
-  row-mask (m ∷ ms) (suc i) l h =
-      let e : 17 * suc i ≡ 17 + 17 * i = omega arith in
-      ap (λ (j : ℕ). leAt (row (m ∷ ms)) j 8) e ∙ row-on m ms (17 * i) 8 ∙ row-mask ms i (omega arith) h
-
-  row-sample : (ms : List ℕ) (i : ℕ) → i < length ms → leAt (row ms) (17 * i + 8) 8 ≡ 0
-  unfolding leAt
-  row-sample [] i l = absurd (omega arith)
-  row-sample (m ∷ ms) zero l = ap (λ (x : List ℕ). leAt x 8 8) (row-cons m ms) ∙ skip 8 m (replicate 9 0 ++ row ms) 0 8
-  row-sample (m ∷ ms) (suc i) l =
-      let e : 17 * suc i + 8 ≡ 17 + (17 * i + 8) = omega arith in
-      ap (λ (j : ℕ). leAt (row (m ∷ ms)) j 8) e ∙ row-on m ms (17 * i + 8) 8 ∙ row-sample ms i (omega arith)
-
-  row-sampled : (ms : List ℕ) (i : ℕ) → i < length ms → getD (row ms) (17 * i + 16) 0 ≡ 0
-  row-sampled [] i l = absurd (omega arith)
-  row-sampled (m ∷ ms) zero l = row-byte m ms 8
-  row-sampled (m ∷ ms) (suc i) l =
-      let e : 17 * suc i + 16 ≡ 17 + (17 * i + 16) = omega arith in
-      ap (λ (j : ℕ). getD (row (m ∷ ms)) j 0) e ∙ row-on-byte m ms (17 * i + 16) ∙ row-sampled ms i (omega arith)
 
 -- ---- lengths
 nodes-length : (ss : List Slot) → length (nodeBytes ss) ≡ nodesOf ss
@@ -134,7 +89,7 @@ module _ (masks : List ℕ) (slots : List Slot) (ticks : ℕ) (few-boards : leng
       let n = stateLength - length l in
       omega (arith, content-length, length-append l (replicate n 0), length-replicate {A = ℕ} n 0)
 
-  -- ---- the offsets
+  -- ---- the offsets and the ticks
   pub reads-boards-offset : boardsOffsetIn state ≡ boardsAt
   reads-boards-offset =
       rw split (simp append-assoc (skip 2 (length masks) _ 4 2 ∙ skip 2 (length slots) _ 2 2 ∙ skip 2 (nodesOf slots) _ 0 2 ∙ field 2 boardsAt _ (omega arith)))
@@ -151,6 +106,13 @@ module _ (masks : List ℕ) (slots : List Slot) (ticks : ℕ) (few-boards : leng
       (simp append-assoc
       (skip 2 (length masks) _ 8 2 ∙ skip 2 (length slots) _ 6 2 ∙ skip 2 (nodesOf slots) _ 4 2 ∙ skip 2 boardsAt _ 2 2 ∙ skip 2 (slotsAt (length masks)) _ 0 2
       ∙ field 2 (nodesAt (length masks) (length slots)) _ (omega arith)))
+
+  pub reads-ticks : ticks < 2 ^ 32 → ticksIn state ≡ ticks
+  reads-ticks h =
+      rw split
+      (simp append-assoc
+      (skip 2 (length masks) _ 10 4 ∙ skip 2 (length slots) _ 8 4 ∙ skip 2 (nodesOf slots) _ 6 4 ∙ skip 2 boardsAt _ 4 4 ∙ skip 2 (slotsAt (length masks)) _ 2 4
+      ∙ skip 2 (nodesAt (length masks) (length slots)) _ 0 4 ∙ field 4 ticks _ (omega arith)))
 
   -- ---- the boards
   board-field : (at n : ℕ) → leAt state (16 + at) n ≡ leAt (boardRecords masks ++ behind) at n

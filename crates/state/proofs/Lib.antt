@@ -2,4 +2,5 @@
 pub mod Worked
 pub mod Reading
 pub mod Rows
+pub mod BoardRows
 pub mod Fresh

@@ -1,6 +1,6 @@
--- Loading and closing give states that pass the state check: `loaded-passes` for every rule, `closed-passes` for every state that
--- passes and is done, whether it was reached from a rule or not. Assumes nothing.
-use mathlib.Core.Path.{_≡_, ap, _∙_, subst}
+-- Closing gives a state that passes the state check, for every state that passes and is done, whether it was reached from a rule or
+-- not, where the new layout is within the limits: `closed-passes`. Assumes nothing.
+use mathlib.Core.Path.{_≡_, ap, _∙_}
 use mathlib.Core.Bool.{true}
 use mathlib.Core.List.{List}
 use Prim.Native.Nat.{ℕ, _+_, _<_, _≤_}
@@ -10,45 +10,24 @@ use lib.Dec.{eqb}
 use borrow.Author.Tests.{eqb-true}
 use Rattle.lists.proofs.Tests.{both-1}
 use Rattle.ltl.specs.Limits.{nodesMost}
-use Rattle.ltl.specs.Formula.{Formula, Within}
-use Rattle.masks.specs.Masks.{sumOnes, masksRule}
+use Rattle.masks.specs.Masks.{sumOnes}
 use Rattle.network.specs.Scores.{chosen}
-use Rattle.network.specs.Layout.{Slot, slotAt, load, close}
+use Rattle.network.specs.Layout.{Slot, slotAt, close}
 use Rattle.network.proofs.Owned.{OwnTop, unfolded-own-top}
-use Rattle.network.proofs.Layouts.{EachSlot, each-slot, Standing}
-use Rattle.network.proofs.Numbers.{load-once, close-once}
-use Rattle.network.proofs.Choosing.{masks-free}
+use Rattle.network.proofs.Layouts.{each-slot, Standing}
+use Rattle.network.proofs.Numbers.{close-once}
 use Rattle.checking.proofs.Each.{each-at}
 use Rattle.state.specs.Fields.{slotsIn, ticksIn, masksIn, boardOfIn, steppedIn}
 use Rattle.state.specs.Clauses.{slotsMost, loneOther, stateOk}
 use Rattle.state.specs.Bytes.{nodesOf, stateOf, formulaAt, networkOf}
-use Rattle.state.specs.Calls.{doneIn, nextIn, firstOf, loadedState}
+use Rattle.state.specs.Calls.{doneIn, nextIn}
 use Rattle.state.proofs.Rows.{masks-length, masks-at, network-length, network-at}
 use Rattle.passing.proofs.Passing.{passing}
 use Rattle.passing.proofs.Held.{slot-holds}
 use Rattle.passing.proofs.Tidy.{tidy-clean, lone-top}
-use Rattle.passing.proofs.Fitting.{Fitting, load-fits, close-fits}
+use Rattle.passing.proofs.Fitting.{Fitting, close-fits}
 use Rattle.passing.proofs.Written.{written-passes}
 
--- slots that are numbered from 0
-from-zero : (P : ℕ → Slot → Type 0) (slots : List Slot) → EachSlot P 0 slots → (k : ℕ) → k < length slots → P k (slotAt slots k)
-from-zero P slots e k l = let q : 0 + k ≡ k = omega arith in subst (λ (i : ℕ). P i (slotAt slots k)) q (each-slot P 0 slots e k l)
-
--- ---- loading a rule
-load-some : (masks : List ℕ) (rule : Formula) → 1 ≤ length (firstOf masks rule)
-unfolding load
-load-some masks rule = omega arith
-
-pub loaded-passes : (masks : List ℕ) (p : ℕ) (rule : Formula) → masksRule p masks ≡ true → 1 ≤ p → p ≤ 64 → 1 ≤ length masks → length masks ≤ 16
-    → Within p 0 rule → length (firstOf masks rule) ≤ slotsMost → nodesOf (firstOf masks rule) ≤ nodesMost → stateOk (loadedState masks rule) ≡ true
-loaded-passes masks p rule follows some-propositions few-propositions some-boards few-boards within few-slots few-nodes =
-    let slots = firstOf masks rule in
-    let free = masks-free p masks few-propositions follows rule within in
-    written-passes p masks follows some-propositions few-propositions some-boards few-boards slots (load-some masks rule) few-slots few-nodes
-    (from-zero (Fitting p masks (length slots)) slots (load-fits p masks few-propositions follows rule free some-boards))
-    0 (load-once (chosen masks) rule free)
-
--- ---- closing a state
 close-some : (masks : List ℕ) (slots : List Slot) → 1 ≤ length (close (chosen masks) slots)
 unfolding close
 close-some masks slots = omega arith
@@ -99,5 +78,5 @@ module _ (s : List ℕ) (ok : stateOk s ≡ true) (done : doneIn s ≡ true) whe
       let h = c .header in
       written-passes p masks (c .masks-rule) (c .some-propositions) (c .few-propositions) (omega (arith, masks-length s, h .some-boards)) (omega (arith, masks-length s, h .few-boards))
       slots (close-some masks (networkOf s)) few-slots few-nodes
-      (from-zero (Fitting p masks (length slots)) slots (close-fits p masks (c .few-propositions) (c .masks-rule) (networkOf s) network-some network-standing network-there))
+      (each-slot (Fitting p masks (length slots)) slots (close-fits p masks (c .few-propositions) (c .masks-rule) (networkOf s) network-some network-standing network-there))
       (ticksIn s + 1) (close-once (chosen masks) (networkOf s) network-some network-standing)
