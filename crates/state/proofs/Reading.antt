@@ -1,5 +1,5 @@
--- A state that was written reads back as the network: `state-reads` has the header's counts, the slots' records and their formulas,
--- `network-reads` the whole network. Assumes nothing.
+-- A state that was written reads back as the network: the laws `reads-..` have the header's counts, the slots' records and their
+-- formulas, `network-reads` the whole network. Assumes nothing.
 use mathlib.Core.Path.{_≡_, refl, sym, ap, ap₂, _∙_}
 use mathlib.Core.List.{List, [], _∷_, _++_, append-assoc}
 use mathlib.Core.Option.{some}
