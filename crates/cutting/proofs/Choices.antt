@@ -1,10 +1,10 @@
 -- The choice by masks as laying uses it: a board that is chosen is there (`chosen-below`), and where a node has no choice its
 -- operands have none (`chosen-one`, `chosen-left`, `chosen-right`). Assumes nothing.
-use mathlib.Core.Path.{_≡_, refl, sym, ap}
+use mathlib.Core.Path.{_≡_, refl, sym}
 use mathlib.Core.Bool.{Bool, true, false}
 use mathlib.Core.List.{List, [], _∷_}
-use mathlib.Core.Option.{Option, none, some}
-use Prim.Native.Nat.{ℕ, suc, _+_, _<_, _≤_}
+use mathlib.Core.Option.{none, some}
+use Prim.Native.Nat.{ℕ, suc, _<_, _≤_}
 use native.Mathlib.Omega.{arith}
 use lib.ListN.{length}
 use lib.Dec.{ltb}
@@ -14,32 +14,11 @@ use Rattle.lists.proofs.Tests.{no-some}
 use Rattle.kinds.specs.declared.Unary.{Unary}
 use Rattle.kinds.specs.declared.Binary.{Binary}
 use Rattle.ltl.specs.Formula.{Formula, one, two}
+use Rattle.network.proofs.Choosing.{chosen-there}
 use Rattle.network.specs.Scores.{occurrences, scoresOf, highest, chosen}
 
--- ---- a board that is chosen is there
-pub highest-below : (n : ℕ) (counts : List ℕ) (place : Option ℕ) (most i c : ℕ) → i + length counts ≤ n → ((d : ℕ) → place ≡ some d → d < n)
-    → highest place most i counts ≡ some c → c < n
-unfolding highest pick
-highest-below n [] place most i c l h e = h c e
-highest-below n (x ∷ xs) place most i c l h e =
-    go (ltb most x) (highest-below n xs (some i) x (suc i) c (omega arith) here) (highest-below n xs place most (suc i) c (omega arith) h) e
-  where
-    here : (d : ℕ) → some i ≡ some d → d < n
-    here d q = let r : i ≡ d = cc in omega arith
-
-    go : (t : Bool) → (highest (some i) x (suc i) xs ≡ some c → c < n) → (highest place most (suc i) xs ≡ some c → c < n)
-        → pick t (highest (some i) x (suc i) xs) (highest place most (suc i) xs) ≡ some c → c < n
-    go true y z q = y q
-    go false y z q = z q
-
-scores-length : (masks : List ℕ) (f : Formula) → length (scoresOf masks f) ≡ length masks
-scores-length [] f = refl
-scores-length (m ∷ ms) f = ap suc (scores-length ms f)
-
 pub chosen-below : (n : ℕ) (masks : List ℕ) → length masks ≤ n → (f : Formula) (c : ℕ) → chosen masks f ≡ some c → c < n
-unfolding chosen
-chosen-below n masks l f c e =
-    highest-below n (scoresOf masks f) none 0 0 c (let k = scores-length masks f in omega arith) (λ d q. absurd (no-some d q)) e
+chosen-below n masks l f c e = let t = chosen-there masks f c e in omega arith
 
 -- ---- where all scores are 0
 -- no board has the highest count where none is above 0

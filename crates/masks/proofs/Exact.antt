@@ -1,5 +1,5 @@
 -- The masks' rule, read bit by bit. `exact`: where masks follow the rule, each bit below p is in exactly one of them, and no other bit
--- is in any. `owners` counts the masks that have a bit. Assumes nothing.
+-- is in any. `owners` counts the masks that have a bit. `rule-less`: each of them is below 2 to the p. Assumes nothing.
 use mathlib.Core.Path.{_≡_, refl, sym, ap, _∙_}
 use mathlib.Core.Bool.{true}
 use mathlib.Core.List.{List, [], _∷_}
@@ -9,7 +9,8 @@ use native.Mathlib.Omega.{arith}
 use native.Mathlib.Decide.{decLt}
 use lib.Dec.{ltb}
 use lib.Pow.{pow-pos, pow-mono, ones-split, ones-lt, high}
-use lib.Bits.{bitOr}
+use lib.ListN.{length, getD}
+use lib.Bits.{bitOr, and-le-l, and-le-r, or-add-and}
 use borrow.Author.Tests.{lt-ltb, le-ltb, eqb-true}
 use Rattle.lists.proofs.Tests.{both-0, both-1}
 use Rattle.lists.specs.Tests.{pick}
@@ -50,6 +51,18 @@ unfolding unionWith owners
 union-bit a [] i = omega (arith, bit-less a i)
 union-bit a (m ∷ ms) i =
     max-min _ _ _ _ (bit-less a i) (union-bit (bitOr a m) ms i ∙ ap (λ (x : ℕ). min 1 (x + owners ms i)) (or-bit a m i)) (bit-less m i)
+
+-- and no mask is above it
+union-least : (a : ℕ) (ms : List ℕ) → a ≤ unionWith a ms
+unfolding unionWith
+union-least a [] = omega arith
+union-least a (m ∷ ms) = omega (arith, union-least (bitOr a m) ms, or-add-and a m, and-le-r a m)
+
+union-most : (a : ℕ) (ms : List ℕ) (i : ℕ) → i < length ms → getD ms i 0 ≤ unionWith a ms
+unfolding unionWith
+union-most a [] i l = absurd (omega arith)
+union-most a (m ∷ ms) zero l = omega (arith, union-least (bitOr a m) ms, or-add-and a m, and-le-l a m)
+union-most a (m ∷ ms) (suc i) l = union-most (bitOr a m) ms i (omega arith)
 
 -- ---- the bits of 2 ^ p - 1
 low-bit : (p i : ℕ) → i < p → bitAt (2 ^ p - 1) i ≡ 1
@@ -110,6 +123,9 @@ module _ (p : ℕ) (ms : List ℕ) (rule : masksRule p ms ≡ true) where
   pub rule-union : unionWith 0 ms ≡ 2 ^ p - 1
   unfolding masksRule
   rule-union = eqb-true _ _ (both-1 _ _ rule)
+
+  pub rule-less : (i : ℕ) → i < length ms → getD ms i 0 < 2 ^ p
+  rule-less i l = omega (arith, union-most 0 ms i l, rule-union, pow-pos p)
 
   pub exact : p ≤ 64 → (i : ℕ) → i < 64 → owners ms i ≡ below p i
   exact small i l = same-places 64 (owners ms) (below p) at-least enough i l

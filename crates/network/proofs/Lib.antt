@@ -3,6 +3,8 @@ pub mod Verdicts
 pub mod Owned
 pub mod Values
 pub mod Laying
+pub mod Holding
+pub mod Layouts
 pub mod Origins
 pub mod Relaying
 pub mod Numbers

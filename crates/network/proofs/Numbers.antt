@@ -13,10 +13,10 @@ use Rattle.lists.specs.Tests.{pick}
 use Rattle.kinds.specs.declared.Leaf.the-variants.{Const, Prop, Hold}
 use Rattle.ltl.specs.Formula.{Formula, leaf, one, two}
 use Rattle.ltl.specs.Progression.{unfolded}
-use Rattle.network.specs.Layout.{Slot, Laid, laid, cut, orZero, noHold, load, slotAt, relaid, close}
-use Rattle.network.proofs.Owned.{Free, Clean, Headed, Flat, unfolded-free, unfolded-clean, unfolded-headed, unfolded-flat}
-use Rattle.network.proofs.Laying.{Choice, HoldsIn, laid-elim}
-use Rattle.network.proofs.Relaying.{holds-map, free-holds, unfolded-holds, root-headed, rule-clean, Stepped}
+use Rattle.network.specs.Layout.{Slot, Laid, laid, cut, rooted, orZero, noHold, load, slotAt, relaid, close}
+use Rattle.network.proofs.Owned.{Free, OwnTop}
+use Rattle.network.proofs.Laying.{Kept, own-tops}
+use Rattle.network.proofs.Layouts.{Standing, load-elim, close-elim}
 
 -- how often the place holder of slot m stands in a formula, and in all slots
 abbrev pub timesIn : ℕ → Formula → ℕ
@@ -30,7 +30,7 @@ abbrev pub timesHeld : ℕ → List Slot → ℕ
 timesHeld m [] = 0
 timesHeld m (s ∷ ss) = timesIn m (s .formula) + timesHeld m ss
 
-times-both : (m : ℕ) (ss ts : List Slot) → timesHeld m (ss ++ ts) ≡ timesHeld m ss + timesHeld m ts
+pub times-both : (m : ℕ) (ss ts : List Slot) → timesHeld m (ss ++ ts) ≡ timesHeld m ss + timesHeld m ts
 times-both m [] ts = omega arith
 times-both m (s ∷ ss) ts = omega (arith, times-both m ss ts)
 
@@ -70,57 +70,43 @@ cut-once : (b c k : ℕ) (f g : Formula) (x : Laid) → Once c (k + 1) f x → O
 unfolding given
 cut-once b c k f g x p m = omega (arith, p m)
 
-module _ (choose : Formula → Option ℕ) (choice : Choice choose) where
+rooted-once : (m b : ℕ) (f : Formula) (x : Laid) → Once b 1 f x → timesHeld m (rooted b x) ≤ 1
+rooted-once m b f x p = omega (arith, p m, given-once 1 (length (x .slots)) m)
+
+module _ (choose : Formula → Option ℕ) where
   free-none : (m : ℕ) (f : Formula) → Free choose f → timesIn m f ≡ 0
   free-none m (leaf (Const v)) x = refl
   free-none m (leaf (Prop i)) x = refl
   free-none m (one o f) x = free-none m f x
   free-none m (two o f g) x = omega (arith, free-none m f (x .0), free-none m g (x .1))
 
-  laid-once : (hold : ℕ → ℕ → Laid) (Q : ℕ → Type 0) → ((b k m : ℕ) → Q m → Once b k (leaf (Hold m)) (hold m k))
-      → (f : Formula) (b k : ℕ) → Clean choose f → Flat choose f → Headed choose b f → HoldsIn Q f → Once b k f (laid choose hold f b k)
+  once-kept : Kept choose (OwnTop choose) Once
   unfolding given
-  laid-once hold Q h =
-      laid-elim choose choice hold Q Once
-      (λ b k v m. refl)
-      (λ b k i e m. refl)
-      h
-      (λ b k f x p. p)
-      (λ b k f x y m. omega (arith, free-none m f x))
-      (λ b k j f g x y p q m.
-      (let c = length-append (x .slots) (y .slots) in
-      rw (times-both m (x .slots) (y .slots), c, given-both k (length (x .slots)) (length (y .slots)) m) (omega (arith, p m, q m))))
-      (λ b c k f x e p. cut-once b c k f f x p)
+  once-kept =
+      record {
+        on-constant = λ b k v m. refl;
+        on-own = λ b k i e m. refl;
+        on-not = λ b k f x p. p;
+        on-next = λ b k f x y m. omega (arith, free-none m f x);
+        on-joined = λ b k j f g x y p q m.
+            (let c = length-append (x .slots) (y .slots) in
+            rw (times-both m (x .slots) (y .slots), c, given-both k (length (x .slots)) (length (y .slots)) m) (omega (arith, p m, q m)));
+        on-cut = λ b c k f x e p. cut-once b c k f f x p;
+      }
 
   -- loading a rule
   pub load-once : (rule : Formula) → Free choose rule → (m : ℕ) → timesHeld m (load choose rule) ≤ 1
   unfolding load
   load-once rule free m =
       let b = orZero (choose (unfolded rule)) in
-      let p = laid-once noHold (λ m. ⊥) (λ b k m q. absurd q) (unfolded rule) b 1 (rule-clean choose choice rule free) (unfolded-flat choose rule) (root-headed choose choice rule free) (free-holds choose (λ m. ⊥) (unfolded rule) (unfolded-free choose rule free)) m in
-      omega (arith, p, given-once 1 (length (laid choose noHold (unfolded rule) b 1 .slots)) m)
+      rooted-once m b (unfolded rule) (laid choose noHold (unfolded rule) b 1) (load-elim choose (OwnTop choose) (own-tops choose) Once once-kept rule free)
 
   -- closing a network
-  module _ (slots : List Slot) (some-slots : 0 < length slots) (all : (n : ℕ) → n < length slots → Stepped choose choice (length slots) n (slotAt slots n)) where
-    relaid-once : (most b k m : ℕ) → (m < length slots) × (length slots ≤ most + m) → Once b k (leaf (Hold m)) (relaid choose slots most m k)
-    unfolding relaid
-    relaid-once zero b k m h = absurd (let l = h .0 in let r = h .1 in omega arith)
-    relaid-once (suc most) b k m h =
-        let s = slotAt slots m in
-        let t = all m (h .0) in
-        let l = h .1 in
-        cut-once b (s .board) k (unfolded (s .formula)) (leaf (Hold m)) (laid choose (relaid choose slots most) (unfolded (s .formula)) (s .board) (k + 1))
-        (laid-once (relaid choose slots most) (λ n. (n < length slots) × (length slots ≤ most + n)) (λ b k n q. relaid-once most b k n q) (unfolded (s .formula)) (s .board) (k + 1)
-        (unfolded-clean choose (s .formula) (t .clean)) (unfolded-flat choose (s .formula)) (unfolded-headed choose (s .board) (s .formula) (t .headed))
-        (holds-map _ _ (λ n q. (let a = q .0 in (q .1, omega arith))) (unfolded (s .formula)) (unfolded-holds choose _ (s .formula) (t .clean) (t .holds))))
-
-    pub close-once : (m : ℕ) → timesHeld m (close choose slots) ≤ 1
-    unfolding close
-    close-once m =
-        let s = slotAt slots 0 in
-        let t = all 0 some-slots in
-        let x = laid choose (relaid choose slots (length slots)) (unfolded (s .formula)) (s .board) 1 in
-        let p = laid-once (relaid choose slots (length slots)) (λ n. (n < length slots) × (length slots ≤ length slots + n)) (λ b k n q. relaid-once (length slots) b k n q) (unfolded (s .formula)) (s .board) 1
-        (unfolded-clean choose (s .formula) (t .clean)) (unfolded-flat choose (s .formula)) (unfolded-headed choose (s .board) (s .formula) (t .headed))
-        (holds-map _ _ (λ n q. (q .1, omega arith)) (unfolded (s .formula)) (unfolded-holds choose _ (s .formula) (t .clean) (t .holds))) m in
-        omega (arith, p, given-once 1 (length (x .slots)) m)
+  pub close-once : (slots : List Slot) → 0 < length slots → ((n : ℕ) → n < length slots → Standing choose (OwnTop choose) (length slots) n (slotAt slots n))
+      → (m : ℕ) → timesHeld m (close choose slots) ≤ 1
+  unfolding close
+  close-once slots some-slots all m =
+      let s = slotAt slots 0 in
+      rooted-once m (s .board) (unfolded (s .formula)) (laid choose (relaid choose slots (length slots)) (unfolded (s .formula)) (s .board) 1)
+      (close-elim choose (OwnTop choose) (own-tops choose) Once once-kept slots some-slots all
+      (λ b k n x l p. cut-once b (slotAt slots n .board) k (unfolded (slotAt slots n .formula)) (leaf (Hold n)) x p))

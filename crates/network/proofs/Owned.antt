@@ -1,7 +1,8 @@
 -- What every slot of a laid network keeps. `Free`: no place holder, and each proposition has a board. `Clean`: place holders
 -- outside next and the temporal operators alone. `Headed`: where nothing but nexts stands before a proposition, it is the board's
--- own. `Plain`: unfolded, with the board's own propositions alone outside next, and each next headed so. A laid slot is plain; a
--- stepped one is clean and headed; unfolded and laid again it is plain. Assumes nothing.
+-- own. `OwnTop`: a lone proposition is the board's own, which is all that the state check sees of that. `Plain`: unfolded, with the
+-- board's own propositions alone outside next, and each next headed so. A laid slot is plain; a stepped one is clean and headed;
+-- unfolded and laid again it is plain. Assumes nothing.
 use mathlib.Core.Path.{_≡_}
 use mathlib.Core.Option.{Option, some}
 use Prim.Native.Nat.{ℕ}
@@ -47,6 +48,13 @@ module _ (choose : Formula → Option ℕ) where
   Headed b (one Eventually f) = Unit {0}
   Headed b (one Always f) = Unit {0}
   Headed b (two o f g) = Unit {0}
+
+  abbrev pub OwnTop : ℕ → Formula → Type 0
+  OwnTop b (leaf (Const v)) = Unit {0}
+  OwnTop b (leaf (Prop i)) = choose (leaf (Prop i)) ≡ some b
+  OwnTop b (leaf (Hold k)) = Unit {0}
+  OwnTop b (one o f) = Unit {0}
+  OwnTop b (two o f g) = Unit {0}
 
   abbrev pub Plain : ℕ → Formula → Type 0
   Plain b (leaf (Const v)) = Unit {0}
@@ -97,6 +105,15 @@ module _ (choose : Formula → Option ℕ) where
   unfolded-headed b (one Always f) x = tt
   unfolded-headed b (two (Joined j) f g) x = tt
   unfolded-headed b (two Until f g) x = tt
+
+  pub unfolded-own-top : (b : ℕ) (f : Formula) → OwnTop b f → OwnTop b (unfolded f)
+  unfolded-own-top b (leaf a) x = x
+  unfolded-own-top b (one Not f) x = tt
+  unfolded-own-top b (one Next f) x = tt
+  unfolded-own-top b (one Eventually f) x = tt
+  unfolded-own-top b (one Always f) x = tt
+  unfolded-own-top b (two (Joined j) f g) x = tt
+  unfolded-own-top b (two Until f g) x = tt
 
   -- an unfolded formula has no temporal operator outside next
   abbrev pub Flat : Formula → Type 0

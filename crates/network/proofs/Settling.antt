@@ -13,7 +13,7 @@ use native.Mathlib.Nat.{eq-or-lt-of-le}
 use native.Mathlib.Omega.{arith}
 use lib.ListN.{length, set, replicate, length-set, length-replicate}
 use lib.Seq.{getD-set-same, getD-set-other, ext-getD}
-use Rattle.lists.proofs.Tests.{no-true, both-0, both-1, both-true}
+use Rattle.lists.proofs.Tests.{no-true, both-true}
 use Rattle.kinds.specs.declared.Leaf.the-variants.{Const, Prop, Hold}
 use Rattle.kinds.specs.declared.Unary.the-variants.{Not, Next, Eventually, Always}
 use Rattle.kinds.specs.declared.Binary.the-variants.{Joined, Until}
@@ -25,7 +25,9 @@ use Rattle.network.specs.Layout.{Slot, slotAt, close}
 use Rattle.network.specs.Tick.{holdsOnly, marked, verdictAt, stepped, Steps, rest, step, AllMarked, Ticks}
 use Rattle.network.proofs.Owned.{Free, Plain}
 use Rattle.network.proofs.Laying.{Choice, HoldsIn}
-use Rattle.network.proofs.Relaying.{holds-map, SlotOk, AllOk, ok-at}
+use Rattle.network.proofs.Holding.{holds-map, only-holds}
+use Rattle.network.proofs.Layouts.{each-slot}
+use Rattle.network.proofs.Relaying.{SlotOk, AllOk}
 
 -- filling in depends only on the slots that are held
 pub filled-same : (p q : ℕ → Verdict) (f : Formula) → HoldsIn (λ m. p m ≡ q m) f → filled p f ≡ filled q f
@@ -40,18 +42,8 @@ filled-same p q (two (Joined j) f g) x = ap₂ (join j) (filled-same p q f (x .0
 filled-same p q (two Until f g) x = refl
 
 -- ---- place holders of a slot that is ready
-only-holds : (choose : Formula → Option ℕ) (b : ℕ) (test : ℕ → Bool) (f : Formula) → Plain choose b f → holdsOnly test f ≡ true → HoldsIn (λ m. test m ≡ true) f
-unfolding holdsOnly
-only-holds choose b test (leaf (Const v)) p e = tt
-only-holds choose b test (leaf (Prop i)) p e = tt
-only-holds choose b test (leaf (Hold m)) p e = e
-only-holds choose b test (one Not f) p e = only-holds choose b test f p e
-only-holds choose b test (one Next f) p e = tt
-only-holds choose b test (two (Joined j) f g) p e =
-    (only-holds choose b test f (p .0) (both-0 (holdsOnly test f) (holdsOnly test g) e), only-holds choose b test g (p .1) (both-1 (holdsOnly test f) (holdsOnly test g) e))
-
 -- a plain formula that holds stepped slots alone passes the test
-free-only : (choose : Formula → Option ℕ) (test : ℕ → Bool) (f : Formula) → Free choose f → holdsOnly test f ≡ true
+pub free-only : (choose : Formula → Option ℕ) (test : ℕ → Bool) (f : Formula) → Free choose f → holdsOnly test f ≡ true
 unfolding holdsOnly
 free-only choose test (leaf (Const v)) x = refl
 free-only choose test (leaf (Prop i)) x = refl
@@ -80,7 +72,7 @@ not-below d n h = omega arith
 
 module _ (choose : Formula → Option ℕ) (choice : Choice choose) (sample : ℕ → Event) (before : List Slot) (ok : AllOk choose choice (length before) 0 before) where
   pub slot-ok : (k : ℕ) → k < length before → SlotOk choose choice (length before) k (slotAt before k)
-  slot-ok k l = let q : 0 + k ≡ k = omega arith in subst (λ (i : ℕ). SlotOk choose choice (length before) i (slotAt before k)) q (ok-at choose choice (length before) 0 before ok k l)
+  slot-ok k l = each-slot (SlotOk choose choice (length before)) before ok k l
 
   -- slot k as it is once stepped, with the other slots as they stand
   abbrev pub settledSlot : List Slot → ℕ → Slot
@@ -187,7 +179,7 @@ module _ (choose : Formula → Option ℕ) (choice : Choice choose) (sample : �
   ready-holds slots marks p k l unmarked ready =
       let n = p .many in
       let i : k < length before = omega arith in
-      only-holds choose (slotAt before k .board) (marked marks) (slotAt before k .formula) (slot-ok k i .plain)
+      only-holds (marked marks) (slotAt before k .formula)
       (ap (λ (s : Slot). holdsOnly (marked marks) (s .formula)) (sym (p .fresh k i unmarked)) ∙ ready)
 
   pub partly-steps : {slots slots′ : List Slot} {marks marks′ : List Bool} → Steps sample slots marks slots′ marks′ → Partly slots marks → Partly slots′ marks′

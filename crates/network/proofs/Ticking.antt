@@ -25,7 +25,8 @@ use Rattle.network.proofs.Owned.{Plain, stepped-clean, stepped-headed}
 use Rattle.network.proofs.Values.{Env, value, value-constant, value-joined, value-negated, value-free}
 use Rattle.network.proofs.Laying.{Choice, HoldsIn}
 use Rattle.network.proofs.Origins.{Models}
-use Rattle.network.proofs.Relaying.{holds-map, free-holds, AllOk, Stepped}
+use Rattle.network.proofs.Holding.{holds-map, free-holds}
+use Rattle.network.proofs.Relaying.{AllOk, Stepped}
 use Rattle.network.proofs.Settling.{slot-ok, settledSlot, Partly}
 
 -- the environment with an event taken off

@@ -1,5 +1,5 @@
--- A state that was written reads back as the network: `state-reads` has the header's counts, the slots' records and their formulas,
--- `network-reads` the whole network. Assumes nothing.
+-- A state that was written reads back as the network: the laws `reads-..` have the header's counts, the slots' records and their
+-- formulas, `network-reads` the whole network. Assumes nothing.
 use mathlib.Core.Path.{_≡_, refl, sym, ap, ap₂, _∙_}
 use mathlib.Core.List.{List, [], _∷_, _++_, append-assoc}
 use mathlib.Core.Option.{some}
@@ -18,14 +18,14 @@ use Rattle.state.specs.Fields.{stateLength, boardsIn, slotsIn, nodesIn, 
 use Rattle.state.specs.Bytes.{nodesOf, header, boardRecords, slotRecords, nodeBytes, stateOf, someFormula, slotsFrom, networkOf}
 
 -- a field behind other bytes
-skip : (m v : ℕ) (x : List ℕ) (at n : ℕ) → leAt (le m v ++ x) (m + at) n ≡ leAt x at n
+pub skip : (m v : ℕ) (x : List ℕ) (at n : ℕ) → leAt (le m v ++ x) (m + at) n ≡ leAt x at n
 skip m v x at n = ap (λ (i : ℕ). leAt (le m v ++ x) (i + at) n) (sym (le-length m v)) ∙ leAt-behind (le m v) x at n
 
-field : (n v : ℕ) (x : List ℕ) → v < 256 ^ n → leAt (le n v ++ x) 0 n ≡ v
+pub field : (n v : ℕ) (x : List ℕ) → v < 256 ^ n → leAt (le n v ++ x) 0 n ≡ v
 field n v x h = leAt-le [] x 0 n v refl ∙ mod-eq-of-lt h
 
 -- ---- lengths
-header-length : (b s n ticks : ℕ) → length (header b s n ticks) ≡ 16
+pub header-length : (b s n ticks : ℕ) → length (header b s n ticks) ≡ 16
 header-length b s n ticks =
     let a1 = length-append (le 2 b) (le 2 s ++ (le 2 n ++ (le 2 boardsAt ++ (le 2 (slotsAt b) ++ (le 2 (nodesAt b s) ++ le 4 ticks))))) in
     let a2 = length-append (le 2 s) (le 2 n ++ (le 2 boardsAt ++ (le 2 (slotsAt b) ++ (le 2 (nodesAt b s) ++ le 4 ticks)))) in
@@ -35,7 +35,7 @@ header-length b s n ticks =
     let a6 = length-append (le 2 (nodesAt b s)) (le 4 ticks) in
     omega (arith, le-length 2 b, le-length 2 s, le-length 2 n, le-length 2 boardsAt, le-length 2 (slotsAt b), le-length 2 (nodesAt b s), le-length 4 ticks)
 
-boards-length : (masks : List ℕ) → length (boardRecords masks) ≡ 17 * length masks
+pub boards-length : (masks : List ℕ) → length (boardRecords masks) ≡ 17 * length masks
 boards-length [] = refl
 boards-length (m ∷ ms) =
     omega (arith, length-append (le 8 m) (replicate 9 0 ++ boardRecords ms), length-append (replicate {A = ℕ} 9 0) (boardRecords ms), le-length 8 m, boards-length ms)
@@ -56,13 +56,13 @@ records-cons start s ss rest =
     ∙ ap (le 2 start ++_) (append-assoc (le 2 (size (s .formula))) (slotRecords (start + size (s .formula)) ss) rest)
     ∙ sym (append-assoc (le 2 start) (le 2 (size (s .formula))) (slotRecords (start + size (s .formula)) ss ++ rest)))
 
-records-length : (start : ℕ) (ss : List Slot) → length (slotRecords start ss) ≡ 6 * length ss
+pub records-length : (start : ℕ) (ss : List Slot) → length (slotRecords start ss) ≡ 6 * length ss
 records-length start [] = refl
 records-length start (s ∷ ss) =
     omega (arith, length-append (le 2 start) (le 2 (size (s .formula)) ++ slotRecords (start + size (s .formula)) ss), length-append (le 2 (size (s .formula))) (slotRecords (start + size (s .formula)) ss), le-length 2 start, le-length 2 (size (s .formula)), records-length (start + size (s .formula)) ss)
 
 -- ---- where a slot's nodes begin
-pub startOf : List Slot → ℕ → ℕ
+unfoldable pub startOf : List Slot → ℕ → ℕ
 startOf [] k = 0
 startOf (s ∷ ss) zero = 0
 startOf (s ∷ ss) (suc k) = size (s .formula) + startOf ss k
@@ -144,15 +144,15 @@ nodes-of (s ∷ ss) rest (suc k) l =
 -- ---- a whole state
 module _ (masks : List ℕ) (slots : List Slot) (ticks : ℕ) (few-boards : length masks ≤ 16) (few-slots : length slots ≤ 64) (few-nodes : nodesOf slots ≤ 4096)
     (coded : (k : ℕ) → k < length slots → Within 64 64 (slotAt slots k .formula)) where
-  zeros : List ℕ
+  unfoldable pub zeros : List ℕ
   zeros =
       replicate (stateLength - length (header (length masks) (length slots) (nodesOf slots) ticks ++ (boardRecords masks ++ (slotRecords 0 slots ++ nodeBytes slots)))) 0
 
-  abbrev head : List ℕ
+  abbrev pub head : List ℕ
   head = header (length masks) (length slots) (nodesOf slots) ticks
 
   -- the state cut behind its header, and behind its boards
-  behind-header : stateOf masks slots ticks ≡ head ++ (boardRecords masks ++ (slotRecords 0 slots ++ (nodeBytes slots ++ zeros)))
+  pub behind-header : stateOf masks slots ticks ≡ head ++ (boardRecords masks ++ (slotRecords 0 slots ++ (nodeBytes slots ++ zeros)))
   unfolding stateOf zeros
   behind-header = simp append-assoc
 
@@ -162,10 +162,10 @@ module _ (masks : List ℕ) (slots : List Slot) (ticks : ℕ) (few-boards : leng
   boards-end : length (head ++ boardRecords masks) ≡ slotsAt (length masks)
   boards-end = omega (arith, length-append head (boardRecords masks), header-length (length masks) (length slots) (nodesOf slots) ticks, boards-length masks)
 
-  behind-slots : stateOf masks slots ticks ≡ ((head ++ boardRecords masks) ++ slotRecords 0 slots) ++ (nodeBytes slots ++ zeros)
+  pub behind-slots : stateOf masks slots ticks ≡ ((head ++ boardRecords masks) ++ slotRecords 0 slots) ++ (nodeBytes slots ++ zeros)
   behind-slots = behind-boards ∙ sym (append-assoc (head ++ boardRecords masks) (slotRecords 0 slots) (nodeBytes slots ++ zeros))
 
-  slots-end : length ((head ++ boardRecords masks) ++ slotRecords 0 slots) ≡ nodesAt (length masks) (length slots)
+  pub slots-end : length ((head ++ boardRecords masks) ++ slotRecords 0 slots) ≡ nodesAt (length masks) (length slots)
   slots-end = omega (arith, length-append (head ++ boardRecords masks) (slotRecords 0 slots), boards-end, records-length 0 slots)
 
   -- the header's counts

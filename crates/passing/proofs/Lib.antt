@@ -1,0 +1,11 @@
+-- What a state that passes its check is, what a step writes, and that loading and closing give such states.
+pub mod Checked
+pub mod Passing
+pub mod Held
+pub mod Stepping
+pub mod Fitting
+pub mod Holders
+pub mod Tidy
+pub mod Written
+pub mod Loaded
+pub mod Closed

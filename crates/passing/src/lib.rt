@@ -1,0 +1,1 @@
+// No code: what a state that passes its check is, and that loading and closing give such states.
