@@ -1,14 +1,14 @@
 -- Marks by their places: a formula's marks are those at the places of its nodes (`marked-same`), and a number has its length and
 -- its board back (`mark-has`). Assumes nothing.
 use mathlib.Core.Path.{_≡_, sym, ap, _∙_, subst}
-use mathlib.Core.List.{List, _++_}
+use mathlib.Core.List.{List}
 use mathlib.Core.Option.{Option}
 use Prim.Native.Nat.{ℕ, _+_, _/_, _%_, _<_, _≤_}
 use native.Mathlib.Omega.{arith}
-use lib.ListN.{length, getD, take, drop, length-append, take-append-drop, List·getD-append}
-use lib.Seq.{getD-drop, getD-take, drop-at, length-take-le}
+use lib.ListN.{length, getD, drop}
+use lib.Seq.{getD-drop}
 use Rattle.lists.specs.Runs.{tail, tailAs}
-use Rattle.lists.proofs.Parts.{tail-length, handed-tail}
+use Rattle.lists.proofs.Parts.{handed-length, handed-back, handed-front}
 use Rattle.kinds.specs.declared.Unary.the-variants.{Not, Next, Eventually, Always}
 use Rattle.kinds.specs.declared.Binary.the-variants.{Joined, Until}
 use Rattle.ltl.specs.Limits.{boardsMost}
@@ -38,23 +38,6 @@ marked-same choose (two (Joined j) f g) xs ys h m =
       (subst (Marks choose g boardsMost) (e 0 (size-some g)) (m .1 .0), marked-same choose g (drop (1 + size f) xs) (drop (1 + size f) ys) e (m .1 .1)),
     )
 marked-same choose (two Until f g) xs ys h m = tt
-
--- ---- marks that were lent on
-module _ (a : ℕ) (s T : List ℕ) (l : a ≤ length s) where
-  handed-is : tailAs a s T ≡ take a s ++ T
-  handed-is = handed-tail s (take a s) (drop a s) a (sym (take-append-drop a s)) (length-take-le a s l) T
-
-  pub handed-length : length T ≡ length (tail a s) → length (tailAs a s T) ≡ length s
-  handed-length e = ap length handed-is ∙ length-append (take a s) T ∙ (let t = tail-length a s in let u = length-take-le a s l in omega arith)
-
-  pub handed-back : drop a (tailAs a s T) ≡ T
-  handed-back = ap (drop a) handed-is ∙ drop-at (take a s) T a (length-take-le a s l)
-
-  pub handed-front : (i : ℕ) → i < a → getD (tailAs a s T) i 0 ≡ getD s i 0
-  handed-front i k =
-      ap (λ (x : List ℕ). getD x i 0) handed-is
-      ∙ List·getD-append (take a s) T 0 i (let e = length-take-le a s l in omega arith)
-      ∙ getD-take a s i 0 k
 
 -- the left operand's marks are still there when the right one's were written
 pub left-stays : (n : ℕ) (s left right : List ℕ) → 1 + n ≤ length s → length left ≡ length (tail 1 s)

@@ -21,7 +21,8 @@ use Rattle.nodes.proofs.Operands.{right-at}
 use Rattle.marking.specs.declared.Placed.{Placed}
 use Rattle.scores.specs.Tallies.{Counted}
 use Rattle.marking.specs.Marks.{hereOn, Marked, MarkedAs, Marking, Over, OverNot, OverPair}
-use Rattle.marking.proofs.Places.{Agree, handed-length, handed-back, left-stays}
+use Rattle.lists.proofs.Parts.{handed-length, handed-back}
+use Rattle.marking.proofs.Places.{Agree, left-stays}
 use Rattle.marking.proofs.Tops.{marked-whole, marked-not, marked-pair}
 
 pub some-marks : (u marks : List ℕ) → Begins u → length u ≤ length marks → 0 < length marks

@@ -23,7 +23,7 @@ use Rattle.state.proofs.BoardRows.{row-mask, row-sample, row-sampled}
 use Rattle.state.proofs.Rows.{masks-length, masks-at}
 
 -- ---- lengths
-nodes-length : (ss : List Slot) → length (nodeBytes ss) ≡ nodesOf ss
+pub nodes-length : (ss : List Slot) → length (nodeBytes ss) ≡ nodesOf ss
 nodes-length [] = refl
 nodes-length (s ∷ ss) = omega (arith, length-append (encode (s .formula)) (nodeBytes ss), length-encode (s .formula), nodes-length ss)
 

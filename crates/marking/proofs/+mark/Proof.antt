@@ -5,8 +5,7 @@ use mathlib.Core.List.{_++_}
 use Prim.Native.Nat.{_+_}
 use lib.ListN.{length}
 use Rattle.lists.specs.Runs.{tailAs}
-use Rattle.marking.proofs.Places.{handed-length}
-use Rattle.lists.proofs.Parts.{tail-length}
+use Rattle.lists.proofs.Parts.{tail-length, handed-length}
 use Rattle.kinds.specs.declared.Kind.the-variants.{One, Two}
 use Rattle.ltl.specs.Formula.{encode}
 use Rattle.nodes.proofs.Fronts.{parts-as, begins-some, no-code}

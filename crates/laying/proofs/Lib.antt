@@ -1,0 +1,10 @@
+-- Laws of laying over plain lists.
+pub mod Sizes
+pub mod Appending
+pub mod Writing
+pub mod Sources
+pub mod Asking
+pub mod Parts
+pub mod Slots
+pub mod Room
+pub mod Cutting

@@ -1,0 +1,2 @@
+-- What the contracts of `laying` cite.
+pub mod Lays

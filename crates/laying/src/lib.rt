@@ -1,0 +1,206 @@
+// Laying an unfolded formula that was marked: its nodes and those of the slots that are cut out of it into one stretch of nodes, the
+// slots' records into another. Laying a slot cuts its parts, and each cut part lays a slot. At a place holder the slot that it holds
+// is laid: its formula stands further on in the same bytes, and the mark at the place holder says how far.
+ghost use mathlib.Core.Path.{_≡_};
+ghost use mathlib.Core.List.{[], _∷_, _++_};
+ghost use Prim.Native.Nat.{_<_, _≤_};
+ghost use lib.ListN.{length, getD, drop};
+ghost use Rattle.le.specs.Le.{le};
+ghost use Rattle.laying.specs.Lays.{CutAsk, Cuts, LookAsk, Looks, SlotAsk, LaysSlot, Plain, WholeAsk, PutsWhole, IsJoin};
+ghost use Rattle.kinds.specs.declared.Unary.the-variants.{Not};
+ghost use Rattle.kinds.specs.declared.Kind.the-variants.{One};
+ghost use Rattle.kinds.specs.Kinds.{kindOf};
+use kinds::Binary;
+use kinds::Kind;
+use kinds::Leaf;
+use kinds::Unary;
+
+// Where laying stands: the board of the slot whose nodes are written; the next slot's number, where its nodes begin in the network,
+// and how far behind the node to be written that is.
+pub struct Place {
+    pub board: u8,
+    pub slot: usize,
+    pub node: usize,
+    pub gap: usize,
+}
+
+// What was laid: the bytes read, the nodes written in the slot itself, the slots cut out of it and their nodes.
+pub struct Lain {
+    pub read: usize,
+    pub here: usize,
+    pub slots: usize,
+    pub nodes: usize,
+}
+
+// The record of a slot that is not stepped, at the front of r.
+pub fn put_record(r: &mut [u8], board: u8, start: u16, n: u16)
+    requires { ⌜ 6 ≤ length (now r) ⌝ }
+    ensures { λ _. ⌜ now (r .exit) ≡ (board ∷ 0 ∷ (le 2 start ++ le 2 n)) ++ drop 6 (now (r .entry)) ⌝ }
+{
+    r[0] = board;
+    r[1] = 0;
+    le::put_u16(r, 2, start);
+    le::put_u16(r, 4, n);
+}
+
+// Lays the formula that u begins with in the slot that is being laid: its top stays, and its operands are looked at.
+pub fn cut_parts(u: &[u8], marks: &[u32], at: Place, p: &mut [u8], r: &mut [u8]) -> Lain
+    requires { ⌜ CutAsk (now u) (now marks) at (now p) (now r) ⌝ }
+    ensures { λ x. ⌜ Cuts (now (u .entry)) (now (marks .entry)) at (now (p .entry)) (now (r .entry)) (now (p .exit)) (now (r .exit)) x ⌝ }
+{
+    let b = u[0];
+    let k = Kind::of(b);
+    match k {
+        Kind::Zero(a) => match a {
+            Leaf::Const(_) => put_leaf(p, b),
+            Leaf::Prop(_) => put_leaf(p, b),
+            Leaf::Hold(_) => {
+                let ahead = marks[0] as usize;
+                let x = lay_slot(&u[ahead..], &marks[ahead..], at, p, r);
+                Lain {
+                    read: 1,
+                    here: x.here,
+                    slots: x.slots,
+                    nodes: x.nodes,
+                }
+            }
+        },
+        Kind::One(o) => match o {
+            Unary::Not => cut_not(u, marks, at, p, r),
+            Unary::Next => put_whole(p, u),
+            Unary::Eventually => put_whole(p, u),
+            Unary::Always => put_whole(p, u),
+        },
+        Kind::Two(o) => match o {
+            Binary::Joined(_) => cut_pair(u, marks, at, p, r),
+            Binary::Until => put_whole(p, u),
+        },
+        // No formula begins with such a byte.
+        Kind::NoCode => put_leaf(p, b),
+    }
+}
+
+// A node without operands.
+fn put_leaf(p: &mut [u8], b: u8) -> Lain
+    requires { ⌜ 0 < length (now p) ⌝ }
+    ensures { λ x. ⌜ (now (p .exit) ≡ (b ∷ []) ++ drop 1 (now (p .entry))) × Plain 1 x ⌝ }
+{
+    p[0] = b;
+    Lain {
+        read: 1,
+        here: 1,
+        slots: 0,
+        nodes: 0,
+    }
+}
+
+// The formula that u begins with, as it stands.
+fn put_whole(p: &mut [u8], u: &[u8]) -> Lain
+    requires { ⌜ WholeAsk (now u) (now p) ⌝ }
+    ensures { λ x. ⌜ PutsWhole (now (u .entry)) (now (p .entry)) (now (p .exit)) x ⌝ }
+{
+    let n = nodes::operand_end(u);
+    runs::copy(p, &u[..n]);
+    Lain {
+        read: n,
+        here: n,
+        slots: 0,
+        nodes: 0,
+    }
+}
+
+// Not: its operand is looked at.
+fn cut_not(u: &[u8], marks: &[u32], at: Place, p: &mut [u8], r: &mut [u8]) -> Lain
+    requires { ⌜ CutAsk (now u) (now marks) at (now p) (now r) × (kindOf (getD (now u) 0 0) ≡ One Not) ⌝ }
+    ensures { λ x. ⌜ Cuts (now (u .entry)) (now (marks .entry)) at (now (p .entry)) (now (r .entry)) (now (p .exit)) (now (r .exit)) x ⌝ }
+{
+    p[0] = Kind::NOT;
+    let inner = Place {
+        board: at.board,
+        slot: at.slot,
+        node: at.node,
+        gap: at.gap - 1,
+    };
+    let x = look(&u[1..], &marks[1..], inner, &mut p[1..], r);
+    Lain {
+        read: 1 + x.read,
+        here: 1 + x.here,
+        slots: x.slots,
+        nodes: x.nodes,
+    }
+}
+
+// And or or: its operands are looked at, left to right.
+fn cut_pair(u: &[u8], marks: &[u32], at: Place, p: &mut [u8], r: &mut [u8]) -> Lain
+    requires { ⌜ CutAsk (now u) (now marks) at (now p) (now r) × IsJoin (now u) ⌝ }
+    ensures { λ x. ⌜ Cuts (now (u .entry)) (now (marks .entry)) at (now (p .entry)) (now (r .entry)) (now (p .exit)) (now (r .exit)) x ⌝ }
+{
+    p[0] = u[0];
+    let left = Place {
+        board: at.board,
+        slot: at.slot,
+        node: at.node,
+        gap: at.gap - 1,
+    };
+    let x = look(&u[1..], &marks[1..], left, &mut p[1..], r);
+    let m = 1 + x.read;
+    let here = 1 + x.here;
+    let records = 6 * x.slots;
+    let right = Place {
+        board: at.board,
+        slot: at.slot + x.slots,
+        node: at.node + x.nodes,
+        gap: at.gap - here + x.nodes,
+    };
+    let y = look(
+        &u[m..],
+        &marks[m..],
+        right,
+        &mut p[here..],
+        &mut r[records..],
+    );
+    Lain {
+        read: m + y.read,
+        here: here + y.here,
+        slots: x.slots + y.slots,
+        nodes: x.nodes + y.nodes,
+    }
+}
+
+// Looks at the operand that u begins with: where it stays its own operands are looked at, else it is cut.
+fn look(u: &[u8], marks: &[u32], at: Place, p: &mut [u8], r: &mut [u8]) -> Lain
+    requires { ⌜ LookAsk (now u) (now marks) at (now p) (now r) ⌝ }
+    ensures { λ x. ⌜ Looks (now (u .entry)) (now (marks .entry)) at (now (p .entry)) (now (r .entry)) (now (p .exit)) (now (r .exit)) x ⌝ }
+{
+    let choice = (marks[0] % 32) as u8;
+    if cutting::stays_on(choice, at.board) {
+        return cut_parts(u, marks, at, p, r);
+    }
+    lay_slot(u, marks, at, p, r)
+}
+
+// Lays the formula that u begins with as a slot of its own, on the board of its mark, and puts its place holder.
+fn lay_slot(u: &[u8], marks: &[u32], at: Place, p: &mut [u8], r: &mut [u8]) -> Lain
+    requires { ⌜ SlotAsk (now u) (now marks) at (now p) (now r) ⌝ }
+    ensures { λ x. ⌜ LaysSlot (now (u .entry)) (now (marks .entry)) at (now (p .entry)) (now (r .entry)) (now (p .exit)) (now (r .exit)) x ⌝ }
+{
+    let mark = marks[0];
+    let n = (mark / 32) as usize;
+    let board = (mark % 32) as u8;
+    let gap = at.gap;
+    p[0] = Kind::HOLD + at.slot as u8;
+    put_record(r, board, at.node as u16, n as u16);
+    let own = Place {
+        board: board,
+        slot: at.slot + 1,
+        node: at.node + n,
+        gap: n,
+    };
+    let x = cut_parts(u, marks, own, &mut p[gap..], &mut r[6..]);
+    Lain {
+        read: x.read,
+        here: 1,
+        slots: 1 + x.slots,
+        nodes: n + x.nodes,
+    }
+}
