@@ -21,7 +21,7 @@ use Rattle.state.specs.Bytes.{nodesOf}
 use Rattle.nodes.specs.Begins.{Front}
 use Rattle.cutting.specs.Cuts.{codeOf, staysOn}
 use Rattle.cutting.proofs.Looking.{stays-none, stays-board}
-use Rattle.marking.specs.Marks.{Marks, Marked}
+use Rattle.marking.specs.Marks.{boardIn, hereIn, aheadIn, Marks, Marked}
 use Rattle.laying.specs.declared.Place.{Place}
 use Rattle.laying.specs.declared.Lain.{Lain}
 use Rattle.laying.specs.Lays.{OnBoard, Fits, Lays}
@@ -29,11 +29,11 @@ use Rattle.laying.proofs.Appending.{nodes-both}
 
 -- ---- stays or is cut
 module _ (choose : Formula → Option ℕ) (f : Formula) (mark : ℕ) (m : Marks choose f boardsMost mark) (boards : (c : ℕ) → choose f ≡ some c → c < boardsMost) (b : ℕ) where
-  choice-is : mark % 32 ≡ codeOf (choose f)
+  choice-is : boardIn mark ≡ codeOf (choose f)
   unfolding pick
   choice-is = m .board-is
 
-  pub looked-stays : (k : ℕ) (lay : ℕ → ℕ → Laid) → staysOn (mark % 32) b ≡ true → looked (choose f) b k lay ≡ lay b k
+  pub looked-stays : (k : ℕ) (lay : ℕ → ℕ → Laid) → staysOn (boardIn mark) b ≡ true → looked (choose f) b k lay ≡ lay b k
   unfolding looked pick
   looked-stays k lay e = go (choose f) refl (ap (λ (i : ℕ). staysOn i b) (sym choice-is) ∙ e)
     where
@@ -47,7 +47,7 @@ module _ (choose : Formula → Option ℕ) (f : Formula) (mark : ℕ) (m : Marks
     pub chosen-is : choose f ≡ some board
     pub other : eqb board b ≡ false
 
-  pub looked-cut : staysOn (mark % 32) b ≡ false → CutTo
+  pub looked-cut : staysOn (boardIn mark) b ≡ false → CutTo
   looked-cut e = go (choose f) refl (ap (λ (i : ℕ). staysOn i b) (sym choice-is) ∙ e)
     where
       go : (o : Option ℕ) → choose f ≡ o → staysOn (codeOf o) b ≡ false → CutTo
@@ -62,8 +62,8 @@ module _ (choose : Formula → Option ℕ) (f : Formula) (mark : ℕ) (m : Marks
   cut-stands c u marks rest e front marked =
       record {
         front = front;
-        board-is = ap (_% 32) e ∙ choice-is ∙ ap codeOf (c .chosen-is);
-        here-is = ap (_/ 32) e ∙ m .here-is (c .board) (inl (refl, inr (c .chosen-is)));
+        board-is = ap boardIn e ∙ choice-is ∙ ap codeOf (c .chosen-is);
+        here-is = ap hereIn e ∙ m .here-is (c .board) (inl (refl, inr (c .chosen-is)));
         marked = marked;
       }
 

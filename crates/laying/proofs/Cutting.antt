@@ -22,7 +22,7 @@ use Rattle.ltl.specs.Limits.{boardsMost}
 use Rattle.ltl.specs.Formula.{Formula, leaf, one, size, encode}
 use Rattle.network.specs.Layout.{Laid, whole, beside, cut, looked, laid}
 use Rattle.cutting.specs.Cuts.{staysOn}
-use Rattle.marking.specs.Marks.{Marks, Marked}
+use Rattle.marking.specs.Marks.{boardIn, hereIn, aheadIn, Marks, Marked}
 use Rattle.nodes.specs.Begins.{Front}
 use Rattle.nodes.proofs.Fronts.{Parts, isZero, parts-as}
 use Rattle.nodes.proofs.Operands.{one-of, two-of, right-at}
@@ -163,25 +163,25 @@ module _ {u marks : List ℕ} {at : Place} {p r : List ℕ} where
       (sym b) (λ h k. pair-cuts z (i .kind) h k e) h k choose hold f rest s front m
 
   -- ---- a part that is looked at
-  pub stay-looks : {p′ r′ : List ℕ} {y : Lain} → staysOn (getD marks 0 0 % 32) (at .board) ≡ true → Cuts u marks at p r p′ r′ y → Looks u marks at p r p′ r′ y
+  pub stay-looks : {p′ r′ : List ℕ} {y : Lain} → staysOn (boardIn (getD marks 0 0)) (at .board) ≡ true → Cuts u marks at p r p′ r′ y → Looks u marks at p r p′ r′ y
   stay-looks {p′} {r′} {y} e h choose hold f rest s front mark m =
       let l = h choose hold f rest s front m in
       (l .0, subst (λ (x : Laid). Lays x at p r p′ r′ y) (sym (looked-stays choose f (getD marks 0 0) mark (s .boards f) (at .board) (at .slot) (laid choose hold f) e)) (l .1))
 
-  pub cut-looks : {p′ r′ : List ℕ} {y : Lain} → staysOn (getD marks 0 0 % 32) (at .board) ≡ false → LaysSlot u marks at p r p′ r′ y → Looks u marks at p r p′ r′ y
+  pub cut-looks : {p′ r′ : List ℕ} {y : Lain} → staysOn (boardIn (getD marks 0 0)) (at .board) ≡ false → LaysSlot u marks at p r p′ r′ y → Looks u marks at p r p′ r′ y
   cut-looks {p′} {r′} {y} e h choose hold f rest s front mark m =
       let c = looked-cut choose f (getD marks 0 0) mark (s .boards f) (at .board) e in
       let l = h choose hold f rest (c .board) s (cut-stands choose f (getD marks 0 0) mark (s .boards f) (at .board) c u marks rest refl front m) in
       (l .0, subst (λ (x : Laid). Lays x at p r p′ r′ y) (sym (cut-is choose f (getD marks 0 0) mark (s .boards f) (at .board) c (at .slot) (laid choose hold f))) (l .1))
 
   -- ---- a slot of its own
-  pub slot-lays : {q r1 r2 : List ℕ} {x : Lain} (z : Lain) → r1 ≡ (getD marks 0 0 % 32 ∷ 0 ∷ (le 2 (at .node) ++ le 2 (getD marks 0 0 / 32))) ++ drop 6 r
-      → Cuts u marks (owned at (getD marks 0 0 % 32) (getD marks 0 0 / 32)) (tail (at .gap) (set p 0 (leafCode (Hold (at .slot))))) (tail 6 r1) q r2 x
-      → Numbers z (x .read) 1 (1 + x .slots) (getD marks 0 0 / 32 + x .nodes)
+  pub slot-lays : {q r1 r2 : List ℕ} {x : Lain} (z : Lain) → r1 ≡ (boardIn (getD marks 0 0) ∷ 0 ∷ (le 2 (at .node) ++ le 2 (hereIn (getD marks 0 0)))) ++ drop 6 r
+      → Cuts u marks (owned at (boardIn (getD marks 0 0)) (hereIn (getD marks 0 0))) (tail (at .gap) (set p 0 (leafCode (Hold (at .slot))))) (tail 6 r1) q r2 x
+      → Numbers z (x .read) 1 (1 + x .slots) (hereIn (getD marks 0 0) + x .nodes)
       → LaysSlot u marks at p r (tailAs (at .gap) (set p 0 (leafCode (Hold (at .slot)))) q) (tailAs 6 r1 r2) z
   slot-lays {q} {r1} {r2} {x} z row h e choose hold f rest board s o =
-      let b = getD marks 0 0 % 32 in
-      let n = getD marks 0 0 / 32 in
+      let b = boardIn (getD marks 0 0) in
+      let n = hereIn (getD marks 0 0) in
       let l = h choose hold f rest s (o .front) (o .marked) in
       let P = tailAs (at .gap) (set p 0 (leafCode (Hold (at .slot)))) q in
       let R = tailAs 6 r1 r2 in
@@ -192,13 +192,13 @@ module _ {u marks : List ℕ} {at : Place} {p r : List ℕ} where
       )
 
   -- ---- a place holder
-  pub hold-cuts : {m : ℕ} {p′ r′ : List ℕ} {y : Lain} (z : Lain) → kindOf (getD u 0 0) ≡ Zero (Hold m) → LaysSlot (tail (getD marks 0 0) u) (tail (getD marks 0 0) marks) at p r p′ r′ y
+  pub hold-cuts : {m : ℕ} {p′ r′ : List ℕ} {y : Lain} (z : Lain) → kindOf (getD u 0 0) ≡ Zero (Hold m) → LaysSlot (tail (aheadIn (getD marks 0 0)) u) (tail (aheadIn (getD marks 0 0)) marks) at p r p′ r′ y
       → Numbers z 1 (y .here) (y .slots) (y .nodes) → Cuts u marks at p r p′ r′ z
   hold-cuts {m} {p′} {r′} {y} z k h e choose hold f rest s front marked = go (parts-as u f rest front refl k)
     where
       go : {g : Formula} → Parts u rest g (Zero (Hold m)) → (z .read ≡ size g) × Lays (laid choose hold g (at .board) (at .slot)) at p r p′ r′ z
       go (isZero w b) =
-          let d = getD marks 0 0 in
+          let d = aheadIn (getD marks 0 0) in
           let x = s .held 0 m (let l = ap length b in omega arith) w (ap (λ (l : List ℕ). getD l 0 0) b) in
           let o = subst (λ (l : List ℕ). OnBoard choose l (tail d marks) (x .formula) (x .rest) (x .board)) (sym (tail-is d u))
           (subst (λ (l : List ℕ). OnBoard choose (drop d u) l (x .formula) (x .rest) (x .board)) (sym (tail-is d marks)) (x .stands)) in

@@ -16,6 +16,7 @@ use Rattle.kinds.specs.Kinds.{kindOf}
 use Rattle.ltl.proofs.Texts.{size-some}
 use Rattle.network.specs.Layout.{looked, laid}
 use Rattle.nodes.proofs.Fronts.{front-length}
+use Rattle.marking.specs.Marks.{boardIn, hereIn, aheadIn}
 use Rattle.laying.specs.declared.Place.{Place}
 use Rattle.laying.specs.declared.Lain.{Lain}
 use Rattle.laying.specs.Lays.{CutAsk, LookAsk, Looks, SlotAsk, Cuts}
@@ -139,9 +140,9 @@ module _ {u marks p r : List ℕ} {at : Place} {j : Join} (ask : CutAsk u marks 
 
 -- ---- a slot of its own
 pub record SlotNumbers (marks p r : List ℕ) (at : Place) : Type 0 where
-  pub length-few : getD marks 0 0 / 32 ≤ 4096
+  pub length-few : hereIn (getD marks 0 0) ≤ 4096
   pub slot-few : at .slot < 64
-  pub node-few : at .node + getD marks 0 0 / 32 ≤ 4096
+  pub node-few : at .node + hereIn (getD marks 0 0) ≤ 4096
   pub row : 6 ≤ length r
   pub gap-few : at .gap ≤ length p
 
@@ -157,10 +158,10 @@ slot-numbers {at = at} ask =
 
 pub record SlotMoved (marks : List ℕ) (x : Lain) : Type 0 where
   pub slots : 1 + x .slots ≤ 64
-  pub nodes : getD marks 0 0 / 32 + x .nodes ≤ 4096
+  pub nodes : hereIn (getD marks 0 0) + x .nodes ≤ 4096
 
 pub slot-moved : {u marks p r q t p′ r′ : List ℕ} {at : Place} {x : Lain} (ask : SlotAsk u marks at p r) → length q ≡ length p - at .gap → length t ≡ length r - 6
-    → Cuts u marks (owned at (getD marks 0 0 % 32) (getD marks 0 0 / 32)) q t p′ r′ x → SlotMoved marks x
+    → Cuts u marks (owned at (boardIn (getD marks 0 0)) (hereIn (getD marks 0 0))) q t p′ r′ x → SlotMoved marks x
 slot-moved {q = q} {t = t} ask e g h =
     let a = slot-asks ask q t e g in
     let z = h (a .choose) (a .hold) (a .formula) (a .rest) (a .source) (a .front) (a .marked) in

@@ -15,6 +15,7 @@ use Rattle.ltl.specs.Formula.{Formula, leaf, size}
 use Rattle.network.specs.Layout.{Laid, laid}
 use Rattle.cutting.specs.Cuts.{staysOn}
 use Rattle.nodes.proofs.Fronts.{Parts, isZero, parts-as}
+use Rattle.marking.specs.Marks.{boardIn, hereIn, aheadIn}
 use Rattle.laying.specs.declared.Place.{Place}
 use Rattle.laying.specs.Lays.{OnBoard, HeldAt, Source, Fits, CutAsk, LookAsk, SlotAsk}
 use Rattle.laying.proofs.Sizes.{here-size}
@@ -24,7 +25,7 @@ use Rattle.laying.proofs.Parts.{laid-hold}
 
 -- ---- a part that is looked at
 module _ {u marks p r : List ℕ} {at : Place} (ask : LookAsk u marks at p r) where
-  pub stay-asks : staysOn (getD marks 0 0 % 32) (at .board) ≡ true → CutAsk u marks at p r
+  pub stay-asks : staysOn (boardIn (getD marks 0 0)) (at .board) ≡ true → CutAsk u marks at p r
   stay-asks e =
       record {
         choose = ask .choose;
@@ -40,7 +41,7 @@ module _ {u marks p r : List ℕ} {at : Place} (ask : LookAsk u marks at p r) wh
             (ask .fits);
       }
 
-  pub cut-asks : staysOn (getD marks 0 0 % 32) (at .board) ≡ false → SlotAsk u marks at p r
+  pub cut-asks : staysOn (boardIn (getD marks 0 0)) (at .board) ≡ false → SlotAsk u marks at p r
   cut-asks e =
       let c = looked-cut (ask .choose) (ask .formula) (getD marks 0 0) (ask .mark) (ask .source .boards (ask .formula)) (at .board) e in
       record {
@@ -63,14 +64,14 @@ abbrev pub owned : Place → ℕ → ℕ → Place
 owned at board n = record { board = board; slot = at .slot + 1; node = at .node + n; gap = n }
 
 module _ {u marks : List ℕ} {choose : Formula → Option ℕ} {hold : ℕ → ℕ → Laid} {f : Formula} {rest : List ℕ} {board : ℕ} (s : Source choose hold u marks) (o : OnBoard choose u marks f rest board) where
-  pub slot-size : (k : ℕ) → getD marks 0 0 / 32 ≡ size (laid choose hold f board k .here)
+  pub slot-size : (k : ℕ) → hereIn (getD marks 0 0) ≡ size (laid choose hold f board k .here)
   slot-size k = o .here-is ∙ sym (here-size choose hold (s .single) f board k)
 
 module _ {u marks p r : List ℕ} {at : Place} (ask : SlotAsk u marks at p r) where
-  pub slot-asks : (q t : List ℕ) → length q ≡ length p - at .gap → length t ≡ length r - 6 → CutAsk u marks (owned at (getD marks 0 0 % 32) (getD marks 0 0 / 32)) q t
+  pub slot-asks : (q t : List ℕ) → length q ≡ length p - at .gap → length t ≡ length r - 6 → CutAsk u marks (owned at (boardIn (getD marks 0 0)) (hereIn (getD marks 0 0))) q t
   slot-asks q t e g =
       let b = ask .stands .board-is in
-      let n = getD marks 0 0 / 32 in
+      let n = hereIn (getD marks 0 0) in
       let X = laid (ask .choose) (ask .hold) (ask .formula) (ask .board) (at .slot + 1) in
       let room = fits-slot (ask .board) n (slot-size (ask .source) (ask .stands) (at .slot + 1)) (ask .fits) in
       record {
@@ -96,10 +97,10 @@ module _ {u marks p r : List ℕ} {at : Place} (ask : CutAsk u marks at p r) (m 
   pub held : (ask .formula ≡ leaf (Hold m)) × HeldAt (ask .choose) (ask .hold) u marks m
   held = held-of (parts-as u (ask .formula) (ask .rest) (ask .front) refl kind)
 
-  pub hold-asks : SlotAsk (tail (getD marks 0 0) u) (tail (getD marks 0 0) marks) at p r
+  pub hold-asks : SlotAsk (tail (aheadIn (getD marks 0 0)) u) (tail (aheadIn (getD marks 0 0)) marks) at p r
   hold-asks =
       let h = held .1 in
-      let d = getD marks 0 0 in
+      let d = aheadIn (getD marks 0 0) in
       record {
         choose = ask .choose;
         hold = ask .hold;

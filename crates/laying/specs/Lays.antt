@@ -15,7 +15,7 @@ use Rattle.network.specs.Layout.{Laid, cut, looked, laid}
 use Rattle.state.specs.Clauses.{slotsMost}
 use Rattle.state.specs.Bytes.{nodesOf, slotRecords, nodeBytes}
 use Rattle.nodes.specs.Begins.{Begins, Front}
-use Rattle.marking.specs.Marks.{hereOn, Marks, Marked}
+use Rattle.marking.specs.Marks.{hereOn, boardIn, hereIn, aheadIn, Marks, Marked}
 use Rattle.laying.specs.declared.Place.{Place}
 use Rattle.laying.specs.declared.Lain.{Lain}
 
@@ -23,8 +23,8 @@ use Rattle.laying.specs.declared.Lain.{Lain}
 -- a formula that is to be laid on a board of its own: its bytes, its mark and its operands' marks
 pub record OnBoard (choose : Formula → Option ℕ) (u marks : List ℕ) (f : Formula) (rest : List ℕ) (board : ℕ) : Type 0 where
   pub front : Front u f rest
-  pub board-is : getD marks 0 0 % 32 ≡ board
-  pub here-is : getD marks 0 0 / 32 ≡ hereOn choose f board
+  pub board-is : boardIn (getD marks 0 0) ≡ board
+  pub here-is : hereIn (getD marks 0 0) ≡ hereOn choose f board
   pub marked : Marked choose f marks
 
 -- the slot of a place holder at the front: its formula stands further on, and is what the place holder lays
@@ -33,9 +33,9 @@ pub record HeldAt (choose : Formula → Option ℕ) (hold : ℕ → ℕ → Laid
   pub rest : List ℕ
   pub board : ℕ
   pub there : board < boardsMost
-  pub ahead : 0 < getD marks 0 0
-  pub inside : getD marks 0 0 ≤ length u
-  pub stands : OnBoard choose (drop (getD marks 0 0) u) (drop (getD marks 0 0) marks) formula rest board
+  pub ahead : 0 < aheadIn (getD marks 0 0)
+  pub inside : aheadIn (getD marks 0 0) ≤ length u
+  pub stands : OnBoard choose (drop (aheadIn (getD marks 0 0)) u) (drop (aheadIn (getD marks 0 0)) marks) formula rest board
   pub lays : (k : ℕ) → hold m k ≡ cut board k (laid choose hold formula board (k + 1))
 
 -- wherever a place holder stands, its slot does; its own place holder is one node; and every choice is a board

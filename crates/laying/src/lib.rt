@@ -55,7 +55,7 @@ pub fn cut_parts(u: &[u8], marks: &[u32], at: Place, p: &mut [u8], r: &mut [u8])
             Leaf::Const(_) => put_leaf(p, b),
             Leaf::Prop(_) => put_leaf(p, b),
             Leaf::Hold(_) => {
-                let ahead = marks[0] as usize;
+                let ahead = (marks[0] / 262144) as usize;
                 let x = lay_slot(&u[ahead..], &marks[ahead..], at, p, r);
                 Lain {
                     read: 1,
@@ -185,7 +185,7 @@ fn lay_slot(u: &[u8], marks: &[u32], at: Place, p: &mut [u8], r: &mut [u8]) -> L
     ensures { λ x. ⌜ LaysSlot (now (u .entry)) (now (marks .entry)) at (now (p .entry)) (now (r .entry)) (now (p .exit)) (now (r .exit)) x ⌝ }
 {
     let mark = marks[0];
-    let n = (mark / 32) as usize;
+    let n = (mark / 32 % 8192) as usize;
     let board = (mark % 32) as u8;
     let gap = at.gap;
     p[0] = Kind::HOLD + at.slot as u8;

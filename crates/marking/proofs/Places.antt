@@ -14,28 +14,40 @@ use Rattle.kinds.specs.declared.Binary.the-variants.{Joined, Until}
 use Rattle.ltl.specs.Limits.{boardsMost}
 use Rattle.ltl.specs.Formula.{Formula, leaf, one, two, size}
 use Rattle.ltl.proofs.Texts.{size-some}
-use Rattle.marking.specs.Marks.{markOf, Marks, Marked}
+use Rattle.marking.specs.Marks.{boardIn, hereIn, markOf, Marks, Marked}
 
--- equal numbers at the first n places
+-- equal boards and lengths at the first n places
+pub record Alike (mark mark′ : ℕ) : Type 0 where
+  pub board-is : boardIn mark ≡ boardIn mark′
+  pub here-is : hereIn mark ≡ hereIn mark′
+
 abbrev pub Agree : ℕ → List ℕ → List ℕ → Type 0
-Agree n xs ys = (i : ℕ) → i < n → getD xs i 0 ≡ getD ys i 0
+Agree n xs ys = (i : ℕ) → i < n → Alike (getD xs i 0) (getD ys i 0)
+
+pub alike-same : (mark mark′ : ℕ) → mark ≡ mark′ → Alike mark mark′
+alike-same mark mark′ e = record { board-is = ap boardIn e; here-is = ap hereIn e }
+
+pub marks-alike : {choose : Formula → Option ℕ} {f : Formula} {on mark mark′ : ℕ} → Alike mark mark′ → Marks choose f on mark → Marks choose f on mark′
+marks-alike a m = record { board-is = sym (a .board-is) ∙ m .board-is; here-is = λ b l. sym (a .here-is) ∙ m .here-is b l }
 
 agree-drop : (a n m : ℕ) (xs ys : List ℕ) → a + n ≤ m → Agree m xs ys → Agree n (drop a xs) (drop a ys)
-agree-drop a n m xs ys l h i k = getD-drop a xs i 0 ∙ h (a + i) (omega arith) ∙ sym (getD-drop a ys i 0)
+agree-drop a n m xs ys l h i k =
+    subst (λ (x : ℕ). Alike x (getD (drop a ys) i 0)) (sym (getD-drop a xs i 0))
+    (subst (λ (y : ℕ). Alike (getD xs (a + i) 0) y) (sym (getD-drop a ys i 0)) (h (a + i) (omega arith)))
 
 pub marked-same : (choose : Formula → Option ℕ) (f : Formula) (xs ys : List ℕ) → Agree (size f) xs ys → Marked choose f xs → Marked choose f ys
 marked-same choose (leaf a) xs ys h m = tt
 marked-same choose (one Not f) xs ys h m =
     let d = agree-drop 1 (size f) (1 + size f) xs ys (omega arith) h in
-    (subst (Marks choose f boardsMost) (d 0 (size-some f)) (m .0), marked-same choose f (drop 1 xs) (drop 1 ys) d (m .1))
+    (marks-alike (d 0 (size-some f)) (m .0), marked-same choose f (drop 1 xs) (drop 1 ys) d (m .1))
 marked-same choose (one Next f) xs ys h m = tt
 marked-same choose (one Eventually f) xs ys h m = tt
 marked-same choose (one Always f) xs ys h m = tt
 marked-same choose (two (Joined j) f g) xs ys h m =
     let d = agree-drop 1 (size f) (1 + size f + size g) xs ys (omega arith) h in
     let e = agree-drop (1 + size f) (size g) (1 + size f + size g) xs ys (omega arith) h in (
-      (subst (Marks choose f boardsMost) (d 0 (size-some f)) (m .0 .0), marked-same choose f (drop 1 xs) (drop 1 ys) d (m .0 .1)),
-      (subst (Marks choose g boardsMost) (e 0 (size-some g)) (m .1 .0), marked-same choose g (drop (1 + size f) xs) (drop (1 + size f) ys) e (m .1 .1)),
+      (marks-alike (d 0 (size-some f)) (m .0 .0), marked-same choose f (drop 1 xs) (drop 1 ys) d (m .0 .1)),
+      (marks-alike (e 0 (size-some g)) (m .1 .0), marked-same choose g (drop (1 + size f) xs) (drop (1 + size f) ys) e (m .1 .1)),
     )
 marked-same choose (two Until f g) xs ys h m = tt
 
@@ -44,15 +56,16 @@ pub left-stays : (n : ℕ) (s left right : List ℕ) → 1 + n ≤ length s → 
     → Agree n left (drop 1 (tailAs (1 + n) (tailAs 1 s left) right))
 left-stays n s left right l h i k =
     let e = handed-length 1 s left (omega arith) h in
-    ap (λ (x : List ℕ). getD x i 0) (sym (handed-back 1 s left (omega arith)))
+    alike-same (getD left i 0) (getD (drop 1 (tailAs (1 + n) (tailAs 1 s left) right)) i 0)
+    (ap (λ (x : List ℕ). getD x i 0) (sym (handed-back 1 s left (omega arith)))
     ∙ getD-drop 1 (tailAs 1 s left) i 0
     ∙ sym (handed-front (1 + n) (tailAs 1 s left) right (omega arith) (1 + i) (omega arith))
-    ∙ sym (getD-drop 1 (tailAs (1 + n) (tailAs 1 s left) right) i 0)
+    ∙ sym (getD-drop 1 (tailAs (1 + n) (tailAs 1 s left) right) i 0))
 
 -- ---- a length and a board in one number
 pub record Has (mark here board : ℕ) : Type 0 where
-  pub here-is : mark / 32 ≡ here
-  pub board-is : mark % 32 ≡ board
+  pub here-is : hereIn mark ≡ here
+  pub board-is : boardIn mark ≡ board
 
-pub mark-has : (mark here board : ℕ) → mark ≡ markOf here board → board < 32 → Has mark here board
-mark-has mark here board e l = record { here-is = omega arith; board-is = omega arith }
+pub mark-has : (mark here board : ℕ) → mark ≡ markOf here board → board < 32 → here < 8192 → Has mark here board
+mark-has mark here board e l k = record { here-is = omega arith; board-is = omega arith }

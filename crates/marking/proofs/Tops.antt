@@ -27,7 +27,7 @@ use Rattle.cutting.proofs.Choices.{chosen-below, chosen-one, chosen-left, chose
 use Rattle.cutting.proofs.Looking.{looked-by, place-is, place-own}
 use Rattle.marking.specs.declared.Placed.{Placed}
 use Rattle.marking.specs.Marks.{hereOn, markOf, Marks, Marked, MarkedAs, shownAs, Seals, Small, SmallPair, Over, OverNot, OverPair}
-use Rattle.marking.proofs.Places.{Agree, marked-same, mark-has}
+use Rattle.marking.proofs.Places.{Alike, Agree, marks-alike, marked-same, mark-has}
 
 -- ---- the length of an operand in a slot
 pub shown-stays : (choice here board : ℕ) → staysOn choice board ≡ true → shownAs choice here board ≡ here
@@ -98,7 +98,7 @@ module _ {owner marks : List ℕ} {f : Formula} {a : Placed} (h : MarkedAs owner
     unfolding pick
     marks-is =
         let l = code-few (chosen masks f) refl in
-        let m = mark-has (getD marks 0 0) (a .here) (a .board) (h .mark-is) (let e = choice-is in omega arith) in
+        let m = mark-has (getD marks 0 0) (a .here) (a .board) (h .mark-is) (let e = choice-is in omega arith) (h .small) in
         record { board-is = m .board-is ∙ choice-is; here-is = λ b z. m .here-is ∙ h .here-is p q masks o w b z }
       where
         code-few : (c : Option ℕ) → chosen masks f ≡ c → codeOf c < 32
@@ -124,22 +124,23 @@ top-mark marks marks′ v l e = let s = e ∙ set-first marks v l in (ap (λ (x 
 module _ {owner : List ℕ} (on : ℕ) (marks marks′ : List ℕ) (r : Placed) (some-marks : 0 < length marks) where
   -- a part that stays whole
   pub marked-whole : (f : Formula) → ((choose : Formula → Option ℕ) (b : ℕ) → hereOn choose f b ≡ size f) → ((choose : Formula → Option ℕ) → Marked choose f marks′)
-      → Counted owner f (r .scores .counts) × Over (size f) (r .scores .counts) on (λ b. size f) marks marks′ r → MarkedAs owner f on marks′ r
-  marked-whole f here none-marked x =
+      → Counted owner f (r .scores .counts) × Over (size f) (r .scores .counts) on (λ b. size f) marks marks′ r → size f ≤ 4096 → MarkedAs owner f on marks′ r
+  marked-whole f here none-marked x n =
       let v = x .1 in
       record {
         reads = v .reads;
         scored = x .0;
         board-is = v .board-is;
         few = let e = v .here-is in omega arith;
+        small = let e = v .here-is in omega arith;
         here-is = λ p q masks o w b l. v .here-is ∙ sym (here (chosen masks) b);
         mark-is = top-mark marks marks′ _ some-marks (v .writes) .0;
         marked = λ p q masks o w. none-marked (chosen masks);
       }
 
-  pub marked-not : {f : Formula} {a : Placed} → MarkedAs owner f boardsMost (drop 1 marks) a → OverNot a on marks marks′ r → MarkedAs owner (one Not f) on marks′ r
+  pub marked-not : {f : Formula} {a : Placed} → MarkedAs owner f boardsMost (drop 1 marks) a → OverNot a on marks marks′ r → size f < 4096 → MarkedAs owner (one Not f) on marks′ r
   unfolding hereOn
-  marked-not {f} {a} h x =
+  marked-not {f} {a} h x n =
       let d = subst (Counted owner (one Not f)) (sym (x .scores)) (counted-one Not (h .scored)) in
       let m = top-mark marks marks′ _ some-marks (x .writes) in
       record {
@@ -147,6 +148,7 @@ module _ {owner : List ℕ} (on : ℕ) (marks marks′ : List ℕ) (r : Placed) 
         scored = d;
         board-is = x .board-is ∙ ap (placeOf on) (sym (x .scores));
         few = let e = x .here-is in let l = shown-within h (placeOf on (a .scores .counts)) in omega arith;
+        small = let e = x .here-is in let l = shown-within h (placeOf on (a .scores .counts)) in omega arith;
         here-is = λ p q masks o w b l.
             x .here-is
             ∙ ap (1 +_) (shown-is h p q masks o w (one Not f) on b (a .scores .counts) (counted-chosen p q masks (counted-one Not (h .scored)) o w) (λ z. sym (chosen-one masks Not f) ∙ z) l);
@@ -158,19 +160,20 @@ module _ {owner : List ℕ} (on : ℕ) (marks marks′ : List ℕ) (r : Placed) 
       }
 
   pub marked-pair : {f g : Formula} {a c : Placed} {left right : List ℕ} (j : Join) → MarkedAs owner f boardsMost left a → MarkedAs owner g boardsMost right c
-      → Agree (size f) left (drop 1 marks) → drop (1 + size f) marks ≡ right → OverPair a c on marks marks′ r → MarkedAs owner (two (Joined j) f g) on marks′ r
+      → Agree (size f) left (drop 1 marks) → drop (1 + size f) marks ≡ right → OverPair a c on marks marks′ r → size f + size g < 4096 → MarkedAs owner (two (Joined j) f g) on marks′ r
   unfolding hereOn
-  marked-pair {f} {g} {a} {c} {left} {right} j h k same behind x =
+  marked-pair {f} {g} {a} {c} {left} {right} j h k same behind x few-nodes =
       let counts = added (a .scores .counts) (c .scores .counts) in
       let s = counted-two (Joined j) (h .scored) (k .scored) in
       let m = top-mark marks marks′ _ some-marks (x .writes) in
-      let t : Agree (size f) left (drop 1 marks′) = λ i l. same i l ∙ ap (λ (y : List ℕ). getD y i 0) (sym (m .1)) in
+      let t : Agree (size f) left (drop 1 marks′) = λ i l. subst (λ (y : List ℕ). Alike (getD left i 0) (getD y i 0)) (sym (m .1)) (same i l) in
       let u : drop (1 + size f) marks′ ≡ right = sym (drop-drop (size f) 1 marks′) ∙ ap (drop (size f)) (m .1) ∙ drop-drop (size f) 1 marks ∙ behind in
       record {
         reads = let e = x .reads in let i = h .reads in let l = k .reads in omega arith;
         scored = subst (Counted owner (two (Joined j) f g)) (sym (x .scores)) s;
         board-is = x .board-is ∙ ap (placeOf on) (sym (x .scores));
         few = let e = x .here-is in let l = shown-within h (placeOf on counts) in let n = shown-within k (placeOf on counts) in omega arith;
+        small = let e = x .here-is in let l = shown-within h (placeOf on counts) in let n = shown-within k (placeOf on counts) in omega arith;
         here-is = λ p q masks o w b l.
             x .here-is
             ∙ ap₂ (λ (y z : ℕ). 1 + y + z)
@@ -178,7 +181,7 @@ module _ {owner : List ℕ} (on : ℕ) (marks marks′ : List ℕ) (r : Placed) 
             (shown-is k p q masks o (w .1) (two (Joined j) f g) on b counts (counted-chosen p q masks s o w) (chosen-right masks (Joined j) f g) l);
         mark-is = m .0;
         marked = λ p q masks o w. (
-          (subst (Marks (chosen masks) f boardsMost) (t 0 (size-some f)) (marks-is h p q masks o (w .0)), marked-same (chosen masks) f left (drop 1 marks′) t (h .marked p q masks o (w .0))),
+          (marks-alike (t 0 (size-some f)) (marks-is h p q masks o (w .0)), marked-same (chosen masks) f left (drop 1 marks′) t (h .marked p q masks o (w .0))),
           (subst (λ (y : List ℕ). Marks (chosen masks) g boardsMost (getD y 0 0)) (sym u) (marks-is k p q masks o (w .1)), subst (Marked (chosen masks) g) (sym u) (k .marked p q masks o (w .1))),
         );
       }

@@ -16,7 +16,7 @@ use Rattle.kinds.specs.declared.Kind.the-variants.{Zero}
 use Rattle.ltl.specs.Limits.{boardsMost}
 use Rattle.ltl.specs.Formula.{Formula, one, size, encode}
 use Rattle.nodes.specs.Begins.{Front, Begins}
-use Rattle.nodes.proofs.Fronts.{begins-some, Parts, isZero, Single, Double}
+use Rattle.nodes.proofs.Fronts.{front-length, begins-some, Parts, isZero, Single, Double}
 use Rattle.nodes.proofs.Operands.{right-at}
 use Rattle.marking.specs.declared.Placed.{Placed}
 use Rattle.scores.specs.Tallies.{Counted}
@@ -27,6 +27,9 @@ use Rattle.marking.proofs.Tops.{marked-whole, marked-not, marked-pair}
 
 pub some-marks : (u marks : List ℕ) → Begins u → length u ≤ length marks → 0 < length marks
 some-marks u marks b l = let s = begins-some u b in omega arith
+
+pub front-few : {u rest : List ℕ} {f : Formula} → length u ≤ 4096 → Front u f rest → size f ≤ 4096
+front-few {u} {rest} {f} l x = let e = front-length u f rest x in omega arith
 
 -- a node with two operands, of which the left one was marked
 pub record LeftMarked (owner u rest : List ℕ) (f : Formula) (o : Binary) (marks : List ℕ) (a : Placed) : Type 0 where
@@ -42,10 +45,10 @@ left-marked {rest = rest} {a = a} x h =
 
 -- ---- parts that stay whole
 module _ {owner u rest : List ℕ} {f : Formula} {on : ℕ} {marks marks′ : List ℕ} {r : Placed} (l : 0 < length marks)
-    (w : Counted owner f (r .scores .counts) × Over (size f) (r .scores .counts) on (λ b. size f) marks marks′ r) where
+    (w : Counted owner f (r .scores .counts) × Over (size f) (r .scores .counts) on (λ b. size f) marks marks′ r) (n : size f ≤ 4096) where
   pub leaf-done : {a : Leaf} → Parts u rest f (Zero a) → MarkedAs owner f on marks′ r
   unfolding hereOn
-  leaf-done x = marked-whole on marks marks′ r l f (λ choose b. here x choose b) (λ choose. none-marked x choose) w
+  leaf-done x = marked-whole on marks marks′ r l f (λ choose b. here x choose b) (λ choose. none-marked x choose) w n
     where
       here : {g : Formula} {a : Leaf} → Parts u rest g (Zero a) → (choose : Formula → Option ℕ) (b : ℕ) → hereOn choose g b ≡ size g
       here (isZero l e) choose b = refl
@@ -58,7 +61,7 @@ module _ {owner u rest : List ℕ} {f : Formula} {on : ℕ} {marks marks′ : Li
   one-whole o x here none-marked =
       marked-whole on marks marks′ r l f
       (λ choose b. subst (λ (g : Formula). hereOn choose g b ≡ size g) (sym (x .same)) (here (x .operand) choose b))
-      (λ choose. subst (λ (g : Formula). Marked choose g marks′) (sym (x .same)) (none-marked (x .operand) choose)) w
+      (λ choose. subst (λ (g : Formula). Marked choose g marks′) (sym (x .same)) (none-marked (x .operand) choose)) w n
 
   pub next-done : Single u rest f Next → MarkedAs owner f on marks′ r
   unfolding hereOn
@@ -77,23 +80,23 @@ module _ {owner u rest : List ℕ} {f : Formula} {on : ℕ} {marks marks′ : Li
   until-done x =
       marked-whole on marks marks′ r l f
       (λ choose b. subst (λ (g : Formula). hereOn choose g b ≡ size g) (sym (x .same)) refl)
-      (λ choose. subst (λ (g : Formula). Marked choose g marks′) (sym (x .same)) tt) w
+      (λ choose. subst (λ (g : Formula). Marked choose g marks′) (sym (x .same)) tt) w n
 
 -- ---- operands that were marked, in marks that were lent on
 module _ {owner u rest : List ℕ} {f : Formula} {on : ℕ} (marks : List ℕ) {marks′ : List ℕ} {r : Placed} where
   pub not-done : {a : Placed} {left : List ℕ} → 0 < length marks → length left ≡ length (tail 1 marks) → Single u rest f Not → Marking owner (tail 1 u) boardsMost left a
-      → OverNot a on (tailAs 1 marks left) marks′ r → MarkedAs owner f on marks′ r
-  not-done {a} {left} l k x h v =
+      → OverNot a on (tailAs 1 marks left) marks′ r → length u ≤ 4096 → MarkedAs owner f on marks′ r
+  not-done {a} {left} l k x h v few =
       let back = handed-back 1 marks left l in
       let m = h (x .operand) rest (x .front) in
       rw (x .same)
       (marked-not on (tailAs 1 marks left) marks′ r (let e = handed-length 1 marks left l k in omega arith)
-      (subst (λ (y : List ℕ). MarkedAs owner (x .operand) boardsMost y a) (sym back) m) v)
+      (subst (λ (y : List ℕ). MarkedAs owner (x .operand) boardsMost y a) (sym back) m) v (let w = x .long in omega arith))
 
   pub pair-done : {a c : Placed} {left right : List ℕ} {j : Join} → length u ≤ length marks → length left ≡ length (tail 1 marks) → (x : LeftMarked owner u rest f (Joined j) left a)
       → Marking owner (tail (1 + a .read) u) boardsMost right c → OverPair a c on (tailAs (1 + a .read) (tailAs 1 marks left) right) marks′ r
-      → length right ≡ length (tail (1 + a .read) (tailAs 1 marks left)) → MarkedAs owner f on marks′ r
-  pair-done {a} {c} {left} {right} {j} l k x h v n =
+      → length right ≡ length (tail (1 + a .read) (tailAs 1 marks left)) → length u ≤ 4096 → MarkedAs owner f on marks′ r
+  pair-done {a} {c} {left} {right} {j} l k x h v n few =
       let d = x .node in
       let s = x .marked .reads in
       let long = d .long in
@@ -104,4 +107,4 @@ module _ {owner u rest : List ℕ} {f : Formula} {on : ℕ} (marks : List ℕ) {
       subst (λ (i : ℕ). Agree (size (d .left)) left (drop 1 (tailAs (1 + i) (tailAs 1 marks left) right))) (sym s) (left-stays (size (d .left)) marks left right (omega arith) k) in
       let behind : drop (1 + size (d .left)) (tailAs (1 + a .read) (tailAs 1 marks left) right) ≡ right =
       ap (λ (i : ℕ). drop (1 + i) (tailAs (1 + a .read) (tailAs 1 marks left) right)) (sym s) ∙ handed-back (1 + a .read) (tailAs 1 marks left) right (omega arith) in
-      rw (d .same) (marked-pair on (tailAs (1 + a .read) (tailAs 1 marks left) right) marks′ r (omega arith) j (x .marked) m agree behind v)
+      rw (d .same) (marked-pair on (tailAs (1 + a .read) (tailAs 1 marks left) right) marks′ r (omega arith) j (x .marked) m agree behind v (omega arith))

@@ -30,14 +30,23 @@ hereOn choose (one Always f) b = 1 + size f
 hereOn choose (two (Joined j) f g) b = 1 + lookedAs (choose f) b (hereOn choose f) (λ c. 1) + lookedAs (choose g) b (hereOn choose g) (λ c. 1)
 hereOn choose (two Until f g) b = 1 + size f + size g
 
--- a length and a board in one number
+-- a mark is one number for a board, a length there and, at a place holder, how far on its slot stands
+abbrev pub boardIn : ℕ → ℕ
+boardIn mark = mark % 32
+
+abbrev pub hereIn : ℕ → ℕ
+hereIn mark = mark / 32 % 8192
+
+abbrev pub aheadIn : ℕ → ℕ
+aheadIn mark = mark / 262144
+
 abbrev pub markOf : ℕ → ℕ → ℕ
 markOf here board = here * 32 + board
 
 -- the mark of a part: the board given or else its choice, and its length there
 pub record Marks (choose : Formula → Option ℕ) (f : Formula) (on : ℕ) (mark : ℕ) : Type 0 where
-  pub board-is : mark % 32 ≡ pick (eqb on boardsMost) (codeOf (choose f)) on
-  pub here-is : (b : ℕ) → Lies choose f on b → mark / 32 ≡ hereOn choose f b
+  pub board-is : boardIn mark ≡ pick (eqb on boardsMost) (codeOf (choose f)) on
+  pub here-is : (b : ℕ) → Lies choose f on b → hereIn mark ≡ hereOn choose f b
 
 -- every operand outside next has its mark at its place
 abbrev pub Marked : (Formula → Option ℕ) → Formula → List ℕ → Type 0
@@ -57,6 +66,7 @@ pub record MarkedAs (owner : List ℕ) (f : Formula) (on : ℕ) (marks : List �
   pub scored : Counted owner f (r .scores .counts)
   pub board-is : r .board ≡ placeOf on (r .scores .counts)
   pub few : r .here ≤ size f
+  pub small : r .here < 8192
   pub here-is : (p q : ℕ) (masks : List ℕ) → Owned p masks owner → Within p q f → (b : ℕ) → Lies (chosen masks) f on b → r .here ≡ hereOn (chosen masks) f b
   pub mark-is : getD marks 0 0 ≡ markOf (r .here) (r .board)
   pub marked : (p q : ℕ) (masks : List ℕ) → Owned p masks owner → Within p q f → Marked (chosen masks) f marks

@@ -7,6 +7,7 @@ use Rattle.lists.proofs.Parts.{tail-length, handed-length}
 use Rattle.kinds.specs.declared.Leaf.the-variants.{Hold}
 use Rattle.kinds.specs.declared.Kind.the-variants.{Zero, One, Two}
 use Rattle.kinds.specs.Kinds.{leafCode}
+use Rattle.marking.specs.Marks.{aheadIn}
 use Rattle.nodes.proofs.Fronts.{parts-as, no-code}
 use Rattle.laying.proofs.Parts.{not-asks, left-asks, left-done, right-asks}
 use Rattle.laying.proofs.Slots.{stay-asks, cut-asks, slot-asks, held, hold-asks}
@@ -581,7 +582,7 @@ cut-parts-lay-slot-requires t c κs = let h = held (c .before .before .before .b
     let s = c .before .before .before .before .before .before .before .before .before .before .before .before .before .before .before .before .pre .1 .source .long in
     let g = c .before .before .before .before .before .before .before .before .before .before .before .before .before .before .before .before .good in
     let n = cut-entry (c .before .before .before .before .before .before .before .before .before .before .before .before .before .before .before .before .pre .1) in
-    let l = tail-length (getD (c .before .before .before .before .before .before .before .before .before .before .before .before .before .before .before .before .args .marks .now) 0 0) (c .before .before .before .before .before .before .before .before .before .before .before .before .before .before .before .before .args .u .now) in
+    let l = tail-length (aheadIn (getD (c .before .before .before .before .before .before .before .before .before .before .before .before .before .before .before .before .args .marks .now) 0 0)) (c .before .before .before .before .before .before .before .before .before .before .before .before .before .before .before .before .args .u .now) in
     (let q = c .before .before .before .before .before .before .before .before .before .before .before .before .before .before .before .before .pre .0 in omega arith, hold-asks (c .before .before .before .before .before .before .before .before .before .before .before .before .before .before .before .before .pre .1) _ (sym (c .before .before .before .before .before .before .before .before .before .before .of .ensures) ∙ c .before .before .before .before .before .before .before .before .k .given .1 ∙ ap Zero (c .before .before .before .before .before .enum-told3 .given .1)))
 
 cut-parts-enum-known-k-2 : (t : ℕ) → cut-parts-lts.Need-enum-known-k-2 (cut-parts-calls t) (cut-parts-at t) cut-parts.Post
@@ -780,8 +781,8 @@ lay-slot-cut-parts-requires t c κs = let n = slot-numbers (c .before .before .b
     let b = tail-length 6 (c .before .before .before .before .before .before .put-record .last .0) in
     (let q = c .before .before .before .before .before .before .before .before .before .before .before .before .before .before .before .pre .0 in omega arith, slot-asks (c .before .before .before .before .before .before .before .before .before .before .before .before .before .before .before .pre .1) (tail (c .before .before .before .before .before .before .before .before .before .before .before .before .before .before .before .args .at .gap) (set (c .before .before .before .before .before .before .before .before .before .before .before .before .before .before .before .args .p .now) 0 (leafCode (Hold (c .before .before .before .before .before .before .before .before .before .before .before .before .before .before .before .args .at .slot))))) (tail 6 (c .before .before .before .before .before .before .put-record .last .0)) (omega arith) (omega arith))
 
-lay-slot-add-t22 : (t : ℕ) → lay-slot-lts.Need-add-t22 (lay-slot-calls t) (lay-slot-at t) lay-slot.Post
-lay-slot-add-t22 t c = let n = slot-numbers (c .before .before .before .before .before .before .before .before .before .before .before .before .before .before .before .before .before .before .before .before .before .pre .1) in
+lay-slot-add-t23 : (t : ℕ) → lay-slot-lts.Need-add-t23 (lay-slot-calls t) (lay-slot-at t) lay-slot.Post
+lay-slot-add-t23 t c = let n = slot-numbers (c .before .before .before .before .before .before .before .before .before .before .before .before .before .before .before .before .before .before .before .before .before .pre .1) in
     let e = length-set (c .before .before .before .before .before .before .before .before .before .before .before .before .before .before .before .before .before .before .before .before .before .args .p .now) 0 (leafCode (Hold (c .before .before .before .before .before .before .before .before .before .before .before .before .before .before .before .before .before .before .before .before .before .args .at .slot))) in
     let k = c .before .before .before .before .before .before .before .before .before .before .before .before .put-record .kept .0 in
     let a = tail-length (c .before .before .before .before .before .before .before .before .before .before .before .before .before .before .before .before .before .before .before .before .before .args .at .gap) (set (c .before .before .before .before .before .before .before .before .before .before .before .before .before .before .before .before .before .before .before .before .before .args .p .now) 0 (leafCode (Hold (c .before .before .before .before .before .before .before .before .before .before .before .before .before .before .before .before .before .before .before .before .before .args .at .slot)))) in
@@ -789,8 +790,8 @@ lay-slot-add-t22 t c = let n = slot-numbers (c .before .before .before .before .
     let m = slot-moved (c .before .before .before .before .before .before .before .before .before .before .before .before .before .before .before .before .before .before .before .before .before .pre .1) (omega arith) (omega arith) (c .before .before .before .before .before .cut-parts .ensures) in
     omega arith
 
-lay-slot-add-t23 : (t : ℕ) → lay-slot-lts.Need-add-t23 (lay-slot-calls t) (lay-slot-at t) lay-slot.Post
-lay-slot-add-t23 t c = let n = slot-numbers (c .before .before .before .before .before .before .before .before .before .before .before .before .before .before .before .before .before .before .before .before .before .before .pre .1) in
+lay-slot-add-t24 : (t : ℕ) → lay-slot-lts.Need-add-t24 (lay-slot-calls t) (lay-slot-at t) lay-slot.Post
+lay-slot-add-t24 t c = let n = slot-numbers (c .before .before .before .before .before .before .before .before .before .before .before .before .before .before .before .before .before .before .before .before .before .before .pre .1) in
     let e = length-set (c .before .before .before .before .before .before .before .before .before .before .before .before .before .before .before .before .before .before .before .before .before .before .args .p .now) 0 (leafCode (Hold (c .before .before .before .before .before .before .before .before .before .before .before .before .before .before .before .before .before .before .before .before .before .before .args .at .slot))) in
     let k = c .before .before .before .before .before .before .before .before .before .before .before .before .before .put-record .kept .0 in
     let a = tail-length (c .before .before .before .before .before .before .before .before .before .before .before .before .before .before .before .before .before .before .before .before .before .before .args .at .gap) (set (c .before .before .before .before .before .before .before .before .before .before .before .before .before .before .before .before .before .before .before .before .before .before .args .p .now) 0 (leafCode (Hold (c .before .before .before .before .before .before .before .before .before .before .before .before .before .before .before .before .before .before .before .before .before .before .args .at .slot)))) in
@@ -985,8 +986,8 @@ pub +cut-not+cut-pair+cut-parts+lay-slot+look-spec : {M : Type 1} → statement 
     (lay-slot-part-cut-parts-start-2 t)
     (lay-slot-part-cut-parts-end-2 t)
     (lay-slot-cut-parts-requires t)
-    (lay-slot-add-t22 t)
     (lay-slot-add-t23 t)
+    (lay-slot-add-t24 t)
     (lay-slot-same-length t)
     (lay-slot-same-length-2 t)
     (lay-slot-returns t))

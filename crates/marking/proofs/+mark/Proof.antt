@@ -11,7 +11,7 @@ use Rattle.ltl.specs.Formula.{encode}
 use Rattle.nodes.proofs.Fronts.{parts-as, begins-some, no-code}
 use Rattle.nodes.proofs.Operands.{one-of, two-of}
 use Rattle.marking.proofs.Tops.{not-small, pair-small}
-use Rattle.marking.proofs.Walks.{some-marks, left-marked, leaf-done, next-done, eventually-done, always-done, until-done, not-done, pair-done}
+use Rattle.marking.proofs.Walks.{some-marks, front-few, left-marked, leaf-done, next-done, eventually-done, always-done, until-done, not-done, pair-done}
 use native.Mathlib.Omega.{arith}
 use borrow.Author.Needs.{needs}
 use Prim.Native.Nat.{ℕ, _<_}
@@ -260,43 +260,43 @@ mark-same-length : (t : ℕ) → mark-lts.Need-same-length (mark-calls t) (mark-
 mark-same-length t c = search needs
 
 mark-returns : (t : ℕ) → mark-lts.Need-returns (mark-calls t) (mark-at t) mark.Post
-mark-returns t c = λ f rest y. leaf-done (some-marks (c .before .before .before .before .before .before .before .before .before .before .before .args .u .now) (c .before .before .before .before .before .before .before .before .before .before .before .args .marks .now) (c .before .before .before .before .before .before .before .before .before .before .before .pre .1 .0) (c .before .before .before .before .before .before .before .before .before .before .before .pre .1 .2)) (c .before .before .mark-whole .ensures f rest y) (parts-as (c .before .before .before .before .before .before .before .before .before .before .before .args .u .now) f rest y (c .before .before .before .before .before .before .of .ensures) (c .before .before .before .before .enum-told .given .1))
+mark-returns t c = λ f rest y. leaf-done (some-marks (c .before .before .before .before .before .before .before .before .before .before .before .args .u .now) (c .before .before .before .before .before .before .before .before .before .before .before .args .marks .now) (c .before .before .before .before .before .before .before .before .before .before .before .pre .1 .0) (c .before .before .before .before .before .before .before .before .before .before .before .pre .1 .2)) (c .before .before .mark-whole .ensures f rest y) (front-few (c .before .before .before .before .before .before .before .before .before .before .before .pre .1 .3) y) (parts-as (c .before .before .before .before .before .before .before .before .before .before .before .args .u .now) f rest y (c .before .before .before .before .before .before .of .ensures) (c .before .before .before .before .enum-told .given .1))
 
 mark-same-length-2 : (t : ℕ) → mark-lts.Need-same-length-2 (mark-calls t) (mark-at t) mark.Post
 mark-same-length-2 t c = search needs
 
 mark-returns-2 : (t : ℕ) → mark-lts.Need-returns-2 (mark-calls t) (mark-at t) mark.Post
-mark-returns-2 t c = λ f rest y. not-done (c .before .before .before .before .before .before .before .before .before .before .before .before .before .before .before .before .before .before .before .args .marks .now) (some-marks (c .before .before .before .before .before .before .before .before .before .before .before .before .before .before .before .before .before .before .before .args .u .now) (c .before .before .before .before .before .before .before .before .before .before .before .before .before .before .before .before .before .before .before .args .marks .now) (c .before .before .before .before .before .before .before .before .before .before .before .before .before .before .before .before .before .before .before .pre .1 .0) (c .before .before .before .before .before .before .before .before .before .before .before .before .before .before .before .before .before .before .before .pre .1 .2)) (c .before .before .before .before .before .before .mark .kept .1 .0) (one-of y (c .before .before .before .before .before .before .before .before .before .before .before .before .before .before .of .ensures) (c .before .before .before .before .before .before .before .before .before .before .before .before .k .given .1 ∙ ap One (c .before .before .before .before .before .before .before .before .before .enum-told2 .given .1))) (c .before .before .before .before .before .before .mark .ensures) (c .before .before .over-not .ensures)
+mark-returns-2 t c = λ f rest y. not-done (c .before .before .before .before .before .before .before .before .before .before .before .before .before .before .before .before .before .before .before .args .marks .now) (some-marks (c .before .before .before .before .before .before .before .before .before .before .before .before .before .before .before .before .before .before .before .args .u .now) (c .before .before .before .before .before .before .before .before .before .before .before .before .before .before .before .before .before .before .before .args .marks .now) (c .before .before .before .before .before .before .before .before .before .before .before .before .before .before .before .before .before .before .before .pre .1 .0) (c .before .before .before .before .before .before .before .before .before .before .before .before .before .before .before .before .before .before .before .pre .1 .2)) (c .before .before .before .before .before .before .mark .kept .1 .0) (one-of y (c .before .before .before .before .before .before .before .before .before .before .before .before .before .before .of .ensures) (c .before .before .before .before .before .before .before .before .before .before .before .before .k .given .1 ∙ ap One (c .before .before .before .before .before .before .before .before .before .enum-told2 .given .1))) (c .before .before .before .before .before .before .mark .ensures) (c .before .before .over-not .ensures) (c .before .before .before .before .before .before .before .before .before .before .before .before .before .before .before .before .before .before .before .pre .1 .3)
 
 mark-same-length-3 : (t : ℕ) → mark-lts.Need-same-length-3 (mark-calls t) (mark-at t) mark.Post
 mark-same-length-3 t c = search needs
 
 mark-returns-3 : (t : ℕ) → mark-lts.Need-returns-3 (mark-calls t) (mark-at t) mark.Post
-mark-returns-3 t c = λ f rest y. next-done (some-marks (c .before .before .before .before .before .before .before .before .before .before .before .before .before .before .args .u .now) (c .before .before .before .before .before .before .before .before .before .before .before .before .before .before .args .marks .now) (c .before .before .before .before .before .before .before .before .before .before .before .before .before .before .pre .1 .0) (c .before .before .before .before .before .before .before .before .before .before .before .before .before .before .pre .1 .2)) (c .before .before .mark-whole2 .ensures f rest y) (one-of y (c .before .before .before .before .before .before .before .before .before .of .ensures) (c .before .before .before .before .before .before .before .k .given .1 ∙ ap One (c .before .before .before .before .enum-told3 .given .1)))
+mark-returns-3 t c = λ f rest y. next-done (some-marks (c .before .before .before .before .before .before .before .before .before .before .before .before .before .before .args .u .now) (c .before .before .before .before .before .before .before .before .before .before .before .before .before .before .args .marks .now) (c .before .before .before .before .before .before .before .before .before .before .before .before .before .before .pre .1 .0) (c .before .before .before .before .before .before .before .before .before .before .before .before .before .before .pre .1 .2)) (c .before .before .mark-whole2 .ensures f rest y) (front-few (c .before .before .before .before .before .before .before .before .before .before .before .before .before .before .pre .1 .3) y) (one-of y (c .before .before .before .before .before .before .before .before .before .of .ensures) (c .before .before .before .before .before .before .before .k .given .1 ∙ ap One (c .before .before .before .before .enum-told3 .given .1)))
 
 mark-same-length-4 : (t : ℕ) → mark-lts.Need-same-length-4 (mark-calls t) (mark-at t) mark.Post
 mark-same-length-4 t c = search needs
 
 mark-returns-4 : (t : ℕ) → mark-lts.Need-returns-4 (mark-calls t) (mark-at t) mark.Post
-mark-returns-4 t c = λ f rest y. eventually-done (some-marks (c .before .before .before .before .before .before .before .before .before .before .before .before .before .before .args .u .now) (c .before .before .before .before .before .before .before .before .before .before .before .before .before .before .args .marks .now) (c .before .before .before .before .before .before .before .before .before .before .before .before .before .before .pre .1 .0) (c .before .before .before .before .before .before .before .before .before .before .before .before .before .before .pre .1 .2)) (c .before .before .mark-whole3 .ensures f rest y) (one-of y (c .before .before .before .before .before .before .before .before .before .of .ensures) (c .before .before .before .before .before .before .before .k .given .1 ∙ ap One (c .before .before .before .before .enum-told4 .given .1)))
+mark-returns-4 t c = λ f rest y. eventually-done (some-marks (c .before .before .before .before .before .before .before .before .before .before .before .before .before .before .args .u .now) (c .before .before .before .before .before .before .before .before .before .before .before .before .before .before .args .marks .now) (c .before .before .before .before .before .before .before .before .before .before .before .before .before .before .pre .1 .0) (c .before .before .before .before .before .before .before .before .before .before .before .before .before .before .pre .1 .2)) (c .before .before .mark-whole3 .ensures f rest y) (front-few (c .before .before .before .before .before .before .before .before .before .before .before .before .before .before .pre .1 .3) y) (one-of y (c .before .before .before .before .before .before .before .before .before .of .ensures) (c .before .before .before .before .before .before .before .k .given .1 ∙ ap One (c .before .before .before .before .enum-told4 .given .1)))
 
 mark-same-length-5 : (t : ℕ) → mark-lts.Need-same-length-5 (mark-calls t) (mark-at t) mark.Post
 mark-same-length-5 t c = search needs
 
 mark-returns-5 : (t : ℕ) → mark-lts.Need-returns-5 (mark-calls t) (mark-at t) mark.Post
-mark-returns-5 t c = λ f rest y. always-done (some-marks (c .before .before .before .before .before .before .before .before .before .before .before .before .before .before .args .u .now) (c .before .before .before .before .before .before .before .before .before .before .before .before .before .before .args .marks .now) (c .before .before .before .before .before .before .before .before .before .before .before .before .before .before .pre .1 .0) (c .before .before .before .before .before .before .before .before .before .before .before .before .before .before .pre .1 .2)) (c .before .before .mark-whole4 .ensures f rest y) (one-of y (c .before .before .before .before .before .before .before .before .before .of .ensures) (c .before .before .before .before .before .before .before .k .given .1 ∙ ap One (c .before .before .before .before .enum-told5 .given .1)))
+mark-returns-5 t c = λ f rest y. always-done (some-marks (c .before .before .before .before .before .before .before .before .before .before .before .before .before .before .args .u .now) (c .before .before .before .before .before .before .before .before .before .before .before .before .before .before .args .marks .now) (c .before .before .before .before .before .before .before .before .before .before .before .before .before .before .pre .1 .0) (c .before .before .before .before .before .before .before .before .before .before .before .before .before .before .pre .1 .2)) (c .before .before .mark-whole4 .ensures f rest y) (front-few (c .before .before .before .before .before .before .before .before .before .before .before .before .before .before .pre .1 .3) y) (one-of y (c .before .before .before .before .before .before .before .before .before .of .ensures) (c .before .before .before .before .before .before .before .k .given .1 ∙ ap One (c .before .before .before .before .enum-told5 .given .1)))
 
 mark-same-length-6 : (t : ℕ) → mark-lts.Need-same-length-6 (mark-calls t) (mark-at t) mark.Post
 mark-same-length-6 t c = search needs
 
 mark-returns-6 : (t : ℕ) → mark-lts.Need-returns-6 (mark-calls t) (mark-at t) mark.Post
-mark-returns-6 t c = λ f rest y. pair-done (c .before .before .before .before .before .before .before .before .before .before .before .before .before .before .before .before .before .before .before .before .before .before .before .before .before .args .marks .now) (c .before .before .before .before .before .before .before .before .before .before .before .before .before .before .before .before .before .before .before .before .before .before .before .before .before .pre .1 .2) (c .before .before .before .before .before .before .before .before .before .before .before .before .mark2 .kept .1 .0) (left-marked (two-of y (c .before .before .before .before .before .before .before .before .before .before .before .before .before .before .before .before .before .before .before .before .of .ensures) (c .before .before .before .before .before .before .before .before .before .before .before .before .before .before .before .before .before .before .k2 .given .1 ∙ ap Two (c .before .before .before .before .before .before .before .before .before .before .before .before .before .before .before .enum-told6 .given .1))) (c .before .before .before .before .before .before .before .before .before .before .before .before .mark2 .ensures)) (c .before .before .before .before .before .before .mark3 .ensures) (c .before .before .over-pair .ensures) (c .before .before .before .before .before .before .mark3 .kept .1 .0)
+mark-returns-6 t c = λ f rest y. pair-done (c .before .before .before .before .before .before .before .before .before .before .before .before .before .before .before .before .before .before .before .before .before .before .before .before .before .args .marks .now) (c .before .before .before .before .before .before .before .before .before .before .before .before .before .before .before .before .before .before .before .before .before .before .before .before .before .pre .1 .2) (c .before .before .before .before .before .before .before .before .before .before .before .before .mark2 .kept .1 .0) (left-marked (two-of y (c .before .before .before .before .before .before .before .before .before .before .before .before .before .before .before .before .before .before .before .before .of .ensures) (c .before .before .before .before .before .before .before .before .before .before .before .before .before .before .before .before .before .before .k2 .given .1 ∙ ap Two (c .before .before .before .before .before .before .before .before .before .before .before .before .before .before .before .enum-told6 .given .1))) (c .before .before .before .before .before .before .before .before .before .before .before .before .mark2 .ensures)) (c .before .before .before .before .before .before .mark3 .ensures) (c .before .before .over-pair .ensures) (c .before .before .before .before .before .before .mark3 .kept .1 .0) (c .before .before .before .before .before .before .before .before .before .before .before .before .before .before .before .before .before .before .before .before .before .before .before .before .before .pre .1 .3)
 
 mark-same-length-7 : (t : ℕ) → mark-lts.Need-same-length-7 (mark-calls t) (mark-at t) mark.Post
 mark-same-length-7 t c = search needs
 
 mark-returns-7 : (t : ℕ) → mark-lts.Need-returns-7 (mark-calls t) (mark-at t) mark.Post
-mark-returns-7 t c = λ f rest y. until-done (some-marks (c .before .before .before .before .before .before .before .before .before .before .before .before .before .before .args .u .now) (c .before .before .before .before .before .before .before .before .before .before .before .before .before .before .args .marks .now) (c .before .before .before .before .before .before .before .before .before .before .before .before .before .before .pre .1 .0) (c .before .before .before .before .before .before .before .before .before .before .before .before .before .before .pre .1 .2)) (c .before .before .mark-whole5 .ensures f rest y) (two-of y (c .before .before .before .before .before .before .before .before .before .of .ensures) (c .before .before .before .before .before .before .before .k2 .given .1 ∙ ap Two (c .before .before .before .before .enum-told7 .given .1)))
+mark-returns-7 t c = λ f rest y. until-done (some-marks (c .before .before .before .before .before .before .before .before .before .before .before .before .before .before .args .u .now) (c .before .before .before .before .before .before .before .before .before .before .before .before .before .before .args .marks .now) (c .before .before .before .before .before .before .before .before .before .before .before .before .before .before .pre .1 .0) (c .before .before .before .before .before .before .before .before .before .before .before .before .before .before .pre .1 .2)) (c .before .before .mark-whole5 .ensures f rest y) (front-few (c .before .before .before .before .before .before .before .before .before .before .before .before .before .before .pre .1 .3) y) (two-of y (c .before .before .before .before .before .before .before .before .before .of .ensures) (c .before .before .before .before .before .before .before .k2 .given .1 ∙ ap Two (c .before .before .before .before .enum-told7 .given .1)))
 
 mark-same-length-8 : (t : ℕ) → mark-lts.Need-same-length-8 (mark-calls t) (mark-at t) mark.Post
 mark-same-length-8 t c = search needs
