@@ -8,3 +8,4 @@ pub mod Parts
 pub mod Slots
 pub mod Room
 pub mod Cutting
+pub mod Rooting

@@ -11,7 +11,7 @@ use Rattle.kinds.specs.declared.Kind.the-variants.{Two}
 use Rattle.kinds.specs.Kinds.{kindOf, leafCode}
 use Rattle.ltl.specs.Limits.{boardsMost, nodesMost}
 use Rattle.ltl.specs.Formula.{Formula, size, encode}
-use Rattle.network.specs.Layout.{Laid, cut, looked, laid}
+use Rattle.network.specs.Layout.{Laid, cut, rooted, looked, laid}
 use Rattle.state.specs.Clauses.{slotsMost}
 use Rattle.state.specs.Bytes.{nodesOf, slotRecords, nodeBytes}
 use Rattle.nodes.specs.Begins.{Begins, Front}
@@ -129,3 +129,24 @@ PutsWhole u p p′ y = (f : Formula) (rest : List ℕ) → Front u f rest → (p
 pub record IsJoin (u : List ℕ) : Type 0 where
   pub by : Join
   pub kind : kindOf (getD u 0 0) ≡ Two (Joined by)
+
+-- ---- the first slot of a network
+pub record RootAsk (u marks p r : List ℕ) : Type 0 where
+  pub choose : Formula → Option ℕ
+  pub hold : ℕ → ℕ → Laid
+  pub formula : Formula
+  pub rest : List ℕ
+  pub board : ℕ
+  pub source : Source choose hold u marks
+  pub stands : OnBoard choose u marks formula rest board
+  pub slots : length (rooted board (laid choose hold formula board 1)) ≤ slotsMost
+  pub numbers : nodesOf (rooted board (laid choose hold formula board 1)) ≤ nodesMost
+  pub nodes : nodesOf (rooted board (laid choose hold formula board 1)) ≤ length p
+  pub records : 6 * length (rooted board (laid choose hold formula board 1)) ≤ length r
+
+abbrev pub LaysRoot : List ℕ → List ℕ → List ℕ → List ℕ → List ℕ → List ℕ → Type 0
+LaysRoot u marks p r p′ r′ =
+    (choose : Formula → Option ℕ) (hold : ℕ → ℕ → Laid) (f : Formula) (rest : List ℕ) (board : ℕ) → Source choose hold u marks → OnBoard choose u marks f rest board
+    → nodesOf (rooted board (laid choose hold f board 1)) ≤ length p → 6 * length (rooted board (laid choose hold f board 1)) ≤ length r
+    → (p′ ≡ nodeBytes (rooted board (laid choose hold f board 1)) ++ drop (nodesOf (rooted board (laid choose hold f board 1))) p)
+    × (r′ ≡ slotRecords 0 (rooted board (laid choose hold f board 1)) ++ drop (6 * length (rooted board (laid choose hold f board 1))) r)

@@ -6,7 +6,7 @@ ghost use mathlib.Core.List.{[], _∷_, _++_};
 ghost use Prim.Native.Nat.{_<_, _≤_};
 ghost use lib.ListN.{length, getD, drop};
 ghost use Rattle.le.specs.Le.{le};
-ghost use Rattle.laying.specs.Lays.{CutAsk, Cuts, LookAsk, Looks, SlotAsk, LaysSlot, Plain, WholeAsk, PutsWhole, IsJoin};
+ghost use Rattle.laying.specs.Lays.{CutAsk, Cuts, LookAsk, Looks, SlotAsk, LaysSlot, Plain, WholeAsk, PutsWhole, IsJoin, RootAsk, LaysRoot};
 ghost use Rattle.kinds.specs.declared.Unary.the-variants.{Not};
 ghost use Rattle.kinds.specs.declared.Kind.the-variants.{One};
 ghost use Rattle.kinds.specs.Kinds.{kindOf};
@@ -203,4 +203,23 @@ fn lay_slot(u: &[u8], marks: &[u32], at: Place, p: &mut [u8], r: &mut [u8]) -> L
         slots: 1 + x.slots,
         nodes: n + x.nodes,
     }
+}
+
+// Lays the formula that u begins with as the first slot of a network, on the board of its mark: its nodes and those of the slots cut
+// out of it to the front of p, their records to the front of r.
+pub fn lay_root(u: &[u8], marks: &[u32], p: &mut [u8], r: &mut [u8])
+    requires { ⌜ RootAsk (now u) (now marks) (now p) (now r) ⌝ }
+    ensures { λ _. ⌜ LaysRoot (now (u .entry)) (now (marks .entry)) (now (p .entry)) (now (r .entry)) (now (p .exit)) (now (r .exit)) ⌝ }
+{
+    let mark = marks[0];
+    let n = (mark / 32 % 8192) as usize;
+    let board = (mark % 32) as u8;
+    put_record(r, board, 0, n as u16);
+    let own = Place {
+        board: board,
+        slot: 1,
+        node: n,
+        gap: n,
+    };
+    cut_parts(u, marks, own, p, &mut r[6..]);
 }
