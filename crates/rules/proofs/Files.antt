@@ -1,4 +1,4 @@
--- Laws of the rule file and its parts: lengths; what a row of puts leaves (`header-put`, `found-..`, `file-put`); and both ways between
+-- Laws of the rule file and its parts: lengths; what a row of puts leaves (`found-..`, `file-put`); and both ways between
 -- a file and what it is written from: `header-fields` and `masksFrom-maskBytes` read what was written, `header-is` and
 -- `maskBytes-masksFrom` write what was read. Assumes nothing.
 use mathlib.Core.Path.{_≡_, refl, sym, ap, ap₂, _∙_}
@@ -13,7 +13,7 @@ use Rattle.ltl.specs.Limits.{boardsMost, propositionsMost, ruleNodesMost}
 use Rattle.lists.specs.Runs.{tail, tailAs, padded}
 use Rattle.le.specs.Le.{le, leAt}
 use Rattle.le.proofs.Laws.{Bytes, le-length, leAt-le, le-leAt}
-use Rattle.lists.proofs.Stretches.{put-next, tail-put, tail-clear, drop-replicate, take-two}
+use Rattle.lists.proofs.Stretches.{tail-put, tail-clear, drop-replicate, take-two}
 use Rattle.rules.specs.RuleFile.{version, masksAt, formulaAt, totalOf, fileMost, header, maskBytes, fileOf, versionIn, boardsIn, propositionsIn, nodesIn, masksOffsetIn, formulaOffsetIn, totalIn, masksFrom}
 
 -- ---- the masks in a file
@@ -57,32 +57,6 @@ maskBytes-more ms i h =
 pub header-length : (b p n : ℕ) → length (header b p n) ≡ masksAt
 unfolding le
 header-length b p n = refl
-
--- what the puts of its seven numbers leave, one after the other
-pub header-put : (b p n : ℕ) (s s₁ s₂ s₃ s₄ s₅ s₆ s₇ : List ℕ)
-    → s₁ ≡ take 0 s ++ (le 2 version ++ drop (0 + 2) s)
-    → s₂ ≡ take 2 s₁ ++ (le 2 b ++ drop (2 + 2) s₁)
-    → s₃ ≡ take 4 s₂ ++ (le 2 p ++ drop (4 + 2) s₂)
-    → s₄ ≡ take 6 s₃ ++ (le 2 n ++ drop (6 + 2) s₃)
-    → s₅ ≡ take 8 s₄ ++ (le 2 masksAt ++ drop (8 + 2) s₄)
-    → s₆ ≡ take 10 s₅ ++ (le 2 (formulaAt b) ++ drop (10 + 2) s₅)
-    → s₇ ≡ take 12 s₆ ++ (le 4 (totalOf b n) ++ drop (12 + 4) s₆)
-    → s₇ ≡ header b p n ++ drop masksAt s
-unfolding le
-header-put b p n s s₁ s₂ s₃ s₄ s₅ s₆ s₇ e₁ e₂ e₃ e₄ e₅ e₆ e₇ =
-    let a₁ = le 2 version in
-    let a₂ = a₁ ++ le 2 b in
-    let a₃ = a₂ ++ le 2 p in
-    let a₄ = a₃ ++ le 2 n in
-    let a₅ = a₄ ++ le 2 masksAt in
-    let a₆ = a₅ ++ le 2 (formulaAt b) in
-    let d₁ = e₁ ∙ put-next s s [] a₁ 0 2 refl refl in
-    let d₂ = e₂ ∙ put-next s₁ s a₁ (le 2 b) 2 2 d₁ refl in
-    let d₃ = e₃ ∙ put-next s₂ s a₂ (le 2 p) 4 2 d₂ refl in
-    let d₄ = e₄ ∙ put-next s₃ s a₃ (le 2 n) 6 2 d₃ refl in
-    let d₅ = e₅ ∙ put-next s₄ s a₄ (le 2 masksAt) 8 2 d₄ refl in
-    let d₆ = e₆ ∙ put-next s₅ s a₅ (le 2 (formulaAt b)) 10 2 d₅ refl in
-    e₇ ∙ put-next s₆ s a₆ (le 4 (totalOf b n)) 12 4 d₆ refl
 
 -- ---- masks put into an array of zeros
 module _ (file found : List ℕ) (b : ℕ) (e : found ≡ masksFrom file masksAt b ++ drop b (replicate boardsMost 0)) where

@@ -1,5 +1,6 @@
 -- `rules::writing::put_header` meets its contract: seven puts, each behind the last. No loop. Assumes nothing.
-use Rattle.rules.proofs.Files.{header-put}
+use Rattle.le.proofs.Header.{header-put}
+use Rattle.rules.specs.RuleFile.{version, masksAt, formulaAt, totalOf}
 use borrow.Author.Needs.{needs}
 use Rattle.rules.proofs.writing.put_header.Statement.{statement}
 use Rattle.rules.proofs.writing.put_header.Tie as tie
@@ -45,7 +46,7 @@ same-length c = search needs
 
 returns : tie.Need-returns
 returns c =
-    header-put (c .before .before .before .before .before .before .before .before .before .before .before .before .before .before .before .before .before .before .before .before .before .before .before .before .before .before .before .before .before .args .b) (c .before .before .before .before .before .before .before .before .before .before .before .before .before .before .before .before .before .before .before .before .before .before .before .before .before .before .before .before .before .args .p) (c .before .before .before .before .before .before .before .before .before .before .before .before .before .before .before .before .before .before .before .before .before .before .before .before .before .before .before .before .before .args .n) (c .before .before .before .before .before .before .before .before .before .before .before .before .before .before .before .before .before .before .before .before .before .before .before .before .before .before .before .before .before .args .file .now)
+    header-put version (c .before .before .before .before .before .before .before .before .before .before .before .before .before .before .before .before .before .before .before .before .before .before .before .before .before .before .before .before .before .args .b) (c .before .before .before .before .before .before .before .before .before .before .before .before .before .before .before .before .before .before .before .before .before .before .before .before .before .before .before .before .before .args .p) (c .before .before .before .before .before .before .before .before .before .before .before .before .before .before .before .before .before .before .before .before .before .before .before .before .before .before .before .before .before .args .n) masksAt (formulaAt (c .before .before .before .before .before .before .before .before .before .before .before .before .before .before .before .before .before .before .before .before .before .before .before .before .before .before .before .before .before .args .b)) (totalOf (c .before .before .before .before .before .before .before .before .before .before .before .before .before .before .before .before .before .before .before .before .before .before .before .before .before .before .before .before .before .args .b) (c .before .before .before .before .before .before .before .before .before .before .before .before .before .before .before .before .before .before .before .before .before .before .before .before .before .before .before .before .before .args .n)) (c .before .before .before .before .before .before .before .before .before .before .before .before .before .before .before .before .before .before .before .before .before .before .before .before .before .before .before .before .before .args .file .now)
     (c .before .before .before .before .before .before .before .before .before .before .before .before .before .before .before .before .before .before .before .before .before .before .before .before .before .before .put-u16 .last .0) (c .before .before .before .before .before .before .before .before .before .before .before .before .before .before .before .before .before .before .before .before .before .before .put-u162 .last .0) (c .before .before .before .before .before .before .before .before .before .before .before .before .before .before .before .before .before .before .put-u163 .last .0) (c .before .before .before .before .before .before .before .before .before .before .before .before .before .before .put-u164 .last .0) (c .before .before .before .before .before .before .before .before .before .before .put-u165 .last .0) (c .before .before .before .before .before .before .put-u166 .last .0) (c .before .before .put-u32 .last .0)
     (c .before .before .before .before .before .before .before .before .before .before .before .before .before .before .before .before .before .before .before .before .before .before .before .before .before .before .put-u16 .ensures) (c .before .before .before .before .before .before .before .before .before .before .before .before .before .before .before .before .before .before .before .before .before .before .put-u162 .ensures) (c .before .before .before .before .before .before .before .before .before .before .before .before .before .before .before .before .before .before .put-u163 .ensures) (c .before .before .before .before .before .before .before .before .before .before .before .before .before .before .put-u164 .ensures) (c .before .before .before .before .before .before .before .before .before .before .put-u165 .ensures) (c .before .before .before .before .before .before .put-u166 .ensures) (c .before .before .put-u32 .ensures)
 

@@ -1,0 +1,2 @@
+-- What the contracts of `storing` cite.
+pub mod Stores
