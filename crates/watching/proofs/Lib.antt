@@ -1,0 +1,5 @@
+-- What the calls of a watch keep, and the claims about a watch.
+pub mod Puts
+pub mod Framed
+pub mod Parts
+pub mod Slots
