@@ -3,3 +3,5 @@ pub mod Puts
 pub mod Framed
 pub mod Parts
 pub mod Slots
+pub mod Once
+pub mod Sampling
