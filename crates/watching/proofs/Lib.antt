@@ -5,3 +5,4 @@ pub mod Parts
 pub mod Slots
 pub mod Once
 pub mod Sampling
+pub mod Formulas
