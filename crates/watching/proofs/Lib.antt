@@ -6,3 +6,7 @@ pub mod Slots
 pub mod Once
 pub mod Sampling
 pub mod Formulas
+pub mod Stretches
+pub mod Stepping
+pub mod Constants
+pub mod StepPasses
