@@ -10,3 +10,4 @@ pub mod Stretches
 pub mod Stepping
 pub mod Constants
 pub mod StepPasses
+pub mod Networks

@@ -38,8 +38,8 @@ module _ (s : List ℕ) (ok : stateOk s ≡ true) (b bits : ℕ) (there : b < bo
   abbrev written : List ℕ
   written = le 8 bits ++ (1 ∷ [])
 
-  abbrev after : List ℕ
-  after = putAt (boardAt b + 8) written s
+  abbrev pub sampled : List ℕ
+  sampled = putAt (boardAt b + 8) written s
 
   written-length : length written ≡ 9
   written-length = omega (arith, length-append (le 8 bits) (1 ∷ []), le-length 8 bits)
@@ -47,31 +47,31 @@ module _ (s : List ℕ) (ok : stateOk s ≡ true) (b bits : ℕ) (there : b < bo
   room : boardAt b + 8 + length written ≤ length s
   room = let c = passing s ok in omega (arith, written-length, c .long, c .header .few-boards)
 
-  elsewhere : (i : ℕ) → (boardAt b + 8 ≤ i → i < boardAt b + 17 → ⊥) → getD after i 0 ≡ getD s i 0
+  elsewhere : (i : ℕ) → (boardAt b + 8 ≤ i → i < boardAt b + 17 → ⊥) → getD sampled i 0 ≡ getD s i 0
   elsewhere i h = put-other (boardAt b + 8) written s room i (λ a c. h a (omega (arith, written-length)))
 
   -- what it does not touch
-  pub sample-framed : Framed s after
+  pub sample-framed : Framed s sampled
   sample-framed =
       record {
         long = put-length (boardAt b + 8) written s room;
         front = λ i l. elsewhere i (λ a c. omega arith);
-        mask = λ c l. leAt-same after s (boardAt c) 8 (λ j x y. elsewhere j (λ a d. omega arith));
+        mask = λ c l. leAt-same sampled s (boardAt c) 8 (λ j x y. elsewhere j (λ a d. omega arith));
         slot-board = λ k l. elsewhere _ (λ a c. omega arith);
-        slot-start = λ k l. leAt-same after s _ 2 (λ j x y. elsewhere j (λ a d. omega arith));
+        slot-start = λ k l. leAt-same sampled s _ 2 (λ j x y. elsewhere j (λ a d. omega arith));
         behind = λ i l. elsewhere i (λ a c. omega arith);
       }
 
-  pub sample-slot : (k : ℕ) → k < slotsIn s → SameSlot s after k
+  pub sample-slot : (k : ℕ) → k < slotsIn s → SameSlot s sampled k
   sample-slot k l =
-      same-slot s after sample-framed k l (passing s ok .slots k l .used) (elsewhere _ (λ a c. omega arith))
-      (leAt-same after s _ 2 (λ j x y. elsewhere j (λ a d. omega arith))) (λ i a c. elsewhere i (λ x y. omega arith))
+      same-slot s sampled sample-framed k l (passing s ok .slots k l .used) (elsewhere _ (λ a c. omega arith))
+      (leAt-same sampled s _ 2 (λ j x y. elsewhere j (λ a d. omega arith))) (λ i a c. elsewhere i (λ x y. omega arith))
 
   module _ (i : ℕ) (other : i ≡ b → ⊥) where
-    pub sample-other : sampleIn after i ≡ sampleIn s i
-    sample-other = leAt-same after s (boardAt i + 8) 8 (λ j x y. elsewhere j (λ a d. other (omega arith)))
+    pub sample-other : sampleIn sampled i ≡ sampleIn s i
+    sample-other = leAt-same sampled s (boardAt i + 8) 8 (λ j x y. elsewhere j (λ a d. other (omega arith)))
 
-    pub sample-other-flag : sampledIn after i ≡ sampledIn s i
+    pub sample-other-flag : sampledIn sampled i ≡ sampledIn s i
     sample-other-flag = elsewhere (boardAt i + 16) (λ a d. other (omega arith))
 
   -- what it writes
@@ -83,51 +83,51 @@ module _ (s : List ℕ) (ok : stateOk s ≡ true) (b bits : ℕ) (there : b < bo
       let q : bitAnd bits (maskIn s b) ≡ bits = eqb-true _ _ inside in
       omega (arith, and-le-r bits (maskIn s b))
 
-  pub sample-bits : sampleIn after b ≡ bits
+  pub sample-bits : sampleIn sampled b ≡ bits
   sample-bits =
       let e : boardAt b + 8 ≡ boardAt b + 8 + 0 = omega arith in
-      ap (λ (i : ℕ). leAt after i 8) e ∙ put-field (boardAt b + 8) written s room 0 8 (omega (arith, written-length)) ∙ leAt-le [] (1 ∷ []) 0 8 bits refl ∙ mod-eq-of-lt bits-less
+      ap (λ (i : ℕ). leAt sampled i 8) e ∙ put-field (boardAt b + 8) written s room 0 8 (omega (arith, written-length)) ∙ leAt-le [] (1 ∷ []) 0 8 bits refl ∙ mod-eq-of-lt bits-less
 
-  pub sample-flag : sampledIn after b ≡ 1
+  pub sample-flag : sampledIn sampled b ≡ 1
   sample-flag =
       let e : boardAt b + 16 ≡ boardAt b + 8 + 8 = omega arith in
-      ap (λ (i : ℕ). getD after i 0) e ∙ put-byte (boardAt b + 8) written s room 8 (omega (arith, written-length)) ∙ getD-at (le 8 bits) 1 [] 0 8 (le-length 8 bits)
+      ap (λ (i : ℕ). getD sampled i 0) e ∙ put-byte (boardAt b + 8) written s room 8 (omega (arith, written-length)) ∙ getD-at (le 8 bits) 1 [] 0 8 (le-length 8 bits)
 
   -- a board that had sampled still has
-  still-sampled : (i : ℕ) → i < boardsIn s → sampledIn s i ≡ 1 → sampledIn after i ≡ 1
+  still-sampled : (i : ℕ) → i < boardsIn s → sampledIn s i ≡ 1 → sampledIn sampled i ≡ 1
   still-sampled i l e = sample-other-flag i (λ q. (let z = ap (sampledIn s) q in omega (arith, fresh))) ∙ e
 
-  board-passes : (i : ℕ) → i < boardsIn s → boardOk after i ≡ true
+  board-passes : (i : ℕ) → i < boardsIn s → boardOk sampled i ≡ true
   unfolding boardOk either
   board-passes i l = go (ℕ-discrete i b)
     where
-      go : Dec (i ≡ b) → boardOk after i ≡ true
+      go : Dec (i ≡ b) → boardOk sampled i ≡ true
       go (yes e) =
-          subst (λ (j : ℕ). boardOk after j ≡ true) (sym e)
-          (both-true _ _ (le-leb (sampledIn after b) 1 (omega (arith, sample-flag)))
-          (both-true _ _ (ap₂ (λ (x m : ℕ). inMask x m) sample-bits (sample-framed .mask b there) ∙ inside) (rw (eq-eqb (sampledIn after b) 1 sample-flag))))
+          subst (λ (j : ℕ). boardOk sampled j ≡ true) (sym e)
+          (both-true _ _ (le-leb (sampledIn sampled b) 1 (omega (arith, sample-flag)))
+          (both-true _ _ (ap₂ (λ (x m : ℕ). inMask x m) sample-bits (sample-framed .mask b there) ∙ inside) (rw (eq-eqb (sampledIn sampled b) 1 sample-flag))))
       go (no e) = rw (sample-other i e, sample-other-flag i e, sample-framed .mask i l) (each-at (boardOk s) (boardsIn s) i (checked s ok .boards) l)
 
-  pub sample-passes : stateOk after ≡ true
+  pub sample-passes : stateOk sampled ≡ true
   sample-passes =
       let c = checked s ok in
       let f = sample-framed in
-      let n = slots-same s after f in
+      let n = slots-same s sampled f in
       let p = passing s ok in
-      checked-of after
+      checked-of sampled
       (record {
         long = f .long ∙ c .long;
-        header = header-same s after f ∙ c .header;
-        masks = masks-pass s after f (c .masks);
-        boards = each-of (boardOk after) (boardsIn after) (λ i l. board-passes i (omega (arith, boards-same s after f)));
-        starts = start-same s after f 0 (p .header .some-slots) ∙ c .starts;
-        records = each-of (recordOk after) (slotsIn after) (λ k l. (let h : k < slotsIn s = omega arith in same-record s after f k h (sample-slot k h) (p .slots k h)));
-        formulas = each-of (λ k. formulaOk after (sumOnes (masksIn after)) k (formulaIn after k)) (slotsIn after)
+        header = header-same s sampled f ∙ c .header;
+        masks = masks-pass s sampled f (c .masks);
+        boards = each-of (boardOk sampled) (boardsIn sampled) (λ i l. board-passes i (omega (arith, boards-same s sampled f)));
+        starts = start-same s sampled f 0 (p .header .some-slots) ∙ c .starts;
+        records = each-of (recordOk sampled) (slotsIn sampled) (λ k l. (let h : k < slotsIn s = omega arith in same-record s sampled f k h (sample-slot k h) (p .slots k h)));
+        formulas = each-of (λ k. formulaOk sampled (sumOnes (masksIn sampled)) k (formulaIn sampled k)) (slotsIn sampled)
             (λ k l.
             (let h : k < slotsIn s = omega arith in
-            same-formula s after f k h (sample-slot k h) (p .slots k h) still-sampled (λ m y z. sample-slot m y)));
-        holders = rw n (held-once s after (slotsIn s) (λ m k l. (let e = ap (λ (o : Option Formula). times m (heldOf o)) (same-reads s after k (sample-slot k l)) in omega arith)) (c .holders));
-        gaps = each-of (gapOk after) (slotsIn after)
+            same-formula s sampled f k h (sample-slot k h) (p .slots k h) still-sampled (λ m y z. sample-slot m y)));
+        holders = rw n (held-once s sampled (slotsIn s) (λ m k l. (let e = ap (λ (o : Option Formula). times m (heldOf o)) (same-reads s sampled k (sample-slot k l)) in omega arith)) (c .holders));
+        gaps = each-of (gapOk sampled) (slotsIn sampled)
             (λ k l. (let h : k < slotsIn s = omega arith in sample-slot k h .gap ∙ p .slots k h .gap));
-        rest = rest-same s after f ∙ c .rest;
+        rest = rest-same s sampled f ∙ c .rest;
       })
