@@ -11,3 +11,4 @@ pub mod Stepping
 pub mod Constants
 pub mod StepPasses
 pub mod Networks
+pub mod InTick
