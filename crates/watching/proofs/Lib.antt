@@ -12,3 +12,5 @@ pub mod Constants
 pub mod StepPasses
 pub mod Networks
 pub mod InTick
+pub mod Single
+pub mod Started
