@@ -78,6 +78,12 @@ module _ (s : List ℕ) (begins : stateOk s ≡ true) (laid : AllOk (chosen (mas
     pub boards-kept : boardsIn t ≡ boardsIn s
     boards-kept = sym (masks-length t) ∙ ap length (in-tick .masks-kept) ∙ masks-length s
 
+    pub board-there : (k : ℕ) → k < length (networkOf s) → slotAt (networkOf s) k .board < boardsIn t
+    board-there k h =
+        let i : k < slotsIn s = omega (arith, network-length s) in
+        let e = ap (λ (c : Slot). c .board) (network-at s k i) in
+        omega (arith, boards-kept, passing s begins .slots k i .board-there)
+
     -- a stepped slot is on its board still
     pub board-kept : (k : ℕ) → k < slotsIn t → steppedIn t k ≡ 1 → slotAt (networkOf s) k .board ≡ boardOfIn t k
     board-kept k l e =
@@ -149,14 +155,8 @@ module _ (s : List ℕ) (begins : stateOk s ≡ true) (laid : AllOk (chosen (mas
               passes = step-passes t ok k l fresh ready plain;
               masks-kept = masks-same t t′ f ∙ in-tick .masks-kept;
               ticks-kept = ticks-same t t′ f ∙ in-tick .ticks-kept;
-              partly = partly-agreed (sampleIn t) (sampleIn t′) (networkOf t′) (marksOf t′) p (λ j h m. sym (step-sample t ok k l (slotAt (networkOf s) j .board) (there j h)));
+              partly = partly-agreed (sampleIn t) (sampleIn t′) (networkOf t′) (marksOf t′) p (λ j h m. sym (step-sample t ok k l (slotAt (networkOf s) j .board) (board-there j h)));
             }
-          where
-            there : (j : ℕ) → j < length (networkOf s) → slotAt (networkOf s) j .board < boardsIn t
-            there j h =
-                let i : j < slotsIn s = omega (arith, network-length s) in
-                let e = ap (λ (c : Slot). c .board) (network-at s j i) in
-                omega (arith, boards-kept, passing s begins .slots j i .board-there)
 
   -- ---- any calls
   pub calls-in-tick : {t : List ℕ} → Calls s t → InTick s → InTick t

@@ -14,3 +14,4 @@ pub mod Networks
 pub mod InTick
 pub mod Single
 pub mod Started
+pub mod Ticked

@@ -1,0 +1,127 @@
+-- A tick of a watch: the state that it closes to is a watch's state again, for the events so far and the tick's own (`tick-started`).
+-- So every state of a watch is one (`watch-started`), and every state that calls lead to from there is within a tick (`started-in-tick`).
+-- `close-passed` and `close-leaves` are an accepted close. Assumes nothing.
+use mathlib.Core.Path.{_≡_, refl, sym, ap, _∙_, subst}
+use mathlib.Core.Bool.{Bool, true, false}
+use mathlib.Core.List.{List, [], _∷_, _++_}
+use Prim.Native.Nat.{ℕ, _+_, _^_, _<_, _≤_}
+use native.Mathlib.Omega.{arith}
+use lib.ListN.{length}
+use lib.Dec.{leb, ltb, eqb}
+use borrow.Author.Tests.{leb-true, eqb-true, ne-eqb}
+use Rattle.lists.proofs.Tests.{no-true, both-1}
+use Rattle.answers.specs.Said.{Said, accepted, left}
+use Rattle.answers.proofs.Answers.{left-accepted, order-passed}
+use Rattle.ltl.specs.Limits.{nodesMost}
+use Rattle.ltl.specs.Formula.{Formula}
+use Rattle.ltl.specs.Meaning.{Event}
+use Rattle.checking.proofs.Each.{each-at}
+use Rattle.network.specs.Scores.{chosen, sampleOf}
+use Rattle.network.specs.Layout.{Slot, slotAt, close}
+use Rattle.network.specs.Tick.{marked, AllMarked, Ticks, begun, ticked}
+use Rattle.network.proofs.Relaying.{AllOk}
+use Rattle.network.proofs.Settling.{partly-start, partly-steps, partly-agree, ticks-exist}
+use Rattle.network.proofs.Choosing.{masks-choice}
+use Rattle.state.specs.Fields.{boardsIn, slotsIn, ticksIn, masksIn, sampleIn, steppedIn}
+use Rattle.state.specs.Clauses.{slotsMost, stateOk}
+use Rattle.state.specs.Bytes.{nodesOf, stateOf, networkOf}
+use Rattle.state.specs.Calls.{finishedIn, doneIn, nextIn, closeSays, closeLeaves}
+use Rattle.state.proofs.Rows.{network-length}
+use Rattle.passing.proofs.Loaded.{loaded-passes}
+use Rattle.passing.proofs.Closed.{closed-passes}
+use Rattle.watching.specs.Watch.{Loads, Calls, Saw, Tick, Watch, begun, ticked}
+use Rattle.watching.proofs.Networks.{marksOf, marks-length, mark-is}
+use Rattle.watching.proofs.InTick.{PartlyBy, InTick, partly-agreed, board-there, calls-in-tick}
+use Rattle.watching.proofs.Single.{load-single, close-single}
+use Rattle.watching.proofs.Started.{Started, started-laid, written-started}
+
+-- ---- an accepted close
+pub record Closes (t : List ℕ) : Type 0 where
+  pub done : doneIn t ≡ true
+  pub few-slots : length (nextIn t) ≤ slotsMost
+  pub few-nodes : nodesOf (nextIn t) ≤ nodesMost
+
+pub close-passed : (t : List ℕ) (room : ℕ) → closeSays t room ≡ accepted [] → Closes t
+unfolding closeSays
+close-passed t room e =
+    let x = order-passed _ (accepted []) (omega arith, (omega arith, (omega arith, (omega arith, (omega arith, (omega arith, (omega arith, tt))))))) (ap (λ (a : Said). a .number) e) in
+    record { done = x .1 .1 .1 .0; few-slots = leb-true _ _ (x .1 .1 .1 .1 .1 .0); few-nodes = leb-true _ _ (x .1 .1 .1 .1 .1 .1 .0) }
+
+pub close-leaves : (t second : List ℕ) → closeSays t (length second) ≡ accepted [] → closeLeaves t second ≡ stateOf (masksIn t) (nextIn t) (ticksIn t + 1)
+close-leaves t second e =
+    let next = stateOf (masksIn t) (nextIn t) (ticksIn t + 1) in
+    ap (λ (a : Said). left a next second) e ∙ left-accepted [] next second
+
+-- all slots are stepped
+pub done-marked : (t : List ℕ) → doneIn t ≡ true → AllMarked (networkOf t) (marksOf t)
+unfolding doneIn
+done-marked t d k l = let h : k < slotsIn t = omega (arith, network-length t) in mark-is t k h ∙ each-at (λ k. eqb (steppedIn t k) 1) (slotsIn t) k (both-1 _ _ d) h
+
+-- ---- a network that was partly stepped, and all of it, is what a tick closes
+module _ (s : List ℕ) (begins : stateOk s ≡ true) (laid : AllOk (chosen (masksIn s)) (masks-choice (masksIn s)) (length (networkOf s)) 0 (networkOf s)) where
+  partly-ticks : (samples : ℕ → Event) (slots : List Slot) (marks : List Bool) → PartlyBy s begins laid samples slots marks → AllMarked slots marks
+      → Ticks (chosen (masksIn s)) samples (networkOf s) (close (chosen (masksIn s)) slots)
+  partly-ticks samples slots marks p all =
+      let c = masks-choice (masksIn s) in
+      let x = ticks-exist (chosen (masksIn s)) c samples (networkOf s) laid .1 in
+      let q = partly-steps (chosen (masksIn s)) c samples (networkOf s) laid (x .steps) (partly-start (chosen (masksIn s)) c samples (networkOf s) laid) in
+      record {
+        last = x .last;
+        marks = x .marks;
+        steps = x .steps;
+        all = x .all;
+        closes = ap (close (chosen (masksIn s))) (partly-agree (chosen (masksIn s)) c samples (networkOf s) laid slots (x .last) marks (x .marks) p all q (x .all));
+      }
+
+  -- where nothing is stepped
+  start-in-tick : ((k : ℕ) → k < slotsIn s → steppedIn s k ≡ 0) → InTick s begins laid s
+  start-in-tick unstepped =
+      record {
+        passes = begins;
+        masks-kept = refl;
+        ticks-kept = refl;
+        partly =
+            record {
+              many = refl;
+              marks-many = marks-length s ∙ sym (network-length s);
+              fresh = λ k l m. refl;
+              held = λ k l m. absurd (none k l m);
+              done = λ k l m. absurd (none k l m);
+            };
+      }
+    where
+      none : (k : ℕ) → k < length (networkOf s) → marked (marksOf s) k ≡ true → ⊥
+      none k l m =
+          let h : k < slotsIn s = omega (arith, network-length s) in
+          let e : steppedIn s k ≡ 1 = eqb-true _ _ (sym (mark-is s k h) ∙ m) in
+          omega (arith, unstepped k h)
+
+module _ (p : ℕ) (masks : List ℕ) (rule : Formula) where
+  pub started-in-tick : (us : List Event) (s t : List ℕ) (x : Started p masks rule us s) → Calls s t → InTick s (x .passes) (started-laid p masks rule us s x) t
+  started-in-tick us s t x c = calls-in-tick s (x .passes) (started-laid p masks rule us s x) c (start-in-tick s (x .passes) (started-laid p masks rule us s x) (x .unstepped))
+
+  pub tick-started : (us : List Event) (s s′ : List ℕ) (e : Event) → Started p masks rule us s → Tick s e s′ → Started p masks rule (us ++ (e ∷ [])) s′
+  tick-started us s s′ e x tick =
+      let t = tick .last in
+      let laid = started-laid p masks rule us s x in
+      let i = started-in-tick us s t x (tick .calls) in
+      let closes = close-passed t (length (tick .second)) (tick .closes) in
+      let masks-are : masksIn t ≡ masks = i .masks-kept ∙ x .masks-are in
+      let agreed = partly-agreed s (x .passes) laid (sampleIn t) (sampleOf (masksIn s) e) (networkOf t) (marksOf t) (i .partly)
+      (λ k l m. tick .saw _ (board-there s (x .passes) laid t i k l) ∙ ap (λ (ms : List ℕ). sampleOf ms e (slotAt (networkOf s) k .board)) (i .masks-kept)) in
+      let ticks = subst (λ (ms : List ℕ). Ticks (chosen ms) (sampleOf ms e) (networkOf s) (close (chosen ms) (networkOf t))) (x .masks-are)
+      (partly-ticks s (x .passes) laid (sampleOf (masksIn s) e) (networkOf t) (marksOf t) agreed (done-marked t (closes .done))) in
+      let next = close (chosen masks) (networkOf t) in
+      let few-slots = subst (λ (ms : List ℕ). length (close (chosen ms) (networkOf t)) ≤ slotsMost) masks-are (closes .few-slots) in
+      let few-nodes = subst (λ (ms : List ℕ). nodesOf (close (chosen ms) (networkOf t)) ≤ nodesMost) masks-are (closes .few-nodes) in
+      let ok = subst (λ (ms : List ℕ). stateOk (stateOf ms (close (chosen ms) (networkOf t)) (ticksIn t + 1)) ≡ true) masks-are (closed-passes t (i .passes) (closes .done) (closes .few-slots) (closes .few-nodes)) in
+      let after = written-started p masks rule (x .loads) (us ++ (e ∷ [])) next (ticked (x .network) e ticks) (ticksIn t + 1) few-slots few-nodes ok (close-single (chosen masks) (networkOf t)) in
+      subst (λ (y : List ℕ). Started p masks rule (us ++ (e ∷ [])) y)
+      (ap (λ (ms : List ℕ). stateOf ms (close (chosen ms) (networkOf t)) (ticksIn t + 1)) (sym masks-are) ∙ sym (tick .leaves ∙ close-leaves t (tick .second) (tick .closes))) after
+
+  pub watch-started : {us : List Event} {s : List ℕ} → Watch p masks rule us s → Started p masks rule us s
+  watch-started (begun l) =
+      written-started p masks rule l [] _ begun 0 (l .few-slots) (l .few-nodes)
+      (loaded-passes masks p rule (l .follow) (l .some-propositions) (l .few-propositions) (l .some-boards) (l .few-boards) (l .within) (l .few-slots) (l .few-nodes))
+      (load-single (chosen masks) rule)
+  watch-started (ticked {us = us} {s = s} {s′ = s′} w e t) = tick-started us s s′ e (watch-started w) t
