@@ -120,7 +120,7 @@ module _ (s : List ℕ) (begins : stateOk s ≡ true) (laid : AllOk (chosen (mas
       unmarked : marked (marksOf t) k ≡ false
       unmarked = mark-is t k l ∙ ne-eqb (steppedIn t k) 1 (λ e. omega arith)
 
-      slot-kept : slotAt (networkOf t) k ≡ slotAt (networkOf s) k
+      pub slot-kept : slotAt (networkOf t) k ≡ slotAt (networkOf s) k
       slot-kept = in-tick .partly .fresh k (omega (arith, network-length s, slots-kept)) unmarked
 
       -- a slot that is not stepped is as it was laid

@@ -15,3 +15,4 @@ pub mod InTick
 pub mod Single
 pub mod Started
 pub mod Ticked
+pub mod Telling
