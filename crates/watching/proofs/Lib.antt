@@ -16,3 +16,5 @@ pub mod Single
 pub mod Started
 pub mod Ticked
 pub mod Telling
+pub mod Agreeing
+pub mod GoingOn

@@ -21,11 +21,12 @@ use Rattle.answers.proofs.Answers.{left-refused, order-ok, order-refused}
 use Rattle.ltl.specs.Formula.{Formula, leaf, one, two, constant, encode}
 use Rattle.ltl.specs.Meaning.{Event}
 use Rattle.ltl.specs.Progression.{verdictOf}
+use Rattle.checking.proofs.Each.{each-at}
 use Rattle.network.specs.Layout.{Slot}
 use Rattle.state.specs.Fields.{stateLength, slotsIn, steppedIn, slotBytes}
 use Rattle.state.specs.Clauses.{isConstantIn, stateOk}
 use Rattle.state.specs.Bytes.{formulaAt, networkOf}
-use Rattle.state.specs.Calls.{finishedIn, verdictIn, sampleSays, sampleLeaves, stepSays, stepLeaves, closeSays}
+use Rattle.state.specs.Calls.{finishedIn, verdictIn, doneIn, sampleSays, sampleLeaves, stepSays, stepLeaves, closeSays}
 use Rattle.state.proofs.Rows.{network-at}
 use Rattle.passing.proofs.Passing.{SlotPassing, passing}
 use Rattle.watching.specs.Watch.{Calls, none, sample, step}
@@ -56,6 +57,12 @@ ended s e = let a = both-1 _ _ e in record { one-slot = eqb-true _ _ (both-0 _ _
 not-finished : (s : List ℕ) (b : Bool) → finishedIn s ≡ b → (Ended s → ⊥) → finishedIn s ≡ false
 not-finished s true e h = absurd (h (ended s e))
 not-finished s false e h = e
+
+-- all slots are stepped, so that it is not finished
+pub done-unfinished : (t : List ℕ) → 0 < slotsIn t → doneIn t ≡ true → finishedIn t ≡ false
+unfolding doneIn
+done-unfinished t l d =
+    not-finished t (finishedIn t) refl (λ x. (let e : steppedIn t 0 ≡ 1 = eqb-true _ _ (each-at (λ k. eqb (steppedIn t k) 1) (slotsIn t) 0 (both-1 _ _ d) l) in omega (arith, x .unstepped)))
 
 -- ---- calls on a finished state that passes
 refused-leaves : (a : Said) (output before : List ℕ) → a ≡ refused 10 → left a output before ≡ before
