@@ -1,4 +1,6 @@
 -- What the calls of a watch keep, and the claims about a watch.
+pub mod Listed
+pub mod Bits
 pub mod Puts
 pub mod Framed
 pub mod Parts
@@ -18,3 +20,4 @@ pub mod Ticked
 pub mod Telling
 pub mod Agreeing
 pub mod GoingOn
+pub mod Events

@@ -28,6 +28,7 @@ use Rattle.state.specs.Calls.{readyIn, steppedTo}
 use Rattle.state.proofs.Rows.{network-length, network-at}
 use Rattle.passing.proofs.Passing.{passing}
 use Rattle.passing.proofs.Held.{slot-holds}
+use Rattle.watching.proofs.Listed.{listed, listed-length, listed-at}
 use Rattle.watching.proofs.Framed.{slots-same, board-of-same}
 use Rattle.watching.proofs.Slots.{SameSlot, same-formula-at}
 use Rattle.watching.proofs.Sampling.{sampled, sample-framed, sample-slot}
@@ -45,31 +46,15 @@ network-is t slots n h =
     ext-getD noSlot (networkOf t) slots (m ∙ n) (λ k l. (let i : k < slotsIn t = omega arith in network-at t k i ∙ sym (h k i)))
 
 -- ---- marks
--- a test of 0 .. n - 1
-unfoldable pub tested : (ℕ → Bool) → ℕ → List Bool
-tested test zero = []
-tested test (suc n) = test 0 ∷ tested (λ k. test (suc k)) n
-
-tested-length : (test : ℕ → Bool) (n : ℕ) → length (tested test n) ≡ n
-unfolding tested
-tested-length test zero = refl
-tested-length test (suc n) = ap suc (tested-length (λ k. test (suc k)) n)
-
-tested-at : (test : ℕ → Bool) (n k : ℕ) → k < n → getD (tested test n) k false ≡ test k
-unfolding tested
-tested-at test zero k l = absurd (omega arith)
-tested-at test (suc n) zero l = refl
-tested-at test (suc n) (suc k) l = tested-at (λ k. test (suc k)) n k (omega arith)
-
 -- which slots are stepped
 abbrev pub marksOf : List ℕ → List Bool
-marksOf s = tested (λ k. eqb (steppedIn s k) 1) (slotsIn s)
+marksOf s = listed (λ k. eqb (steppedIn s k) 1) (slotsIn s)
 
 pub marks-length : (s : List ℕ) → length (marksOf s) ≡ slotsIn s
-marks-length s = tested-length (λ k. eqb (steppedIn s k) 1) (slotsIn s)
+marks-length s = listed-length (λ k. eqb (steppedIn s k) 1) (slotsIn s)
 
 pub mark-is : (s : List ℕ) (k : ℕ) → k < slotsIn s → marked (marksOf s) k ≡ eqb (steppedIn s k) 1
-mark-is s k l = tested-at (λ k. eqb (steppedIn s k) 1) (slotsIn s) k l
+mark-is s k l = listed-at false (λ k. eqb (steppedIn s k) 1) (slotsIn s) k l
 
 marks-are : (t : List ℕ) (marks : List Bool) → slotsIn t ≡ length marks → ((k : ℕ) → k < slotsIn t → marked marks k ≡ eqb (steppedIn t k) 1) → marksOf t ≡ marks
 marks-are t marks n h =
