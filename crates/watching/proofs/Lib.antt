@@ -21,3 +21,4 @@ pub mod Telling
 pub mod Agreeing
 pub mod GoingOn
 pub mod Events
+pub mod Existing
