@@ -1,6 +1,6 @@
 -- The single byte 0 or 1, as a test of a slot's bytes and as its formula's verdict: `constant-is`. Assumes nothing.
 use mathlib.Core.Path.{_≡_, refl, ap₂, _∙_}
-use mathlib.Core.Bool.{Bool, true, false}
+use mathlib.Core.Bool.{true, false}
 use mathlib.Core.List.{List}
 use Prim.Native.Nat.{ℕ, _+_, _<_}
 use native.Mathlib.Omega.{arith}
@@ -9,20 +9,13 @@ use lib.Dec.{leb, eqb}
 use borrow.Author.Tests.{ne-eqb, lt-leb}
 use Rattle.lists.specs.Tests.{both}
 use Rattle.kinds.specs.declared.Leaf.the-variants.{Const, Prop, Hold}
-use Rattle.answers.specs.declared.Verdict.{Verdict}
-use Rattle.answers.specs.declared.Verdict.the-variants.{False, True, Pending}
 use Rattle.ltl.specs.Formula.{Formula, leaf, one, two, size, encode}
 use Rattle.ltl.specs.Progression.{verdictOf}
 use Rattle.ltl.proofs.Texts.{size-some}
 use Rattle.state.specs.Clauses.{isConstantIn}
 use Rattle.state.specs.Bytes.{formulaAt}
 use Rattle.passing.proofs.Passing.{SlotPassing}
-
--- true or false
-abbrev pub known : Verdict → Bool
-known False = true
-known True = true
-known Pending = false
+use Rattle.watching.specs.Claims.{known}
 
 test-is : (f : Formula) → both (eqb (size f) 1) (leb (getD (encode f) 0 0) 1) ≡ known (verdictOf f)
 unfolding both

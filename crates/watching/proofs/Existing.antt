@@ -22,7 +22,8 @@ use Rattle.state.specs.Clauses.{inMask, stateOk}
 use Rattle.state.specs.Calls.{finishedIn, sampleSays, sampleLeaves, stepSays, stepLeaves, doneIn}
 use Rattle.state.proofs.Rows.{masks-at}
 use Rattle.passing.proofs.Passing.{passing}
-use Rattle.watching.specs.Watch.{Calls, none, sample, step, Accepted, Saw}
+use Rattle.watching.specs.Watch.{Calls, none, sample, step}
+use Rattle.watching.specs.Claims.{Accepted, Reached}
 use Rattle.watching.proofs.Bits.{and-twice}
 use Rattle.watching.proofs.Framed.{slots-same}
 use Rattle.watching.proofs.Sampling.{sampled, sample-framed, sample-slot, sample-other, sample-other-flag, sample-bits, sample-flag}
@@ -36,13 +37,6 @@ use Rattle.watching.proofs.GoingOn.{sample-accepted, step-accepted, don
 -- what an accepted call leaves
 accepted-leaves : (a : Said) (output before : List ℕ) → a ≡ accepted [] → left a output before ≡ output
 accepted-leaves a output before e = ap (λ (b : Said). left b output before) e ∙ left-accepted [] output before
-
-pub record Reached (s : List ℕ) (e : Event) : Type 0 where
-  pub last : List ℕ
-  pub calls : Calls s last
-  pub all : Accepted calls
-  pub saw : Saw last e
-  pub done : doneIn last ≡ true
 
 module _ (p : ℕ) (masks : List ℕ) (rule : Formula) (us : List Event) (s : List ℕ) (x : Started p masks rule us s) (unfinished : finishedIn s ≡ false) (e : Event) where
   -- a board's sample of the event

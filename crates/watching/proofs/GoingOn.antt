@@ -27,7 +27,7 @@ use Rattle.passing.proofs.Checked.{each-of}
 use Rattle.passing.proofs.Passing.{passing}
 use Rattle.passing.proofs.Held.{slot-holds}
 use Rattle.passing.proofs.Tidy.{tidy-only}
-use Rattle.watching.specs.Watch.{GoesOn, samples, steps, closes, stops}
+use Rattle.watching.specs.Claims.{GoesOn, samples, steps, closes, stops}
 
 -- the last of n flags that is not 1
 record Last (flag : ℕ → ℕ) (n : ℕ) : Type 0 where

@@ -25,7 +25,7 @@ use Rattle.network.proofs.Holding.{holds-map, only-holds}
 use Rattle.network.proofs.Relaying.{AllOk}
 use Rattle.network.proofs.Settling.{slot-ok, Partly, partly-steps}
 use Rattle.network.proofs.Choosing.{masks-choice}
-use Rattle.state.specs.Fields.{boardsIn, slotsIn, ticksIn, maskIn, sampleIn, sampledIn, masksIn, boardOfIn, steppedIn}
+use Rattle.state.specs.Fields.{boardsIn, slotsIn, nodesIn, ticksIn, maskIn, sampleIn, sampledIn, masksIn, boardOfIn, steppedIn}
 use Rattle.state.specs.Clauses.{inMask, stateOk}
 use Rattle.state.specs.Bytes.{formulaAt, networkOf}
 use Rattle.state.specs.Calls.{readyIn, sampleSays, sampleLeaves, stepSays, stepLeaves}
@@ -34,7 +34,7 @@ use Rattle.passing.proofs.Passing.{passing}
 use Rattle.passing.proofs.Held.{slot-holds}
 use Rattle.passing.proofs.Tidy.{tidy-only}
 use Rattle.watching.specs.Watch.{Calls, none, sample, step}
-use Rattle.watching.proofs.Framed.{ticks-same, masks-same}
+use Rattle.watching.proofs.Framed.{nodes-same, ticks-same, masks-same}
 use Rattle.watching.proofs.Slots.{holds-both}
 use Rattle.watching.proofs.Sampling.{sampled, sample-framed, sample-other, sample-passes}
 use Rattle.watching.proofs.Stepping.{after, step-framed, step-sample}
@@ -54,6 +54,7 @@ module _ (s : List ℕ) (begins : stateOk s ≡ true) (laid : AllOk (chosen (mas
   pub record InTick (t : List ℕ) : Type 0 where
     pub passes : stateOk t ≡ true
     pub masks-kept : masksIn t ≡ masksIn s
+    pub nodes-kept : nodesIn t ≡ nodesIn s
     pub ticks-kept : ticksIn t ≡ ticksIn s
     pub partly : PartlyBy (sampleIn t) (networkOf t) (marksOf t)
 
@@ -102,6 +103,7 @@ module _ (s : List ℕ) (begins : stateOk s ≡ true) (laid : AllOk (chosen (mas
           record {
             passes = sample-passes t ok b bits there inside fresh;
             masks-kept = masks-same t t′ f ∙ in-tick .masks-kept;
+            nodes-kept = nodes-same t t′ f ∙ in-tick .nodes-kept;
             ticks-kept = ticks-same t t′ f ∙ in-tick .ticks-kept;
             partly = rw (sample-network t ok b bits there inside fresh, sample-marks t ok b bits there inside fresh) p;
           }
@@ -154,6 +156,7 @@ module _ (s : List ℕ) (begins : stateOk s ≡ true) (laid : AllOk (chosen (mas
             record {
               passes = step-passes t ok k l fresh ready plain;
               masks-kept = masks-same t t′ f ∙ in-tick .masks-kept;
+              nodes-kept = nodes-same t t′ f ∙ in-tick .nodes-kept;
               ticks-kept = ticks-same t t′ f ∙ in-tick .ticks-kept;
               partly = partly-agreed (sampleIn t) (sampleIn t′) (networkOf t′) (marksOf t′) p (λ j h m. sym (step-sample t ok k l (slotAt (networkOf s) j .board) (board-there j h)));
             }

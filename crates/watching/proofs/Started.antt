@@ -22,11 +22,11 @@ use Rattle.network.proofs.Layouts.{each-slot}
 use Rattle.network.proofs.Relaying.{SlotOk, AllOk}
 use Rattle.network.proofs.Watched.{watch-sound}
 use Rattle.network.proofs.Choosing.{masks-choice, masks-own, masks-free}
-use Rattle.state.specs.Fields.{boardsIn, slotsIn, sampledIn, masksIn, steppedIn}
+use Rattle.state.specs.Fields.{boardsIn, slotsIn, nodesIn, ticksIn, sampledIn, masksIn, steppedIn}
 use Rattle.state.specs.Clauses.{slotsMost, stateOk}
 use Rattle.state.specs.Bytes.{nodesOf, stateOf, someFormula, formulaAt, networkOf}
-use Rattle.state.proofs.Reading.{reads-boards, reads-slots, reads-mark, reads-formula, network-reads}
-use Rattle.state.proofs.Fresh.{reads-sampled, reads-masks}
+use Rattle.state.proofs.Reading.{reads-boards, reads-slots, reads-nodes, reads-mark, reads-formula, network-reads}
+use Rattle.state.proofs.Fresh.{reads-sampled, reads-masks, reads-ticks}
 use Rattle.passing.proofs.Passing.{passing}
 use Rattle.watching.specs.Watch.{Loads}
 use Rattle.watching.proofs.Formulas.{plain-clean, clean-within}
@@ -36,6 +36,8 @@ module _ (p : ℕ) (masks : List ℕ) (rule : Formula) where
     pub loads : Loads p masks rule
     pub passes : stateOk s ≡ true
     pub masks-are : masksIn s ≡ masks
+    pub nodes-are : nodesIn s ≡ nodesOf (networkOf s)
+    pub ticks-are : ticksIn s ≡ length us
     pub unsampled : (b : ℕ) → b < boardsIn s → sampledIn s b ≡ 0
     pub unstepped : (k : ℕ) → k < slotsIn s → steppedIn s k ≡ 0
     pub network : Watch (chosen masks) (sampleOf masks) rule us (networkOf s)
@@ -51,7 +53,7 @@ module _ (p : ℕ) (masks : List ℕ) (rule : Formula) where
   started-laid us s x =
       subst (λ (ms : List ℕ). AllOk (chosen ms) (masks-choice ms) (length (networkOf s)) 0 (networkOf s)) (sym (x .masks-are)) (watch-laid (x .loads) us (networkOf s) (x .network))
 
-  module _ (l : Loads p masks rule) (us : List Event) (slots : List Slot) (w : Watch (chosen masks) (sampleOf masks) rule us slots) (ticks : ℕ)
+  module _ (l : Loads p masks rule) (us : List Event) (slots : List Slot) (w : Watch (chosen masks) (sampleOf masks) rule us slots) (ticks : ℕ) (many-ticks : ticks ≡ length us) (few-ticks : ticks < 2 ^ 32)
       (few-slots : length slots ≤ slotsMost) (few-nodes : nodesOf slots ≤ nodesMost) where
     coded : (k : ℕ) → k < length slots → Within 64 64 (slotAt slots k .formula)
     coded k h =
@@ -71,6 +73,8 @@ module _ (p : ℕ) (masks : List ℕ) (rule : Formula) where
           passes = ok;
           masks-are = reads-masks masks slots ticks (l .few-boards) few-slots few-nodes coded
               (λ i h. lt-of-lt-of-le (rule-less p masks (l .follow) i h) (pow-mono (l .few-propositions)));
+          nodes-are = reads-nodes masks slots ticks (l .few-boards) few-slots few-nodes coded ∙ ap nodesOf (sym (network-reads masks slots ticks (l .few-boards) few-slots few-nodes coded));
+          ticks-are = reads-ticks masks slots ticks (l .few-boards) few-slots few-nodes coded few-ticks ∙ many-ticks;
           unsampled = λ b h. reads-sampled masks slots ticks (l .few-boards) few-slots few-nodes coded b (omega arith);
           unstepped = λ k h. reads-mark masks slots ticks (l .few-boards) few-slots few-nodes coded k (omega arith);
           network = subst (λ (ss : List Slot). Watch (chosen masks) (sampleOf masks) rule us ss) (sym (network-reads masks slots ticks (l .few-boards) few-slots few-nodes coded)) w;

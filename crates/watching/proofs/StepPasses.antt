@@ -37,12 +37,13 @@ use Rattle.passing.proofs.Passing.{passing}
 use Rattle.passing.proofs.Held.{slot-holds}
 use Rattle.passing.proofs.Holders.{times, held-times}
 use Rattle.passing.proofs.Stepping.{step-fits}
+use Rattle.watching.specs.Claims.{known}
 use Rattle.watching.proofs.Framed.{Framed, boards-same, slots-same, masks-same, board-of-same, start-same, end-same, header-same, masks-pass, rest-same}
 use Rattle.watching.proofs.Parts.{record-of, formula-of}
 use Rattle.watching.proofs.Slots.{holds-both, mask-of-same, same-reads, same-constant, same-record, same-formula}
 use Rattle.watching.proofs.Once.{held-once}
 use Rattle.watching.proofs.Formulas.{clean-tidy, clean-within, headed-own, step-times}
-use Rattle.watching.proofs.Constants.{known, constant-is}
+use Rattle.watching.proofs.Constants.{constant-is}
 use Rattle.watching.proofs.Stepping.{after, step-framed, step-sample, step-flag, step-slot, step-mark, step-length, step-bytes, step-gap}
 
 module _ (s : List ℕ) (ok : stateOk s ≡ true) (k : ℕ) (l : k < slotsIn s) (fresh : steppedIn s k ≡ 0) (ready : readyIn s k ≡ true)

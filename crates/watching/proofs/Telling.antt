@@ -1,6 +1,6 @@
 -- The verdict that a watch's state tells. At load and after each close it is that of the root's formula (`started-verdict`), and the watch
 -- is finished where that is true or false (`started-finished`). Between closes it stays: calls on a finished watch are refused with 10
--- and leave it as it was (`finished-refuses`, `finished-stays`), and one that is not finished is not finished by them (`calls-unfinished`).
+-- and leave it as it was (`finished-over`), and one that is not finished is not finished by them (`calls-unfinished`).
 -- Assumes nothing.
 use mathlib.Core.Path.{_≡_, refl, sym, ap, ap₂, _∙_}
 use mathlib.Core.Bool.{Bool, true, false, not}
@@ -30,7 +30,8 @@ use Rattle.state.specs.Calls.{finishedIn, verdictIn, doneIn, sampleSays, sample
 use Rattle.state.proofs.Rows.{network-at}
 use Rattle.passing.proofs.Passing.{SlotPassing, passing}
 use Rattle.watching.specs.Watch.{Calls, none, sample, step}
-use Rattle.watching.proofs.Constants.{known, constant-is}
+use Rattle.watching.specs.Claims.{known, Over}
+use Rattle.watching.proofs.Constants.{constant-is}
 use Rattle.watching.proofs.InTick.{slots-kept, slot-kept}
 use Rattle.watching.proofs.Started.{Started, started-laid}
 use Rattle.watching.proofs.Ticked.{started-in-tick}
@@ -69,28 +70,25 @@ refused-leaves : (a : Said) (output before : List ℕ) → a ≡ refused 10 → 
 refused-leaves a output before e = ap (λ (b : Said). left b output before) e ∙ left-refused Finished output before
 
 module _ (s : List ℕ) (ok : stateOk s ≡ true) (finished : finishedIn s ≡ true) where
-  pub record Refuses : Type 0 where
-    pub samples : (board bits : ℕ) → sampleSays s board bits ≡ refused 10
-    pub steps : (k : ℕ) → stepSays s k ≡ refused 10
-    pub closes : closeSays s stateLength ≡ refused 10
+  sample-refused : (board bits : ℕ) → sampleSays s board bits ≡ refused 10
+  unfolding sampleSays
+  sample-refused board bits = order-ok 9 _ _ _ ok ∙ order-refused 10 _ _ _ (ap not finished)
 
-  pub finished-refuses : Refuses
-  unfolding sampleSays stepSays closeSays
-  finished-refuses =
-      record {
-        samples = λ board bits. order-ok 9 _ _ _ ok ∙ order-refused 10 _ _ _ (ap not finished);
-        steps = λ k. order-ok 9 _ _ _ ok ∙ order-refused 10 _ _ _ (ap not finished);
-        closes = order-ok 1 _ _ _ refl ∙ order-ok 9 _ _ _ ok ∙ order-refused 10 _ _ _ (ap not finished);
-      }
+  step-refused : (k : ℕ) → stepSays s k ≡ refused 10
+  unfolding stepSays
+  step-refused k = order-ok 9 _ _ _ ok ∙ order-refused 10 _ _ _ (ap not finished)
 
-  pub finished-stays : {t : List ℕ} → Calls s t → t ≡ s
-  finished-stays none = refl
-  finished-stays (sample {t = t} c board bits) =
-      let e = finished-stays c in
-      ap (λ (u : List ℕ). sampleLeaves u board bits) e ∙ refused-leaves _ _ s (finished-refuses .samples board bits)
-  finished-stays (step {t = t} c k) =
-      let e = finished-stays c in
-      ap (λ (u : List ℕ). stepLeaves u k) e ∙ refused-leaves _ _ s (finished-refuses .steps k)
+  close-refused : closeSays s stateLength ≡ refused 10
+  unfolding closeSays
+  close-refused = order-ok 1 _ _ _ refl ∙ order-ok 9 _ _ _ ok ∙ order-refused 10 _ _ _ (ap not finished)
+
+  calls-stay : {t : List ℕ} → Calls s t → t ≡ s
+  calls-stay none = refl
+  calls-stay (sample c board bits) = ap (λ (u : List ℕ). sampleLeaves u board bits) (calls-stay c) ∙ refused-leaves _ _ s (sample-refused board bits)
+  calls-stay (step c k) = ap (λ (u : List ℕ). stepLeaves u k) (calls-stay c) ∙ refused-leaves _ _ s (step-refused k)
+
+  pub finished-over : Over s
+  finished-over = record { no-sample = sample-refused; no-step = step-refused; no-close = close-refused; stays = λ t c. calls-stay c }
 
 -- ---- a watch's state
 module _ (p : ℕ) (masks : List ℕ) (rule : Formula) (us : List Event) (s : List ℕ) (x : Started p masks rule us s) where

@@ -6,9 +6,9 @@ use mathlib.Core.Bool.{Bool, true, false}
 use mathlib.Core.List.{List, [], _∷_, _++_}
 use Prim.Native.Nat.{ℕ, _+_, _^_, _<_, _≤_}
 use native.Mathlib.Omega.{arith}
-use lib.ListN.{length}
+use lib.ListN.{length, length-append}
 use lib.Dec.{leb, ltb, eqb}
-use borrow.Author.Tests.{leb-true, eqb-true, ne-eqb}
+use borrow.Author.Tests.{leb-true, ltb-true, eqb-true}
 use Rattle.lists.proofs.Tests.{no-true, both-1}
 use Rattle.answers.specs.Said.{Said, accepted, left}
 use Rattle.answers.proofs.Answers.{left-accepted, order-passed}
@@ -38,6 +38,7 @@ use Rattle.watching.proofs.Started.{Started, started-laid, written-star
 -- ---- an accepted close
 pub record Closes (t : List ℕ) : Type 0 where
   pub done : doneIn t ≡ true
+  pub few-ticks : ticksIn t + 1 < 2 ^ 32
   pub few-slots : length (nextIn t) ≤ slotsMost
   pub few-nodes : nodesOf (nextIn t) ≤ nodesMost
 
@@ -45,7 +46,7 @@ pub close-passed : (t : List ℕ) (room : ℕ) → closeSays t room ≡ accepted
 unfolding closeSays
 close-passed t room e =
     let x = order-passed _ (accepted []) (omega arith, (omega arith, (omega arith, (omega arith, (omega arith, (omega arith, (omega arith, tt))))))) (ap (λ (a : Said). a .number) e) in
-    record { done = x .1 .1 .1 .0; few-slots = leb-true _ _ (x .1 .1 .1 .1 .1 .0); few-nodes = leb-true _ _ (x .1 .1 .1 .1 .1 .1 .0) }
+    record { done = x .1 .1 .1 .0; few-ticks = ltb-true _ _ (x .1 .1 .1 .1 .0); few-slots = leb-true _ _ (x .1 .1 .1 .1 .1 .0); few-nodes = leb-true _ _ (x .1 .1 .1 .1 .1 .1 .0) }
 
 pub close-leaves : (t second : List ℕ) → closeSays t (length second) ≡ accepted [] → closeLeaves t second ≡ stateOf (masksIn t) (nextIn t) (ticksIn t + 1)
 close-leaves t second e =
@@ -79,6 +80,7 @@ module _ (s : List ℕ) (begins : stateOk s ≡ true) (laid : AllOk (chosen (mas
       record {
         passes = begins;
         masks-kept = refl;
+        nodes-kept = refl;
         ticks-kept = refl;
         partly =
             record {
@@ -112,16 +114,17 @@ module _ (p : ℕ) (masks : List ℕ) (rule : Formula) where
       let ticks = subst (λ (ms : List ℕ). Ticks (chosen ms) (sampleOf ms e) (networkOf s) (close (chosen ms) (networkOf t))) (x .masks-are)
       (partly-ticks s (x .passes) laid (sampleOf (masksIn s) e) (networkOf t) (marksOf t) agreed (done-marked t (closes .done))) in
       let next = close (chosen masks) (networkOf t) in
+      let counted : ticksIn t + 1 ≡ length (us ++ (e ∷ [])) = omega (arith, i .ticks-kept, x .ticks-are, length-append us (e ∷ [])) in
       let few-slots = subst (λ (ms : List ℕ). length (close (chosen ms) (networkOf t)) ≤ slotsMost) masks-are (closes .few-slots) in
       let few-nodes = subst (λ (ms : List ℕ). nodesOf (close (chosen ms) (networkOf t)) ≤ nodesMost) masks-are (closes .few-nodes) in
       let ok = subst (λ (ms : List ℕ). stateOk (stateOf ms (close (chosen ms) (networkOf t)) (ticksIn t + 1)) ≡ true) masks-are (closed-passes t (i .passes) (closes .done) (closes .few-slots) (closes .few-nodes)) in
-      let after = written-started p masks rule (x .loads) (us ++ (e ∷ [])) next (ticked (x .network) e ticks) (ticksIn t + 1) few-slots few-nodes ok (close-single (chosen masks) (networkOf t)) in
+      let after = written-started p masks rule (x .loads) (us ++ (e ∷ [])) next (ticked (x .network) e ticks) (ticksIn t + 1) counted (closes .few-ticks) few-slots few-nodes ok (close-single (chosen masks) (networkOf t)) in
       subst (λ (y : List ℕ). Started p masks rule (us ++ (e ∷ [])) y)
       (ap (λ (ms : List ℕ). stateOf ms (close (chosen ms) (networkOf t)) (ticksIn t + 1)) (sym masks-are) ∙ sym (tick .leaves ∙ close-leaves t (tick .second) (tick .closes))) after
 
   pub watch-started : {us : List Event} {s : List ℕ} → Watch p masks rule us s → Started p masks rule us s
   watch-started (begun l) =
-      written-started p masks rule l [] _ begun 0 (l .few-slots) (l .few-nodes)
+      written-started p masks rule l [] _ begun 0 refl (omega arith) (l .few-slots) (l .few-nodes)
       (loaded-passes masks p rule (l .follow) (l .some-propositions) (l .few-propositions) (l .some-boards) (l .few-boards) (l .within) (l .few-slots) (l .few-nodes))
       (load-single (chosen masks) rule)
   watch-started (ticked {us = us} {s = s} {s′ = s′} w e t) = tick-started us s s′ e (watch-started w) t

@@ -3,19 +3,18 @@
 use mathlib.Core.Path.{_≡_}
 use mathlib.Core.Bool.{true}
 use mathlib.Core.List.{List, [], _∷_, _++_}
-use mathlib.Core.Logic.{_⊎_}
 use Prim.Native.Nat.{ℕ, _<_, _≤_}
 use lib.ListN.{length}
-use Rattle.answers.specs.Said.{accepted, refused}
+use Rattle.answers.specs.Said.{accepted}
 use Rattle.ltl.specs.Limits.{boardsMost, propositionsMost, nodesMost}
 use Rattle.ltl.specs.Formula.{Formula, Within}
 use Rattle.ltl.specs.Meaning.{Event}
 use Rattle.masks.specs.Masks.{masksRule}
 use Rattle.network.specs.Scores.{sampleOf}
-use Rattle.state.specs.Fields.{stateLength, boardsIn, sampleIn, masksIn}
+use Rattle.state.specs.Fields.{boardsIn, sampleIn, masksIn}
 use Rattle.state.specs.Clauses.{slotsMost}
 use Rattle.state.specs.Bytes.{nodesOf}
-use Rattle.state.specs.Calls.{sampleSays, sampleLeaves, stepSays, stepLeaves, doneIn, closeSays, closeLeaves, firstOf, loadedState}
+use Rattle.state.specs.Calls.{sampleLeaves, stepLeaves, closeSays, closeLeaves, firstOf, loadedState}
 
 -- what an accepted load has checked: the rule file's counts, masks and formula, and the layout's limits
 pub record Loads (p : ℕ) (masks : List ℕ) (rule : Formula) : Type 0 where
@@ -35,12 +34,6 @@ pub data Calls (s : List ℕ) : List ℕ → Type 0 where
   sample : {t : List ℕ} → Calls s t → (board bits : ℕ) → Calls s (sampleLeaves t board bits)
   step : {t : List ℕ} → Calls s t → (k : ℕ) → Calls s (stepLeaves t k)
 
--- every one of these calls was accepted
-abbrev pub Accepted : {s t : List ℕ} → Calls s t → Type 0
-Accepted none = Unit {0}
-Accepted (sample {t = t} c board bits) = Accepted c × (sampleSays t board bits ≡ accepted [])
-Accepted (step {t = t} c k) = Accepted c × (stepSays t k ≡ accepted [])
-
 -- each board has as its sample what its mask lets through of the event
 abbrev pub Saw : List ℕ → Event → Type 0
 Saw t e = (b : ℕ) → b < boardsIn t → sampleIn t b ≡ sampleOf (masksIn t) e b
@@ -58,11 +51,3 @@ pub record Tick (s : List ℕ) (e : Event) (s′ : List ℕ) : Type 0 where
 pub data Watch (p : ℕ) (masks : List ℕ) (rule : Formula) : List Event → List ℕ → Type 0 where
   begun : Loads p masks rule → Watch p masks rule [] (loadedState masks rule)
   ticked : {us : List Event} {s s′ : List ℕ} → Watch p masks rule us s → (e : Event) → Tick s e s′ → Watch p masks rule (us ++ (e ∷ [])) s′
-
--- a state that is not stuck: some sample, some step or the close is accepted; or the close is all that is left, every board having
--- sampled and every slot being stepped, and would get 7, 8 or 15
-pub data GoesOn (t : List ℕ) : Type 0 where
-  samples : (board bits : ℕ) → sampleSays t board bits ≡ accepted [] → GoesOn t
-  steps : (k : ℕ) → stepSays t k ≡ accepted [] → GoesOn t
-  closes : closeSays t stateLength ≡ accepted [] → GoesOn t
-  stops : (n : ℕ) → (n ≡ 7) ⊎ ((n ≡ 8) ⊎ (n ≡ 15)) → doneIn t ≡ true → closeSays t stateLength ≡ refused n → GoesOn t
