@@ -1,5 +1,5 @@
 -- Two ways through one tick, with equal samples, that leave nothing but the close: the networks are the same (`networks-agree`), the close
--- answers the same (`closes-agree`), and what it leaves is the same (`nexts-agree`). Assumes nothing.
+-- answers the same (`left-agrees`), and what it leaves is the same (`nexts-agree`). Assumes nothing.
 use mathlib.Core.Path.{_≡_, sym, ap, ap₂, _∙_}
 use mathlib.Core.Bool.{true}
 use mathlib.Core.List.{List}
@@ -47,9 +47,9 @@ module _ (p : ℕ) (masks : List ℕ) (rule : Formula) (us : List Event) (s : Li
   next-agrees : nextIn t ≡ nextIn u
   next-agrees = ap₂ (λ (ms : List ℕ) (ns : List Slot). close (chosen ms) ns) masks-agree networks-agree
 
-  pub closes-agree : (room : ℕ) → closeSays t room ≡ closeSays u room
+  pub left-agrees : (room : ℕ) → closeSays t room ≡ closeSays u room
   unfolding closeSays
-  closes-agree room =
+  left-agrees room =
       let f = done-unfinished t (passing t (in-t .passes) .header .some-slots) done-t in
       let g = done-unfinished u (passing u (in-u .passes) .header .some-slots) done-u in
       rw (in-t .passes, in-u .passes, f, g, done-t, done-u, next-agrees, ticks-agree)

@@ -22,3 +22,5 @@ pub mod Agreeing
 pub mod GoingOn
 pub mod Events
 pub mod Existing
+pub mod Asking
+pub mod Demand
