@@ -1,4 +1,4 @@
--- Two ways through one tick, with equal samples, that leave nothing but the close: the networks are the same (`networks-agree`), the close
+-- Two ways through one tick, with equal samples, that leave nothing but the close: the networks are the same, the close
 -- answers the same (`left-agrees`), and what it leaves is the same (`nexts-agree`). Assumes nothing.
 use mathlib.Core.Path.{_≡_, sym, ap, ap₂, _∙_}
 use mathlib.Core.Bool.{true}
@@ -30,7 +30,7 @@ module _ (p : ℕ) (masks : List ℕ) (rule : Formula) (us : List Event) (s : Li
   in-u : InTick s (x .passes) (started-laid p masks rule us s x) u
   in-u = started-in-tick p masks rule us s u x b
 
-  pub networks-agree : networkOf t ≡ networkOf u
+  networks-agree : networkOf t ≡ networkOf u
   networks-agree =
       let laid = started-laid p masks rule us s x in
       let moved = partly-agreed s (x .passes) laid (sampleIn t) (sampleIn u) (networkOf t) (marksOf t) (in-t .partly)

@@ -10,7 +10,6 @@ use lib.ListN.{length, getD}
 use lib.Dec.{eqb}
 use Rattle.lists.specs.Tests.{pick}
 use Rattle.answers.specs.Said.{accepted, verdictNumber}
-use Rattle.answers.specs.declared.Verdict.{Verdict}
 use Rattle.answers.specs.declared.Verdict.the-variants.{False, True, Pending}
 use Rattle.answers.proofs.Answers.{order-ok, order-done}
 use Rattle.ltl.specs.Formula.{Formula}

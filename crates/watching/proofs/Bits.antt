@@ -1,4 +1,4 @@
--- Numbers by their bits: `bits-same`, and `and-twice`. Numbers each within a mask of its own, the masks having no bit in common: their
+-- A number's bits within a mask, taken twice: `and-twice`. Numbers each within a mask of its own, the masks having no bit in common: their
 -- union has of each mask the number within it (`union-own`). Assumes nothing.
 use mathlib.Core.Path.{_≡_, sym, ap, _∙_}
 use mathlib.Core.List.{List, [], _∷_}
@@ -19,7 +19,7 @@ bits-below (suc n) a b l m h =
     let high = bits-below n (a / 2) (b / 2) (omega arith) (omega arith) (λ i. sym (bit-suc a i) ∙ h (suc i) ∙ bit-suc b i) in
     omega arith
 
-pub bits-same : (a b : ℕ) → ((i : ℕ) → bitAt a i ≡ bitAt b i) → a ≡ b
+bits-same : (a b : ℕ) → ((i : ℕ) → bitAt a i ≡ bitAt b i) → a ≡ b
 bits-same a b h = bits-below (a + b) a b (omega arith) (omega arith) h
 
 and-bit : (a b i : ℕ) → bitAt (bitAnd a b) i ≡ min (bitAt a i) (bitAt b i)

@@ -4,7 +4,6 @@ use mathlib.Core.Path.{_≡_, sym, ap, _∙_}
 use mathlib.Core.Bool.{true}
 use mathlib.Core.List.{List, [], _∷_}
 use Prim.Native.Nat.{ℕ, _<_}
-use native.Mathlib.Omega.{arith}
 use lib.ListN.{length}
 use Rattle.answers.specs.Said.{accepted, verdictNumber}
 use Rattle.answers.specs.declared.Verdict.the-variants.{False, True, Pending}
@@ -13,7 +12,7 @@ use Rattle.ltl.specs.Meaning.{Event, Trace, Satisfies, continued}
 use Rattle.ltl.specs.Progression.{progressedOver, verdictOf}
 use Rattle.state.specs.Fields.{boardsIn, sampleIn}
 use Rattle.state.specs.Clauses.{stateOk}
-use Rattle.state.specs.Bytes.{nodesOf, formulaAt, networkOf}
+use Rattle.state.specs.Bytes.{nodesOf, networkOf}
 use Rattle.state.specs.Calls.{finishedIn, verdictIn, askSays, doneIn, closeSays, closeLeaves}
 use Rattle.watching.specs.Watch.{Calls, Tick, Watch}
 use Rattle.watching.specs.Claims.{known, GoesOn, Reached, Over}

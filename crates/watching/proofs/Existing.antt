@@ -1,7 +1,7 @@
 -- A tick exists: from a watch's state that is not finished, and for every event, calls that are all accepted lead to a state where the close
 -- is all that is left and every board has seen the event (`tick-reached`). Boards sample from the first up, slots step from the last down.
 -- Assumes nothing.
-use mathlib.Core.Path.{_≡_, sym, ap, ap₂, _∙_, subst}
+use mathlib.Core.Path.{_≡_, sym, ap, _∙_, subst}
 use mathlib.Core.Bool.{true, false}
 use mathlib.Core.List.{List, []}
 use mathlib.Core.Logic.{⊎-elim}
@@ -19,15 +19,14 @@ use Rattle.ltl.specs.Meaning.{Event}
 use Rattle.network.specs.Scores.{sampleOf}
 use Rattle.state.specs.Fields.{boardsIn, slotsIn, maskIn, sampleIn, sampledIn, masksIn, boardOfIn, steppedIn}
 use Rattle.state.specs.Clauses.{inMask, stateOk}
-use Rattle.state.specs.Calls.{finishedIn, sampleSays, sampleLeaves, stepSays, stepLeaves, doneIn}
+use Rattle.state.specs.Calls.{finishedIn, sampleSays, sampleLeaves, stepSays, stepLeaves}
 use Rattle.state.proofs.Rows.{masks-at}
 use Rattle.passing.proofs.Passing.{passing}
 use Rattle.watching.specs.Watch.{Calls, none, sample, step}
 use Rattle.watching.specs.Claims.{Accepted, Reached}
 use Rattle.watching.proofs.Bits.{and-twice}
-use Rattle.watching.proofs.Framed.{slots-same}
-use Rattle.watching.proofs.Sampling.{sampled, sample-framed, sample-slot, sample-other, sample-other-flag, sample-bits, sample-flag}
-use Rattle.watching.proofs.Stepping.{after, step-framed, step-sample, step-flag, step-slot, step-mark}
+use Rattle.watching.proofs.Sampling.{sampled, sample-slot, sample-other, sample-other-flag, sample-bits, sample-flag}
+use Rattle.watching.proofs.Stepping.{after, step-sample, step-flag, step-slot, step-mark}
 use Rattle.watching.proofs.InTick.{InTick, slots-kept, boards-kept}
 use Rattle.watching.proofs.Started.{Started, started-laid}
 use Rattle.watching.proofs.Ticked.{started-in-tick}

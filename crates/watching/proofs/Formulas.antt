@@ -1,7 +1,7 @@
 -- Formulas of slots as laying and stepping leave them, and the tests of the state check: a plain formula is clean (`plain-clean`); a
 -- clean one is tidy (`clean-tidy`) and has propositions below p alone (`clean-within`); a headed one is no lone proposition of another
 -- board (`headed-own`); and a step has no place holder more often than the slot had (`step-times`). Assumes nothing.
-use mathlib.Core.Path.{_≡_, refl, ap, _∙_}
+use mathlib.Core.Path.{_≡_, refl, ap}
 use mathlib.Core.Bool.{true, false, not}
 use mathlib.Core.List.{List}
 use mathlib.Core.Option.{Option}
@@ -20,7 +20,7 @@ use Rattle.ltl.specs.Progression.{resolved, filledBy, filled}
 use Rattle.ltl.proofs.Joining.{joined-elim, negated-elim}
 use Rattle.masks.specs.Masks.{masksRule}
 use Rattle.network.specs.Scores.{chosen}
-use Rattle.network.proofs.Owned.{Free, Clean, Headed, Plain, free-clean}
+use Rattle.network.proofs.Owned.{Clean, Headed, Plain}
 use Rattle.network.proofs.Laying.{HoldsIn}
 use Rattle.network.proofs.Numbers.{timesIn}
 use Rattle.network.proofs.Settling.{free-only}

@@ -15,7 +15,7 @@ use Rattle.le.specs.Le.{leAt}
 use Rattle.le.proofs.Laws.{leAt-same}
 use Rattle.ltl.specs.Limits.{propositionsMost}
 use Rattle.masks.specs.Masks.{sumOnes, masksRule}
-use Rattle.state.specs.Fields.{boardsIn, slotsIn, nodesIn, boardsOffsetIn, slotsOffsetIn, nodesOffsetIn, ticksIn, nodesAt, boardAt, maskIn, masksIn, slotRecordAt, boardOfIn, startIn, stretchEnd}
+use Rattle.state.specs.Fields.{boardsIn, slotsIn, nodesIn, boardsOffsetIn, slotsOffsetIn, nodesOffsetIn, ticksIn, nodesAt, boardAt, masksIn, slotRecordAt, boardOfIn, startIn, stretchEnd}
 use Rattle.state.specs.Clauses.{allZero, headerOk, masksOk, restOk}
 use Rattle.state.proofs.Rows.{masks-length, masks-at}
 

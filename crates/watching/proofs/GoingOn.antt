@@ -1,7 +1,7 @@
 -- No tick gets stuck: `goes-on` for every state within a tick of a watch that is not finished. `sample-accepted` and `step-accepted` are the
 -- calls that are then accepted: a board that has not sampled gives any sample in its mask, and a slot whose board has sampled is stepped
 -- where those of higher numbers are (`above-ready`). Assumes nothing.
-use mathlib.Core.Path.{_≡_, refl, sym, ap, _∙_}
+use mathlib.Core.Path.{_≡_, refl, ap, _∙_}
 use mathlib.Core.Bool.{Bool, true, false, not}
 use mathlib.Core.List.{List, [], _∷_}
 use mathlib.Core.Logic.{_⊎_, inl, inr, ⊎-elim}
@@ -12,8 +12,7 @@ use native.Mathlib.Omega.{arith}
 use lib.ListN.{length}
 use lib.Dec.{leb, ltb, eqb}
 use lib.Bits.{and-zero-l}
-use borrow.Author.Tests.{eqb-true, eq-eqb, lt-ltb}
-use Rattle.lists.specs.Tests.{both}
+use borrow.Author.Tests.{eq-eqb, lt-ltb}
 use Rattle.lists.proofs.Tests.{both-true}
 use Rattle.answers.specs.Said.{accepted, check, inOrder}
 use Rattle.answers.proofs.Answers.{order-ok, order-refused, order-done}

@@ -2,7 +2,7 @@
 -- ticks of s, and its network is that of s partly stepped under the samples that its boards hold (`InTick`). `calls-in-tick`: so is every
 -- state that calls lead to, accepted or refused. `call-elim`: a call has passed its checks, or it leaves the state as it was.
 -- Assumes nothing.
-use mathlib.Core.Path.{_≡_, refl, sym, ap, ap₂, _∙_, subst}
+use mathlib.Core.Path.{_≡_, sym, ap, _∙_, subst}
 use mathlib.Core.Bool.{Bool, true, false}
 use mathlib.Core.List.{List, []}
 use Prim.Native.Nat.{ℕ, _<_}
@@ -10,17 +10,15 @@ use native.Mathlib.Omega.{arith}
 use lib.ListN.{length, set}
 use lib.Dec.{eqb}
 use borrow.Author.Tests.{ltb-true, eqb-true, eq-eqb, ne-eqb}
-use Rattle.lists.proofs.Tests.{no-true, both-1, pick-elim}
+use Rattle.lists.proofs.Tests.{both-1, pick-elim}
 use Rattle.answers.specs.Said.{accepted, left, Check, inOrder}
 use Rattle.answers.proofs.Answers.{Passed, Refusing, order-passed}
-use Rattle.ltl.specs.Formula.{Formula}
 use Rattle.ltl.specs.Meaning.{Event}
 use Rattle.ltl.specs.Progression.{resolved, filled}
 use Rattle.network.specs.Scores.{chosen}
 use Rattle.network.specs.Layout.{Slot, slotAt}
-use Rattle.network.specs.Tick.{holdsOnly, marked, verdictAt, stepped, Steps, rest, step}
+use Rattle.network.specs.Tick.{holdsOnly, marked, verdictAt, stepped, rest, step}
 use Rattle.network.proofs.Owned.{Plain}
-use Rattle.network.proofs.Laying.{HoldsIn}
 use Rattle.network.proofs.Holding.{holds-map, only-holds}
 use Rattle.network.proofs.Relaying.{AllOk}
 use Rattle.network.proofs.Settling.{slot-ok, Partly, partly-steps}
@@ -28,7 +26,7 @@ use Rattle.network.proofs.Choosing.{masks-choice}
 use Rattle.state.specs.Fields.{boardsIn, slotsIn, nodesIn, ticksIn, maskIn, sampleIn, sampledIn, masksIn, boardOfIn, steppedIn}
 use Rattle.state.specs.Clauses.{inMask, stateOk}
 use Rattle.state.specs.Bytes.{formulaAt, networkOf}
-use Rattle.state.specs.Calls.{readyIn, sampleSays, sampleLeaves, stepSays, stepLeaves}
+use Rattle.state.specs.Calls.{readyIn, sampleSays, stepSays}
 use Rattle.state.proofs.Rows.{masks-length, network-length, network-at}
 use Rattle.passing.proofs.Passing.{passing}
 use Rattle.passing.proofs.Held.{slot-holds}
@@ -39,7 +37,7 @@ use Rattle.watching.proofs.Slots.{holds-both}
 use Rattle.watching.proofs.Sampling.{sampled, sample-framed, sample-other, sample-passes}
 use Rattle.watching.proofs.Stepping.{after, step-framed, step-sample}
 use Rattle.watching.proofs.StepPasses.{step-passes}
-use Rattle.watching.proofs.Networks.{marksOf, marks-length, mark-is, sample-network, sample-marks, step-network, step-marks}
+use Rattle.watching.proofs.Networks.{marksOf, mark-is, sample-network, sample-marks, step-network, step-marks}
 
 pub call-elim : (P : List ℕ → Type 0) (cs : List Check) (vs output before : List ℕ) → Refusing cs → (Passed cs → P output) → P before
     → P (left (inOrder cs (accepted vs)) output before)
@@ -86,7 +84,7 @@ module _ (s : List ℕ) (begins : stateOk s ≡ true) (laid : AllOk (chosen (mas
         omega (arith, boards-kept, passing s begins .slots k i .board-there)
 
     -- a stepped slot is on its board still
-    pub board-kept : (k : ℕ) → k < slotsIn t → steppedIn t k ≡ 1 → slotAt (networkOf s) k .board ≡ boardOfIn t k
+    board-kept : (k : ℕ) → k < slotsIn t → steppedIn t k ≡ 1 → slotAt (networkOf s) k .board ≡ boardOfIn t k
     board-kept k l e =
         let n = slots-kept in
         let h = in-tick .partly .done k (omega (arith, network-length s)) (mark-is t k l ∙ eq-eqb _ _ e) in

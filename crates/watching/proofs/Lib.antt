@@ -24,3 +24,4 @@ pub mod Events
 pub mod Existing
 pub mod Asking
 pub mod Demand
+pub mod Worked

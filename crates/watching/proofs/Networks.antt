@@ -1,24 +1,21 @@
 -- The network of a state and its slots' marks after a call: `network-is` has the network by its slots, `marksOf` and `mark-is` the marks;
 -- `sample-network`, `sample-marks`, `step-network`, `step-marks` are the two calls. Assumes nothing.
-use mathlib.Core.Path.{_≡_, refl, sym, ap, ap₂, _∙_, subst}
+use mathlib.Core.Path.{_≡_, sym, ap, ap₂, _∙_, subst}
 use mathlib.Core.Bool.{Bool, true, false}
-use mathlib.Core.List.{List, [], _∷_}
-use mathlib.Core.Option.{Option}
-use Prim.Native.Nat.{ℕ, zero, suc, _<_}
+use mathlib.Core.List.{List}
+use Prim.Native.Nat.{ℕ, _<_}
 use native.Mathlib.Decide.{ℕ-discrete}
 use native.Mathlib.Omega.{arith}
-use lib.ListN.{length, getD, set, length-set}
+use lib.ListN.{length, set, length-set}
 use lib.Seq.{getD-set-same, getD-set-other, ext-getD}
 use lib.Dec.{eqb}
 use borrow.Author.Tests.{eq-eqb}
 use Rattle.ltl.specs.Formula.{Formula, constant}
 use Rattle.ltl.specs.Progression.{resolved, filled, verdictOf}
-use Rattle.masks.specs.Masks.{sumOnes}
 use Rattle.network.specs.Scores.{chosen}
 use Rattle.network.specs.Layout.{Slot, slotAt}
 use Rattle.network.specs.Tick.{marked, verdictAt, stepped}
 use Rattle.network.proofs.Owned.{Plain}
-use Rattle.network.proofs.Laying.{HoldsIn}
 use Rattle.network.proofs.Holding.{holds-map}
 use Rattle.network.proofs.Settling.{filled-same}
 use Rattle.state.specs.Fields.{boardsIn, slotsIn, maskIn, sampleIn, sampledIn, masksIn, boardOfIn, steppedIn}
@@ -30,7 +27,7 @@ use Rattle.passing.proofs.Passing.{passing}
 use Rattle.passing.proofs.Held.{slot-holds}
 use Rattle.watching.proofs.Listed.{listed, listed-length, listed-at}
 use Rattle.watching.proofs.Framed.{slots-same, board-of-same}
-use Rattle.watching.proofs.Slots.{SameSlot, same-formula-at}
+use Rattle.watching.proofs.Slots.{same-formula-at}
 use Rattle.watching.proofs.Sampling.{sampled, sample-framed, sample-slot}
 use Rattle.watching.proofs.Stepping.{after, step-framed, step-slot, step-mark}
 use Rattle.watching.proofs.StepPasses.{step-reads}

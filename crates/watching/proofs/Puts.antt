@@ -1,7 +1,7 @@
 -- Bytes put in the place of others: how long the list stays (`put-length`), the bytes elsewhere (`put-other`), and what was put
 -- (`put-field`, `put-byte`, `put-run`). Also runs of bytes that two lists have in common (`run-same`). Assumes nothing.
 use mathlib.Core.Path.{_≡_, sym, ap, _∙_}
-use mathlib.Core.List.{List, _++_, append-assoc}
+use mathlib.Core.List.{List, _++_}
 use Prim.Native.Nat.{ℕ, _+_, _-_, _<_, _≤_}
 use native.Mathlib.Decide.{decLt}
 use native.Mathlib.Omega.{arith}

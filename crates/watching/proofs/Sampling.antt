@@ -5,7 +5,7 @@ use mathlib.Core.Path.{_≡_, refl, sym, ap, ap₂, _∙_, subst}
 use mathlib.Core.Bool.{true}
 use mathlib.Core.List.{List, [], _∷_, _++_}
 use mathlib.Core.Option.{Option}
-use Prim.Native.Nat.{ℕ, _+_, _*_, _^_, _<_, _≤_}
+use Prim.Native.Nat.{ℕ, _+_, _^_, _<_, _≤_}
 use native.Mathlib.Nat.{lt-of-lt-of-le, mod-eq-of-lt}
 use native.Mathlib.Decide.{ℕ-discrete}
 use native.Mathlib.Omega.{arith}
@@ -22,7 +22,7 @@ use Rattle.ltl.specs.Formula.{Formula}
 use Rattle.masks.proofs.Exact.{rule-less}
 use Rattle.masks.specs.Masks.{sumOnes}
 use Rattle.checking.proofs.Each.{each-at}
-use Rattle.state.specs.Fields.{boardsIn, slotsIn, slotsAt, boardAt, maskIn, sampleIn, sampledIn, masksIn, formulaIn}
+use Rattle.state.specs.Fields.{boardsIn, slotsIn, boardAt, maskIn, sampleIn, sampledIn, masksIn, formulaIn}
 use Rattle.state.specs.Clauses.{inMask, heldOf, boardOk, recordOk, formulaOk, gapOk, stateOk}
 use Rattle.state.specs.Calls.{putAt}
 use Rattle.state.proofs.Rows.{masks-length, masks-at}

@@ -1,13 +1,12 @@
 -- A slot that a call does not touch: two framed states have its record and its stretch in common (`SameSlot`, by `same-slot`), so that
 -- the state check's clauses about it pass in the second where they pass in the first (`same-record`, `same-formula`). Assumes nothing.
 use mathlib.Core.Path.{_≡_, sym, ap, ap₂, _∙_}
-use mathlib.Core.Bool.{Bool, true, false}
+use mathlib.Core.Bool.{true, false}
 use mathlib.Core.List.{List}
 use Prim.Native.Nat.{ℕ, _+_, _-_, _<_, _≤_}
 use native.Mathlib.Omega.{arith}
-use lib.ListN.{length, getD, take, drop}
+use lib.ListN.{getD, take, drop}
 use lib.Dec.{leb, eqb}
-use borrow.Author.Tests.{ltb-true}
 use Rattle.lists.specs.Tests.{both}
 use Rattle.le.specs.Le.{leAt}
 use Rattle.kinds.specs.declared.Leaf.the-variants.{Const, Prop, Hold}

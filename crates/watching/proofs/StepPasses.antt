@@ -1,37 +1,33 @@
 -- An accepted step of a plain slot keeps the state check: `step-passes`. The slot's formula is then what it became (`step-reads`).
 -- Plain is what the state check cannot see: a slot `5 65` on the board of a passes it, and its step makes a lone proposition of
 -- another board. Assumes nothing.
-use mathlib.Core.Path.{_≡_, sym, ap, ap₂, _∙_, subst}
+use mathlib.Core.Path.{_≡_, sym, ap, _∙_, subst}
 use mathlib.Core.Bool.{true, false}
 use mathlib.Core.List.{List}
 use mathlib.Core.Option.{Option, some}
 use Prim.Native.Nat.{ℕ, _<_, _≤_}
 use native.Mathlib.Decide.{ℕ-discrete}
 use native.Mathlib.Omega.{arith}
-use lib.ListN.{getD}
 use lib.Dec.{eqb}
 use borrow.Author.Tests.{eqb-true}
 use Rattle.lists.proofs.Tests.{both-0, both-1}
-use Rattle.answers.specs.declared.Verdict.{Verdict}
 use Rattle.answers.specs.declared.Verdict.the-variants.{Pending}
-use Rattle.ltl.specs.Formula.{Formula, Within, size}
+use Rattle.ltl.specs.Formula.{Formula, Within}
 use Rattle.ltl.specs.Text.{textOf}
 use Rattle.ltl.specs.Progression.{verdictOf}
 use Rattle.ltl.proofs.Texts.{text-of, size-some, wider}
 use Rattle.masks.specs.Masks.{sumOnes}
 use Rattle.checking.proofs.Each.{each-at}
 use Rattle.network.specs.Scores.{chosen}
-use Rattle.network.specs.Tick.{holdsOnly}
 use Rattle.network.proofs.Owned.{Clean, Headed, Plain, stepped-clean, stepped-headed}
 use Rattle.network.proofs.Laying.{HoldsIn}
 use Rattle.network.proofs.Holding.{holds-map, only-holds}
-use Rattle.network.proofs.Numbers.{timesIn}
 use Rattle.network.proofs.Ticking.{stepped-holds}
-use Rattle.state.specs.Fields.{boardsIn, slotsIn, maskIn, sampleIn, sampledIn, masksIn, boardOfIn, steppedIn, formulaIn}
-use Rattle.state.specs.Clauses.{tidy, loneOther, isConstantIn, heldOf, heldBy, boardOk, recordOk, formulaOk, gapOk, stateOk}
+use Rattle.state.specs.Fields.{boardsIn, slotsIn, sampleIn, sampledIn, masksIn, boardOfIn, steppedIn, formulaIn}
+use Rattle.state.specs.Clauses.{loneOther, isConstantIn, heldOf, boardOk, recordOk, formulaOk, gapOk, stateOk}
 use Rattle.state.specs.Bytes.{formulaAt}
 use Rattle.state.specs.Calls.{readyIn, steppedTo}
-use Rattle.state.proofs.Rows.{masks-length, masks-at}
+use Rattle.state.proofs.Rows.{masks-at}
 use Rattle.passing.proofs.Checked.{checked, checked-of, each-of}
 use Rattle.passing.proofs.Passing.{passing}
 use Rattle.passing.proofs.Held.{slot-holds}

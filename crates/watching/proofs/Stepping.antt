@@ -3,7 +3,7 @@
 -- Assumes nothing.
 use mathlib.Core.Path.{_≡_, refl, sym, ap, ap₂, _∙_}
 use mathlib.Core.Bool.{true}
-use mathlib.Core.List.{List, [], _∷_, _++_, append-assoc, append-nil}
+use mathlib.Core.List.{List, [], _++_, append-assoc, append-nil}
 use mathlib.Core.Logic.{_⊎_, inl, inr, ⊎-elim}
 use Prim.Native.Nat.{ℕ, _+_, _-_, _*_, _^_, _<_, _≤_}
 use native.Mathlib.Nat.{mod-eq-of-lt}
@@ -16,7 +16,7 @@ use Rattle.le.specs.Le.{le, leAt}
 use Rattle.le.proofs.Laws.{le-length, leAt-same, leAt-le}
 use Rattle.ltl.specs.Formula.{Formula, size, encode}
 use Rattle.ltl.proofs.Texts.{length-encode}
-use Rattle.state.specs.Fields.{boardsIn, slotsIn, nodesIn, nodesAt, slotsAt, boardAt, sampleIn, sampledIn, slotRecordAt, steppedIn, startIn, lengthIn, stretchEnd, slotBytes}
+use Rattle.state.specs.Fields.{boardsIn, slotsIn, nodesIn, nodesAt, boardAt, sampleIn, sampledIn, slotRecordAt, steppedIn, startIn, lengthIn, stretchEnd, slotBytes}
 use Rattle.state.specs.Clauses.{allZero, gapOk, stateOk}
 use Rattle.state.specs.Calls.{putAt, steppedTo}
 use Rattle.state.proofs.Fresh.{zeros-zero}
@@ -176,16 +176,18 @@ module _ (s : List ℕ) (ok : stateOk s ≡ true) (k : ℕ) (l : k < slotsIn s) 
       ap₂ (λ (n i : ℕ). take n (drop i after)) step-length e ∙ ap (take (size result)) from-start
       ∙ take-at (encode result) (replicate gap 0 ++ beyond) (size result) (length-encode result)
 
+  from-end : drop (node + size result) after ≡ replicate gap 0 ++ beyond
+  from-end =
+      sym (drop-drop (size result) node after) ∙ ap (drop (size result)) from-start
+      ∙ drop-at (encode result) (replicate gap 0 ++ beyond) (size result) (length-encode result)
+
   pub step-gap : steppedIn s k ≡ 0 → gapOk after k ≡ true
   unfolding gapOk
   step-gap fresh =
       let f = step-framed in
       let x = passing s ok .slots k l in
       let n = length-encode result in
-      let d : drop (node + size result) after ≡ replicate gap 0 ++ beyond =
-      sym (drop-drop (size result) node after) ∙ ap (drop (size result)) from-start ∙ drop-at (encode result) (replicate gap 0 ++ beyond) (size result) n in
       let width : stretchEnd after k - (startIn after k + lengthIn after k) ≡ gap = omega (arith, end-same s after f k l, start-same s after f k l, step-length, x .fills fresh, step-fits s ok k l) in
       let place : nodesAt (boardsIn after) (slotsIn after) + (startIn after k + lengthIn after k) ≡ node + size result = omega (arith, nodes-at-same s after f, start-same s after f k l, step-length) in
-      ap₂ (λ (i j : ℕ). allZero (take i (drop j after))) width place
-      ∙ ap (λ (x : List ℕ). allZero (take gap x)) d
-      ∙ ap allZero (take-at (replicate gap 0) beyond gap (length-replicate gap 0)) ∙ zeros-zero gap
+      let rest : take gap (drop (node + size result) after) ≡ replicate gap 0 = ap (take gap) from-end ∙ take-at (replicate gap 0) beyond gap (length-replicate gap 0) in
+      ap₂ (λ (i j : ℕ). allZero (take i (drop j after))) width place ∙ ap allZero rest ∙ zeros-zero gap

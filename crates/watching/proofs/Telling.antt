@@ -4,18 +4,17 @@
 -- Assumes nothing.
 use mathlib.Core.Path.{_≡_, refl, sym, ap, ap₂, _∙_}
 use mathlib.Core.Bool.{Bool, true, false, not}
-use mathlib.Core.List.{List, [], _∷_}
+use mathlib.Core.List.{List}
 use Prim.Native.Nat.{ℕ, _<_}
 use native.Mathlib.Omega.{arith}
 use lib.ListN.{getD}
 use lib.Dec.{eqb}
 use borrow.Author.Tests.{eqb-true, eq-eqb}
-use Rattle.lists.specs.Tests.{pick, both}
+use Rattle.lists.specs.Tests.{pick}
 use Rattle.lists.proofs.Tests.{no-true, both-0, both-1, both-true}
 use Rattle.kinds.specs.declared.Leaf.the-variants.{Const, Prop, Hold}
-use Rattle.answers.specs.Said.{Said, accepted, refused, left}
+use Rattle.answers.specs.Said.{Said, refused, left}
 use Rattle.answers.specs.declared.Refusal.the-variants.{Finished}
-use Rattle.answers.specs.declared.Verdict.{Verdict}
 use Rattle.answers.specs.declared.Verdict.the-variants.{False, True, Pending}
 use Rattle.answers.proofs.Answers.{left-refused, order-ok, order-refused}
 use Rattle.ltl.specs.Formula.{Formula, leaf, one, two, constant, encode}
@@ -23,9 +22,9 @@ use Rattle.ltl.specs.Meaning.{Event}
 use Rattle.ltl.specs.Progression.{verdictOf}
 use Rattle.checking.proofs.Each.{each-at}
 use Rattle.network.specs.Layout.{Slot}
-use Rattle.state.specs.Fields.{stateLength, slotsIn, steppedIn, slotBytes}
+use Rattle.state.specs.Fields.{stateLength, slotsIn, steppedIn}
 use Rattle.state.specs.Clauses.{isConstantIn, stateOk}
-use Rattle.state.specs.Bytes.{formulaAt, networkOf}
+use Rattle.state.specs.Bytes.{formulaAt}
 use Rattle.state.specs.Calls.{finishedIn, verdictIn, doneIn, sampleSays, sampleLeaves, stepSays, stepLeaves, closeSays}
 use Rattle.state.proofs.Rows.{network-at}
 use Rattle.passing.proofs.Passing.{SlotPassing, passing}
@@ -45,15 +44,14 @@ finished-of : (s : List ℕ) → slotsIn s ≡ 1 → steppedIn s 0 ≡ 0 → isC
 unfolding finishedIn
 finished-of s a b c = both-true _ _ (eq-eqb _ _ a) (both-true _ _ (eq-eqb _ _ b) c)
 
--- what a finished state is
+-- what a finished state's root is
 pub record Ended (s : List ℕ) : Type 0 where
-  pub one-slot : slotsIn s ≡ 1
   pub unstepped : steppedIn s 0 ≡ 0
   pub constant : isConstantIn s 0 ≡ true
 
 ended : (s : List ℕ) → finishedIn s ≡ true → Ended s
 unfolding finishedIn
-ended s e = let a = both-1 _ _ e in record { one-slot = eqb-true _ _ (both-0 _ _ e); unstepped = eqb-true _ _ (both-0 _ _ a); constant = both-1 _ _ a }
+ended s e = let a = both-1 _ _ e in record { unstepped = eqb-true _ _ (both-0 _ _ a); constant = both-1 _ _ a }
 
 not-finished : (s : List ℕ) (b : Bool) → finishedIn s ≡ b → (Ended s → ⊥) → finishedIn s ≡ false
 not-finished s true e h = absurd (h (ended s e))

@@ -2,14 +2,14 @@
 -- So every state of a watch is one (`watch-started`), and every state that calls lead to from there is within a tick (`started-in-tick`).
 -- `close-passed` and `close-leaves` are an accepted close. Assumes nothing.
 use mathlib.Core.Path.{_≡_, refl, sym, ap, _∙_, subst}
-use mathlib.Core.Bool.{Bool, true, false}
+use mathlib.Core.Bool.{Bool, true}
 use mathlib.Core.List.{List, [], _∷_, _++_}
 use Prim.Native.Nat.{ℕ, _+_, _^_, _<_, _≤_}
 use native.Mathlib.Omega.{arith}
 use lib.ListN.{length, length-append}
-use lib.Dec.{leb, ltb, eqb}
+use lib.Dec.{eqb}
 use borrow.Author.Tests.{leb-true, ltb-true, eqb-true}
-use Rattle.lists.proofs.Tests.{no-true, both-1}
+use Rattle.lists.proofs.Tests.{both-1}
 use Rattle.answers.specs.Said.{Said, accepted, left}
 use Rattle.answers.proofs.Answers.{left-accepted, order-passed}
 use Rattle.ltl.specs.Limits.{nodesMost}
@@ -22,14 +22,14 @@ use Rattle.network.specs.Tick.{marked, AllMarked, Ticks, begun, ticked}
 use Rattle.network.proofs.Relaying.{AllOk}
 use Rattle.network.proofs.Settling.{partly-start, partly-steps, partly-agree, ticks-exist}
 use Rattle.network.proofs.Choosing.{masks-choice}
-use Rattle.state.specs.Fields.{boardsIn, slotsIn, ticksIn, masksIn, sampleIn, steppedIn}
+use Rattle.state.specs.Fields.{slotsIn, ticksIn, masksIn, sampleIn, steppedIn}
 use Rattle.state.specs.Clauses.{slotsMost, stateOk}
 use Rattle.state.specs.Bytes.{nodesOf, stateOf, networkOf}
-use Rattle.state.specs.Calls.{finishedIn, doneIn, nextIn, closeSays, closeLeaves}
+use Rattle.state.specs.Calls.{doneIn, nextIn, closeSays, closeLeaves}
 use Rattle.state.proofs.Rows.{network-length}
 use Rattle.passing.proofs.Loaded.{loaded-passes}
 use Rattle.passing.proofs.Closed.{closed-passes}
-use Rattle.watching.specs.Watch.{Loads, Calls, Saw, Tick, Watch, begun, ticked}
+use Rattle.watching.specs.Watch.{Calls, Tick, Watch, begun, ticked}
 use Rattle.watching.proofs.Networks.{marksOf, marks-length, mark-is}
 use Rattle.watching.proofs.InTick.{PartlyBy, InTick, partly-agreed, board-there, calls-in-tick}
 use Rattle.watching.proofs.Single.{load-single, close-single}
@@ -102,7 +102,7 @@ module _ (p : ℕ) (masks : List ℕ) (rule : Formula) where
   pub started-in-tick : (us : List Event) (s t : List ℕ) (x : Started p masks rule us s) → Calls s t → InTick s (x .passes) (started-laid p masks rule us s x) t
   started-in-tick us s t x c = calls-in-tick s (x .passes) (started-laid p masks rule us s x) c (start-in-tick s (x .passes) (started-laid p masks rule us s x) (x .unstepped))
 
-  pub tick-started : (us : List Event) (s s′ : List ℕ) (e : Event) → Started p masks rule us s → Tick s e s′ → Started p masks rule (us ++ (e ∷ [])) s′
+  tick-started : (us : List Event) (s s′ : List ℕ) (e : Event) → Started p masks rule us s → Tick s e s′ → Started p masks rule (us ++ (e ∷ [])) s′
   tick-started us s s′ e x tick =
       let t = tick .last in
       let laid = started-laid p masks rule us s x in
