@@ -17,7 +17,7 @@ use Rattle.state.specs.Calls.{doneIn, nextIn, closeSays}
 use Rattle.passing.proofs.Passing.{passing}
 use Rattle.watching.specs.Watch.{Calls}
 use Rattle.watching.proofs.Networks.{marksOf}
-use Rattle.watching.proofs.InTick.{InTick, partly-agreed, board-there, boards-kept}
+use Rattle.watching.proofs.InTick.{InTick, steps-partly, steps-by, board-there, boards-kept}
 use Rattle.watching.proofs.Started.{Started, started-laid}
 use Rattle.watching.proofs.Ticked.{started-in-tick, done-marked}
 use Rattle.watching.proofs.Telling.{done-unfinished}
@@ -33,10 +33,11 @@ module _ (p : ℕ) (masks : List ℕ) (rule : Formula) (us : List Event) (s : Li
   networks-agree : networkOf t ≡ networkOf u
   networks-agree =
       let laid = started-laid p masks rule us s x in
-      let moved = partly-agreed s (x .passes) laid (sampleIn t) (sampleIn u) (networkOf t) (marksOf t) (in-t .partly)
+      let moved = steps-by s (x .passes) laid (sampleIn t) (sampleIn u) (networkOf t) (marksOf t) (in-t .steps)
       (λ k l m. same (slotAt (networkOf s) k .board) (omega (arith, board-there s (x .passes) laid t in-t k l, boards-kept s (x .passes) laid t in-t))) in
       partly-agree (chosen (masksIn s)) (masks-choice (masksIn s)) (sampleIn u) (networkOf s) laid (networkOf t) (networkOf u) (marksOf t) (marksOf u)
-      moved (done-marked t done-t) (in-u .partly) (done-marked u done-u)
+      (steps-partly s (x .passes) laid (sampleIn u) (networkOf t) (marksOf t) moved) (done-marked t done-t)
+      (steps-partly s (x .passes) laid (sampleIn u) (networkOf u) (marksOf u) (in-u .steps)) (done-marked u done-u)
 
   masks-agree : masksIn t ≡ masksIn u
   masks-agree = in-t .masks-kept ∙ sym (in-u .masks-kept)

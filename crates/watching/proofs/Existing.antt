@@ -31,7 +31,7 @@ use Rattle.watching.proofs.InTick.{InTick, slots-kept, boards-kept}
 use Rattle.watching.proofs.Started.{Started, started-laid}
 use Rattle.watching.proofs.Ticked.{started-in-tick}
 use Rattle.watching.proofs.Telling.{calls-unfinished}
-use Rattle.watching.proofs.GoingOn.{sample-accepted, step-accepted, done-of}
+use Rattle.watching.proofs.GoingOn.{sample-accepted, step-accepted, close-left, done-of}
 
 -- what an accepted call leaves
 accepted-leaves : (a : Said) (output before : List ℕ) → a ≡ accepted [] → left a output before ≡ output
@@ -171,11 +171,13 @@ module _ (p : ℕ) (masks : List ℕ) (rule : Formula) (us : List Event) (s : Li
       let laid = started-laid p masks rule us s x in
       let q = slots-kept s (x .passes) laid t i in
       let n = boards-kept s (x .passes) laid t i in
+      let going = calls-unfinished p masks rule us s x t (m .calls) unfinished in
+      let done = done-of t (i .passes) going (λ b h. m .progress .given b (omega arith) (omega arith) .0) (λ k h. m .progress .stepped k (omega arith) (omega arith)) in
       record {
         last = t;
         calls = m .calls;
         all = m .all;
         saw = λ b h. m .progress .given b (omega arith) (omega arith) .1 ∙ ap (λ (ms : List ℕ). sampleOf ms e b) (sym (i .masks-kept));
-        done = done-of t (i .passes) (calls-unfinished p masks rule us s x t (m .calls) unfinished)
-            (λ b h. m .progress .given b (omega arith) (omega arith) .0) (λ k h. m .progress .stepped k (omega arith) (omega arith));
+        done = done;
+        closing = close-left t (i .passes) going done;
       }

@@ -26,7 +26,7 @@ use Rattle.passing.proofs.Checked.{each-of}
 use Rattle.passing.proofs.Passing.{passing}
 use Rattle.passing.proofs.Held.{slot-holds}
 use Rattle.passing.proofs.Tidy.{tidy-only}
-use Rattle.watching.specs.Claims.{GoesOn, samples, steps, closes, stops}
+use Rattle.watching.specs.Claims.{Closing, accepts, refuses, GoesOn, samples, steps, closes}
 
 -- the last of n flags that is not 1
 record Last (flag : ℕ → ℕ) (n : ℕ) : Type 0 where
@@ -74,20 +74,20 @@ module _ (t : List ℕ) (ok : stateOk t ≡ true) (unfinished : finishedIn t ≡
     unfolding closeSays
     to-ticks = order-ok 1 _ _ _ refl ∙ order-ok 9 _ _ _ ok ∙ order-ok 10 _ _ _ (ap not unfinished) ∙ order-ok 14 _ _ _ done
 
-    close-left : GoesOn t
+    pub close-left : Closing t
     close-left = ticks (ltb (ticksIn t + 1) (2 ^ 32)) refl
       where
-        nodes : ltb (ticksIn t + 1) (2 ^ 32) ≡ true → leb (length (nextIn t)) slotsMost ≡ true → (b : Bool) → leb (nodesOf (nextIn t)) nodesMost ≡ b → GoesOn t
-        nodes d e true f = closes (to-ticks ∙ order-ok 15 _ _ _ d ∙ order-ok 7 _ _ _ e ∙ order-ok 8 _ _ _ f ∙ order-done _)
-        nodes d e false f = stops 8 (inr (inl refl)) done (to-ticks ∙ order-ok 15 _ _ _ d ∙ order-ok 7 _ _ _ e ∙ order-refused 8 _ _ _ f)
+        nodes : ltb (ticksIn t + 1) (2 ^ 32) ≡ true → leb (length (nextIn t)) slotsMost ≡ true → (b : Bool) → leb (nodesOf (nextIn t)) nodesMost ≡ b → Closing t
+        nodes d e true f = accepts (to-ticks ∙ order-ok 15 _ _ _ d ∙ order-ok 7 _ _ _ e ∙ order-ok 8 _ _ _ f ∙ order-done _)
+        nodes d e false f = refuses 8 (inr (inl refl)) (to-ticks ∙ order-ok 15 _ _ _ d ∙ order-ok 7 _ _ _ e ∙ order-refused 8 _ _ _ f)
 
-        slots : ltb (ticksIn t + 1) (2 ^ 32) ≡ true → (b : Bool) → leb (length (nextIn t)) slotsMost ≡ b → GoesOn t
+        slots : ltb (ticksIn t + 1) (2 ^ 32) ≡ true → (b : Bool) → leb (length (nextIn t)) slotsMost ≡ b → Closing t
         slots d true e = nodes d e (leb (nodesOf (nextIn t)) nodesMost) refl
-        slots d false e = stops 7 (inl refl) done (to-ticks ∙ order-ok 15 _ _ _ d ∙ order-refused 7 _ _ _ e)
+        slots d false e = refuses 7 (inl refl) (to-ticks ∙ order-ok 15 _ _ _ d ∙ order-refused 7 _ _ _ e)
 
-        ticks : (b : Bool) → ltb (ticksIn t + 1) (2 ^ 32) ≡ b → GoesOn t
+        ticks : (b : Bool) → ltb (ticksIn t + 1) (2 ^ 32) ≡ b → Closing t
         ticks true d = slots d (leb (length (nextIn t)) slotsMost) refl
-        ticks false d = stops 15 (inr (inr refl)) done (to-ticks ∙ order-refused 15 _ _ _ d)
+        ticks false d = refuses 15 (inr (inr refl)) (to-ticks ∙ order-refused 15 _ _ _ d)
 
   zero-flag : (n : ℕ) → n ≤ 1 → (n ≡ 1 → ⊥) → n ≡ 0
   zero-flag n a b = omega arith
@@ -101,7 +101,7 @@ module _ (t : List ℕ) (ok : stateOk t ≡ true) (unfinished : finishedIn t ≡
   goes-on = boards (last-unset (sampledIn t) (boardsIn t))
     where
       slots : ((b : ℕ) → b < boardsIn t → sampledIn t b ≡ 1) → ((k : ℕ) → k < slotsIn t → steppedIn t k ≡ 1) ⊎ Last (steppedIn t) (slotsIn t) → GoesOn t
-      slots sampled (inl stepped) = close-left (done-of sampled stepped)
+      slots sampled (inl stepped) = let done = done-of sampled stepped in closes done (close-left done)
       slots sampled (inr r) =
           let k = r .place in
           let x = passing t ok .slots k (r .below) in

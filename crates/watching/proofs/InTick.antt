@@ -1,27 +1,27 @@
 -- What every state within a tick is, from a state s whose slots are as laying leaves them: it passes its check, has the masks and the
--- ticks of s, and its network is that of s partly stepped under the samples that its boards hold (`InTick`). `calls-in-tick`: so is every
--- state that calls lead to, accepted or refused. `call-elim`: a call has passed its checks, or it leaves the state as it was.
+-- ticks of s, and its network is that of s after the steps that are marked, under the samples that its boards hold (`InTick`).
+-- `calls-in-tick`: so is every state that calls lead to, accepted or refused. `call-elim`: a call has passed its checks, or it leaves the
+-- state as it was.
 -- Assumes nothing.
 use mathlib.Core.Path.{_≡_, sym, ap, _∙_, subst}
 use mathlib.Core.Bool.{Bool, true, false}
 use mathlib.Core.List.{List, []}
 use Prim.Native.Nat.{ℕ, _<_}
 use native.Mathlib.Omega.{arith}
-use lib.ListN.{length, set}
+use lib.ListN.{length, set, replicate, length-replicate}
 use lib.Dec.{eqb}
 use borrow.Author.Tests.{ltb-true, eqb-true, eq-eqb, ne-eqb}
 use Rattle.lists.proofs.Tests.{both-1, pick-elim}
 use Rattle.answers.specs.Said.{accepted, left, Check, inOrder}
 use Rattle.answers.proofs.Answers.{Passed, Refusing, order-passed}
 use Rattle.ltl.specs.Meaning.{Event}
-use Rattle.ltl.specs.Progression.{resolved, filled}
 use Rattle.network.specs.Scores.{chosen}
 use Rattle.network.specs.Layout.{Slot, slotAt}
-use Rattle.network.specs.Tick.{holdsOnly, marked, verdictAt, stepped, rest, step}
+use Rattle.network.specs.Tick.{holdsOnly, marked, stepped, Steps}
 use Rattle.network.proofs.Owned.{Plain}
 use Rattle.network.proofs.Holding.{holds-map, only-holds}
 use Rattle.network.proofs.Relaying.{AllOk}
-use Rattle.network.proofs.Settling.{slot-ok, Partly, partly-steps}
+use Rattle.network.proofs.Settling.{slot-ok, Partly, partly-start, partly-steps}
 use Rattle.network.proofs.Choosing.{masks-choice}
 use Rattle.state.specs.Fields.{boardsIn, slotsIn, nodesIn, ticksIn, maskIn, sampleIn, sampledIn, masksIn, boardOfIn, steppedIn}
 use Rattle.state.specs.Clauses.{inMask, stateOk}
@@ -37,6 +37,7 @@ use Rattle.watching.proofs.Slots.{holds-both}
 use Rattle.watching.proofs.Sampling.{sampled, sample-framed, sample-other, sample-passes}
 use Rattle.watching.proofs.Stepping.{after, step-framed, step-sample}
 use Rattle.watching.proofs.StepPasses.{step-passes}
+use Rattle.watching.proofs.Resampled.{steps-more, steps-agreed}
 use Rattle.watching.proofs.Networks.{marksOf, mark-is, sample-network, sample-marks, step-network, step-marks}
 
 pub call-elim : (P : List ℕ → Type 0) (cs : List Check) (vs output before : List ℕ) → Refusing cs → (Passed cs → P output) → P before
@@ -45,34 +46,34 @@ unfolding left
 call-elim P cs vs output before n done kept = pick-elim P _ output before (λ e. done (order-passed cs (accepted vs) n (eqb-true _ _ e))) (λ e. kept)
 
 module _ (s : List ℕ) (begins : stateOk s ≡ true) (laid : AllOk (chosen (masksIn s)) (masks-choice (masksIn s)) (length (networkOf s)) 0 (networkOf s)) where
-  -- the network of s partly stepped, the samples given
-  abbrev pub PartlyBy : (ℕ → Event) → List Slot → List Bool → Type 0
-  PartlyBy samples slots marks = Partly (chosen (masksIn s)) (masks-choice (masksIn s)) samples (networkOf s) laid slots marks
+  -- the network of s after some steps, the samples given; and so partly stepped
+  abbrev pub StepsBy : (ℕ → Event) → List Slot → List Bool → Type 0
+  StepsBy samples slots marks = Steps samples (networkOf s) (replicate (length (networkOf s)) false) slots marks
+
+  pub steps-partly : (samples : ℕ → Event) (slots : List Slot) (marks : List Bool) → StepsBy samples slots marks
+      → Partly (chosen (masksIn s)) (masks-choice (masksIn s)) samples (networkOf s) laid slots marks
+  steps-partly samples slots marks p =
+      let c = masks-choice (masksIn s) in
+      partly-steps (chosen (masksIn s)) c samples (networkOf s) laid p (partly-start (chosen (masksIn s)) c samples (networkOf s) laid)
 
   pub record InTick (t : List ℕ) : Type 0 where
     pub passes : stateOk t ≡ true
     pub masks-kept : masksIn t ≡ masksIn s
     pub nodes-kept : nodesIn t ≡ nodesIn s
     pub ticks-kept : ticksIn t ≡ ticksIn s
-    pub partly : PartlyBy (sampleIn t) (networkOf t) (marksOf t)
+    pub steps : StepsBy (sampleIn t) (networkOf t) (marksOf t)
 
-  -- other samples that agree for the slots that are stepped
-  pub partly-agreed : (a b : ℕ → Event) (slots : List Slot) (marks : List Bool) → PartlyBy a slots marks
-      → ((k : ℕ) → k < length (networkOf s) → marked marks k ≡ true → a (slotAt (networkOf s) k .board) ≡ b (slotAt (networkOf s) k .board)) → PartlyBy b slots marks
-  partly-agreed a b slots marks p agree =
-      record {
-        many = p .many;
-        marks-many = p .marks-many;
-        fresh = p .fresh;
-        held = p .held;
-        done = λ k l m.
-            p .done k l m
-            ∙ ap (λ (e : Event). record { board = slotAt (networkOf s) k .board; formula = resolved e (filled (verdictAt slots) (slotAt (networkOf s) k .formula)) }) (agree k l m);
-      }
+  -- the same steps under samples that agree for the slots that are stepped
+  pub steps-by : (a b : ℕ → Event) (slots : List Slot) (marks : List Bool) → StepsBy a slots marks
+      → ((k : ℕ) → k < length (networkOf s) → marked marks k ≡ true → a (slotAt (networkOf s) k .board) ≡ b (slotAt (networkOf s) k .board)) → StepsBy b slots marks
+  steps-by a b slots marks p agree = steps-agreed a b p (length-replicate (length (networkOf s)) false) agree
 
   module _ (t : List ℕ) (in-tick : InTick t) where
+    abbrev partly : Partly (chosen (masksIn s)) (masks-choice (masksIn s)) (sampleIn t) (networkOf s) laid (networkOf t) (marksOf t)
+    partly = steps-partly (sampleIn t) (networkOf t) (marksOf t) (in-tick .steps)
+
     pub slots-kept : slotsIn t ≡ slotsIn s
-    slots-kept = sym (network-length t) ∙ in-tick .partly .many ∙ network-length s
+    slots-kept = sym (network-length t) ∙ partly .many ∙ network-length s
 
     pub boards-kept : boardsIn t ≡ boardsIn s
     boards-kept = sym (masks-length t) ∙ ap length (in-tick .masks-kept) ∙ masks-length s
@@ -87,7 +88,7 @@ module _ (s : List ℕ) (begins : stateOk s ≡ true) (laid : AllOk (chosen (mas
     board-kept : (k : ℕ) → k < slotsIn t → steppedIn t k ≡ 1 → slotAt (networkOf s) k .board ≡ boardOfIn t k
     board-kept k l e =
         let n = slots-kept in
-        let h = in-tick .partly .done k (omega (arith, network-length s)) (mark-is t k l ∙ eq-eqb _ _ e) in
+        let h = partly .done k (omega (arith, network-length s)) (mark-is t k l ∙ eq-eqb _ _ e) in
         ap (λ (c : Slot). c .board) (sym h ∙ network-at t k l)
 
     -- ---- a sample
@@ -97,13 +98,13 @@ module _ (s : List ℕ) (begins : stateOk s ≡ true) (laid : AllOk (chosen (mas
           let ok = in-tick .passes in
           let t′ = sampled t ok b bits there inside fresh in
           let f = sample-framed t ok b bits there inside fresh in
-          let p = partly-agreed (sampleIn t) (sampleIn t′) (networkOf t) (marksOf t) (in-tick .partly) agree in
+          let p = steps-by (sampleIn t) (sampleIn t′) (networkOf t) (marksOf t) (in-tick .steps) agree in
           record {
             passes = sample-passes t ok b bits there inside fresh;
             masks-kept = masks-same t t′ f ∙ in-tick .masks-kept;
             nodes-kept = nodes-same t t′ f ∙ in-tick .nodes-kept;
             ticks-kept = ticks-same t t′ f ∙ in-tick .ticks-kept;
-            partly = rw (sample-network t ok b bits there inside fresh, sample-marks t ok b bits there inside fresh) p;
+            steps = rw (sample-network t ok b bits there inside fresh, sample-marks t ok b bits there inside fresh) p;
           }
         where
           agree : (k : ℕ) → k < length (networkOf s) → marked (marksOf t) k ≡ true
@@ -121,7 +122,7 @@ module _ (s : List ℕ) (begins : stateOk s ≡ true) (laid : AllOk (chosen (mas
       unmarked = mark-is t k l ∙ ne-eqb (steppedIn t k) 1 (λ e. omega arith)
 
       pub slot-kept : slotAt (networkOf t) k ≡ slotAt (networkOf s) k
-      slot-kept = in-tick .partly .fresh k (omega (arith, network-length s, slots-kept)) unmarked
+      slot-kept = partly .fresh k (omega (arith, network-length s, slots-kept)) unmarked
 
       -- a slot that is not stepped is as it was laid
       pub plain : Plain (chosen (masksIn t)) (boardOfIn t k) (formulaAt t k)
@@ -140,23 +141,21 @@ module _ (s : List ℕ) (begins : stateOk s ≡ true) (laid : AllOk (chosen (mas
             (holds-map (λ m. ((k < m) × (m < slotsIn t)) × (eqb (steppedIn t m) 1 ≡ true)) (λ m. marked (marksOf t) m ≡ true) (λ m h. mark-is t m (h .0 .1) ∙ h .1) (formulaAt t k)
             (holds-both _ _ (formulaAt t k) (slot-holds t k x) (only-holds (λ m. eqb (steppedIn t m) 1) (formulaAt t k) (both-1 _ _ ready))))
 
-        partly-after : PartlyBy (sampleIn t) (stepped (sampleIn t) (networkOf t) k) (set (marksOf t) k true)
-        partly-after =
-            partly-steps (chosen (masksIn s)) (masks-choice (masksIn s)) (sampleIn t) (networkOf s) laid
-            (step k (omega (arith, network-length t)) unmarked ready-now rest) (in-tick .partly)
+        steps-after : StepsBy (sampleIn t) (stepped (sampleIn t) (networkOf t) k) (set (marksOf t) k true)
+        steps-after = steps-more (sampleIn t) (in-tick .steps) k (omega (arith, network-length t)) unmarked ready-now
 
         step-in-tick : InTick (after t (in-tick .passes) k l)
         step-in-tick =
             let ok = in-tick .passes in
             let t′ = after t ok k l in
             let f = step-framed t ok k l in
-            let p : PartlyBy (sampleIn t) (networkOf t′) (marksOf t′) = rw (step-network t ok k l fresh ready plain, step-marks t ok k l fresh ready plain) partly-after in
+            let p : StepsBy (sampleIn t) (networkOf t′) (marksOf t′) = rw (step-network t ok k l fresh ready plain, step-marks t ok k l fresh ready plain) steps-after in
             record {
               passes = step-passes t ok k l fresh ready plain;
               masks-kept = masks-same t t′ f ∙ in-tick .masks-kept;
               nodes-kept = nodes-same t t′ f ∙ in-tick .nodes-kept;
               ticks-kept = ticks-same t t′ f ∙ in-tick .ticks-kept;
-              partly = partly-agreed (sampleIn t) (sampleIn t′) (networkOf t′) (marksOf t′) p (λ j h m. sym (step-sample t ok k l (slotAt (networkOf s) j .board) (board-there j h)));
+              steps = steps-by (sampleIn t) (sampleIn t′) (networkOf t′) (marksOf t′) p (λ j h m. sym (step-sample t ok k l (slotAt (networkOf s) j .board) (board-there j h)));
             }
 
   -- ---- any calls

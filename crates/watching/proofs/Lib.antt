@@ -13,6 +13,7 @@ pub mod Stepping
 pub mod Constants
 pub mod StepPasses
 pub mod Networks
+pub mod Resampled
 pub mod InTick
 pub mod Single
 pub mod Started

@@ -53,7 +53,7 @@ marks-length s = listed-length (λ k. eqb (steppedIn s k) 1) (slotsIn s)
 pub mark-is : (s : List ℕ) (k : ℕ) → k < slotsIn s → marked (marksOf s) k ≡ eqb (steppedIn s k) 1
 mark-is s k l = listed-at false (λ k. eqb (steppedIn s k) 1) (slotsIn s) k l
 
-marks-are : (t : List ℕ) (marks : List Bool) → slotsIn t ≡ length marks → ((k : ℕ) → k < slotsIn t → marked marks k ≡ eqb (steppedIn t k) 1) → marksOf t ≡ marks
+pub marks-are : (t : List ℕ) (marks : List Bool) → slotsIn t ≡ length marks → ((k : ℕ) → k < slotsIn t → marked marks k ≡ eqb (steppedIn t k) 1) → marksOf t ≡ marks
 marks-are t marks n h =
     let m = marks-length t in
     ext-getD false (marksOf t) marks (m ∙ n) (λ k l. (let i : k < slotsIn t = omega arith in mark-is t k i ∙ sym (h k i)))

@@ -2,13 +2,13 @@
 -- So every state of a watch is one (`watch-started`), and every state that calls lead to from there is within a tick (`started-in-tick`).
 -- `close-passed` and `close-leaves` are an accepted close. Assumes nothing.
 use mathlib.Core.Path.{_≡_, refl, sym, ap, _∙_, subst}
-use mathlib.Core.Bool.{Bool, true}
+use mathlib.Core.Bool.{true, false}
 use mathlib.Core.List.{List, [], _∷_, _++_}
 use Prim.Native.Nat.{ℕ, _+_, _^_, _<_, _≤_}
 use native.Mathlib.Omega.{arith}
-use lib.ListN.{length, length-append}
+use lib.ListN.{length, replicate, length-append, length-replicate, getD-replicate}
 use lib.Dec.{eqb}
-use borrow.Author.Tests.{leb-true, ltb-true, eqb-true}
+use borrow.Author.Tests.{leb-true, ltb-true, ne-eqb}
 use Rattle.lists.proofs.Tests.{both-1}
 use Rattle.answers.specs.Said.{Said, accepted, left}
 use Rattle.answers.proofs.Answers.{left-accepted, order-passed}
@@ -17,10 +17,9 @@ use Rattle.ltl.specs.Formula.{Formula}
 use Rattle.ltl.specs.Meaning.{Event}
 use Rattle.checking.proofs.Each.{each-at}
 use Rattle.network.specs.Scores.{chosen, sampleOf}
-use Rattle.network.specs.Layout.{Slot, slotAt, close}
-use Rattle.network.specs.Tick.{marked, AllMarked, Ticks, begun, ticked}
+use Rattle.network.specs.Layout.{slotAt, close}
+use Rattle.network.specs.Tick.{rest, AllMarked, Ticks, begun, ticked}
 use Rattle.network.proofs.Relaying.{AllOk}
-use Rattle.network.proofs.Settling.{partly-start, partly-steps, partly-agree, ticks-exist}
 use Rattle.network.proofs.Choosing.{masks-choice}
 use Rattle.state.specs.Fields.{slotsIn, ticksIn, masksIn, sampleIn, steppedIn}
 use Rattle.state.specs.Clauses.{slotsMost, stateOk}
@@ -30,8 +29,8 @@ use Rattle.state.proofs.Rows.{network-length}
 use Rattle.passing.proofs.Loaded.{loaded-passes}
 use Rattle.passing.proofs.Closed.{closed-passes}
 use Rattle.watching.specs.Watch.{Calls, Tick, Watch, begun, ticked}
-use Rattle.watching.proofs.Networks.{marksOf, marks-length, mark-is}
-use Rattle.watching.proofs.InTick.{PartlyBy, InTick, partly-agreed, board-there, calls-in-tick}
+use Rattle.watching.proofs.Networks.{marksOf, mark-is, marks-are}
+use Rattle.watching.proofs.InTick.{InTick, steps-by, board-there, calls-in-tick}
 use Rattle.watching.proofs.Single.{load-single, close-single}
 use Rattle.watching.proofs.Started.{Started, started-laid, written-started}
 
@@ -58,45 +57,14 @@ pub done-marked : (t : List ℕ) → doneIn t ≡ true → AllMarked (networkOf 
 unfolding doneIn
 done-marked t d k l = let h : k < slotsIn t = omega (arith, network-length t) in mark-is t k h ∙ each-at (λ k. eqb (steppedIn t k) 1) (slotsIn t) k (both-1 _ _ d) h
 
--- ---- a network that was partly stepped, and all of it, is what a tick closes
-module _ (s : List ℕ) (begins : stateOk s ≡ true) (laid : AllOk (chosen (masksIn s)) (masks-choice (masksIn s)) (length (networkOf s)) 0 (networkOf s)) where
-  partly-ticks : (samples : ℕ → Event) (slots : List Slot) (marks : List Bool) → PartlyBy s begins laid samples slots marks → AllMarked slots marks
-      → Ticks (chosen (masksIn s)) samples (networkOf s) (close (chosen (masksIn s)) slots)
-  partly-ticks samples slots marks p all =
-      let c = masks-choice (masksIn s) in
-      let x = ticks-exist (chosen (masksIn s)) c samples (networkOf s) laid .1 in
-      let q = partly-steps (chosen (masksIn s)) c samples (networkOf s) laid (x .steps) (partly-start (chosen (masksIn s)) c samples (networkOf s) laid) in
-      record {
-        last = x .last;
-        marks = x .marks;
-        steps = x .steps;
-        all = x .all;
-        closes = ap (close (chosen (masksIn s))) (partly-agree (chosen (masksIn s)) c samples (networkOf s) laid slots (x .last) marks (x .marks) p all q (x .all));
-      }
-
-  -- where nothing is stepped
-  start-in-tick : ((k : ℕ) → k < slotsIn s → steppedIn s k ≡ 0) → InTick s begins laid s
-  start-in-tick unstepped =
-      record {
-        passes = begins;
-        masks-kept = refl;
-        nodes-kept = refl;
-        ticks-kept = refl;
-        partly =
-            record {
-              many = refl;
-              marks-many = marks-length s ∙ sym (network-length s);
-              fresh = λ k l m. refl;
-              held = λ k l m. absurd (none k l m);
-              done = λ k l m. absurd (none k l m);
-            };
-      }
-    where
-      none : (k : ℕ) → k < length (networkOf s) → marked (marksOf s) k ≡ true → ⊥
-      none k l m =
-          let h : k < slotsIn s = omega (arith, network-length s) in
-          let e : steppedIn s k ≡ 1 = eqb-true _ _ (sym (mark-is s k h) ∙ m) in
-          omega (arith, unstepped k h)
+-- where nothing is stepped
+start-in-tick : (s : List ℕ) (begins : stateOk s ≡ true) (laid : AllOk (chosen (masksIn s)) (masks-choice (masksIn s)) (length (networkOf s)) 0 (networkOf s))
+    → ((k : ℕ) → k < slotsIn s → steppedIn s k ≡ 0) → InTick s begins laid s
+start-in-tick s begins laid unstepped =
+    let n = network-length s in
+    let none = marks-are s (replicate (length (networkOf s)) false) (sym (length-replicate (length (networkOf s)) false ∙ n))
+    (λ k l. getD-replicate (length (networkOf s)) k false false (omega arith) ∙ sym (ne-eqb (steppedIn s k) 1 (λ e. omega (arith, unstepped k l)))) in
+    record { passes = begins; masks-kept = refl; nodes-kept = refl; ticks-kept = refl; steps = rw none rest }
 
 module _ (p : ℕ) (masks : List ℕ) (rule : Formula) where
   pub started-in-tick : (us : List Event) (s t : List ℕ) (x : Started p masks rule us s) → Calls s t → InTick s (x .passes) (started-laid p masks rule us s x) t
@@ -109,10 +77,10 @@ module _ (p : ℕ) (masks : List ℕ) (rule : Formula) where
       let i = started-in-tick us s t x (tick .calls) in
       let closes = close-passed t (length (tick .second)) (tick .closes) in
       let masks-are : masksIn t ≡ masks = i .masks-kept ∙ x .masks-are in
-      let agreed = partly-agreed s (x .passes) laid (sampleIn t) (sampleOf (masksIn s) e) (networkOf t) (marksOf t) (i .partly)
+      let steps = steps-by s (x .passes) laid (sampleIn t) (sampleOf (masksIn s) e) (networkOf t) (marksOf t) (i .steps)
       (λ k l m. tick .saw _ (board-there s (x .passes) laid t i k l) ∙ ap (λ (ms : List ℕ). sampleOf ms e (slotAt (networkOf s) k .board)) (i .masks-kept)) in
       let ticks = subst (λ (ms : List ℕ). Ticks (chosen ms) (sampleOf ms e) (networkOf s) (close (chosen ms) (networkOf t))) (x .masks-are)
-      (partly-ticks s (x .passes) laid (sampleOf (masksIn s) e) (networkOf t) (marksOf t) agreed (done-marked t (closes .done))) in
+      (record { last = networkOf t; marks = marksOf t; steps = steps; all = done-marked t (closes .done); closes = refl }) in
       let next = close (chosen masks) (networkOf t) in
       let counted : ticksIn t + 1 ≡ length (us ++ (e ∷ [])) = omega (arith, i .ticks-kept, x .ticks-are, length-append us (e ∷ [])) in
       let few-slots = subst (λ (ms : List ℕ). length (close (chosen ms) (networkOf t)) ≤ slotsMost) masks-are (closes .few-slots) in

@@ -25,13 +25,16 @@ Accepted none = Unit {0}
 Accepted (sample {t = t} c board bits) = Accepted c × (sampleSays t board bits ≡ accepted [])
 Accepted (step {t = t} c k) = Accepted c × (stepSays t k ≡ accepted [])
 
--- some sample, some step or the close is accepted; or the close is all that is left, every board having sampled and every slot being
--- stepped, and would get 7, 8 or 15
+-- the close, into a second buffer of a state's length, is accepted, or gets 7, 8 or 15
+pub data Closing (t : List ℕ) : Type 0 where
+  accepts : closeSays t stateLength ≡ accepted [] → Closing t
+  refuses : (n : ℕ) → (n ≡ 7) ⊎ ((n ≡ 8) ⊎ (n ≡ 15)) → closeSays t stateLength ≡ refused n → Closing t
+
+-- some sample or some step is accepted; or the close is all that is left, every board having sampled and every slot being stepped
 pub data GoesOn (t : List ℕ) : Type 0 where
   samples : (board bits : ℕ) → sampleSays t board bits ≡ accepted [] → GoesOn t
   steps : (k : ℕ) → stepSays t k ≡ accepted [] → GoesOn t
-  closes : closeSays t stateLength ≡ accepted [] → GoesOn t
-  stops : (n : ℕ) → (n ≡ 7) ⊎ ((n ≡ 8) ⊎ (n ≡ 15)) → doneIn t ≡ true → closeSays t stateLength ≡ refused n → GoesOn t
+  closes : doneIn t ≡ true → Closing t → GoesOn t
 
 -- accepted calls that lead from s to a state where the boards have seen the event and the close is all that is left
 pub record Reached (s : List ℕ) (e : Event) : Type 0 where
@@ -40,6 +43,7 @@ pub record Reached (s : List ℕ) (e : Event) : Type 0 where
   pub all : Accepted calls
   pub saw : Saw last e
   pub done : doneIn last ≡ true
+  pub closing : Closing last
 
 -- every call that would change something is refused with 10, so that nothing does
 pub record Over (s : List ℕ) : Type 0 where
