@@ -1,6 +1,6 @@
 -- The workshop's third demand, on the state's bytes: a watch that was begun by loading a rule, whose state only the calls write, each of
 -- whose ticks was closed. No more is assumed.
-use mathlib.Core.Path.{_≡_, sym, ap, _∙_}
+use mathlib.Core.Path.{_≡_, refl, sym, ap, _∙_}
 use mathlib.Core.Bool.{true}
 use mathlib.Core.List.{List, [], _∷_}
 use Prim.Native.Nat.{ℕ, _<_}
@@ -10,6 +10,8 @@ use Rattle.answers.specs.declared.Verdict.the-variants.{False, True, Pending}
 use Rattle.ltl.specs.Formula.{Formula}
 use Rattle.ltl.specs.Meaning.{Event, Trace, Satisfies, continued}
 use Rattle.ltl.specs.Progression.{progressedOver, verdictOf}
+use Rattle.network.specs.Scores.{chosen}
+use Rattle.network.specs.Layout.{close}
 use Rattle.state.specs.Fields.{boardsIn, sampleIn}
 use Rattle.state.specs.Clauses.{stateOk}
 use Rattle.state.specs.Bytes.{nodesOf, networkOf}
@@ -17,10 +19,10 @@ use Rattle.state.specs.Calls.{finishedIn, verdictIn, askSays, doneIn, closeSays
 use Rattle.watching.specs.Watch.{Calls, Tick, Watch}
 use Rattle.watching.specs.Claims.{known, GoesOn, Reached, Over}
 use Rattle.watching.proofs.Started.{Started}
-use Rattle.watching.proofs.Ticked.{close-passed, close-leaves, started-in-tick, watch-started}
+use Rattle.watching.proofs.Ticked.{close-passed, close-leaves, started-in-tick, tick-network, watch-started}
 use Rattle.watching.proofs.Telling.{finished-over, started-finished, started-verdict, calls-unfinished}
 use Rattle.watching.proofs.Asking.{pending-unfinished, started-central, started-asks, started-true, started-false, calls-verdict, calls-ask}
-use Rattle.watching.proofs.Agreeing.{left-agrees, nexts-agree}
+use Rattle.watching.proofs.Agreeing.{lasts-agree, answers-agree, nexts-agree}
 use Rattle.watching.proofs.GoingOn.{goes-on}
 use Rattle.watching.proofs.Events.{eventOf, tick-of}
 use Rattle.watching.proofs.Existing.{tick-reached}
@@ -75,18 +77,28 @@ module _ (p : ℕ) (masks : List ℕ) (rule : Formula) (us : List Event) (s : Li
     tick-sees second e = (eventOf t, tick-of t tick-passes s second calls e)
 
   -- ---- from close to close
-  -- equal samples close to the same next state, byte by byte
+  -- from one network equal samples close to the same next one, whatever the watch was before and whatever was called in the tick
+  pub networks-agree : (q : ℕ) (other : Formula) (vs : List Event) (s₂ : List ℕ) → Watch q masks other vs s₂ → networkOf s ≡ networkOf s₂
+      → (d e : Event) (a b : List ℕ) (x : Tick s d a) (y : Tick s₂ e b) → ((c : ℕ) → c < boardsIn s → sampleIn (x .last) c ≡ sampleIn (y .last) c) → networkOf a ≡ networkOf b
+  networks-agree q other vs s₂ w alike d e a b x y same =
+      let z = watch-started q masks other w in
+      tick-network p masks rule us s a d started x
+      ∙ ap (close (chosen masks)) (lasts-agree masks p rule us s started q other vs s₂ z alike (x .last) (y .last) (x .calls) (y .calls)
+      (close-passed (x .last) (length (x .second)) (x .closes) .done) (close-passed (y .last) (length (y .second)) (y .closes) .done) same)
+      ∙ sym (tick-network q masks other vs s₂ b e z y)
+
+  -- from one state they close to the same next one, byte by byte
   pub ticks-agree : (d e : Event) (a b : List ℕ) (x : Tick s d a) (y : Tick s e b) → ((c : ℕ) → c < boardsIn s → sampleIn (x .last) c ≡ sampleIn (y .last) c) → a ≡ b
   ticks-agree d e a b x y same =
       x .leaves ∙ close-leaves (x .last) (x .second) (x .closes)
-      ∙ nexts-agree p masks rule us s started (x .last) (y .last) (x .calls) (y .calls)
-      (close-passed (x .last) (length (x .second)) (x .closes) .done) (close-passed (y .last) (length (y .second)) (y .closes) .done) same
+      ∙ nexts-agree masks p rule us s started p rule us s started refl (x .last) (y .last) (x .calls) (y .calls)
+      (close-passed (x .last) (length (x .second)) (x .closes) .done) (close-passed (y .last) (length (y .second)) (y .closes) .done) same refl
       ∙ sym (y .leaves ∙ close-leaves (y .last) (y .second) (y .closes))
 
   -- and where the close is all that is left it answers the same
   pub closes-agree : (t u : List ℕ) → Calls s t → Calls s u → doneIn t ≡ true → doneIn u ≡ true → ((c : ℕ) → c < boardsIn s → sampleIn t c ≡ sampleIn u c)
       → (room : ℕ) → closeSays t room ≡ closeSays u room
-  closes-agree t u a b done-t done-u same = left-agrees p masks rule us s started t u a b done-t done-u same
+  closes-agree t u a b done-t done-u same = answers-agree masks p rule us s started p rule us s started refl t u a b done-t done-u same refl
 
   -- until a verdict there are, for every event, accepted calls after which the close is all that is left
   pub tick-exists : verdictIn s ≡ Pending → (e : Event) → Reached s e

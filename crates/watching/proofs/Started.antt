@@ -1,6 +1,6 @@
 -- A watch's state at load and after each close: it passes its check, no board has sampled and no slot is stepped, its network is that
 -- of a watch over formulas, and one whose root is a constant has no other slot (`Started`). `written-started`: so is every network of
--- a watch that is written; `started-laid`: its slots are as laying leaves them. Assumes nothing.
+-- a watch that is written, and it reads back (`written-network`); `started-laid`: its slots are as laying leaves them. Assumes nothing.
 use mathlib.Core.Path.{_≡_, sym, ap, _∙_, subst}
 use mathlib.Core.Bool.{Bool, true}
 use mathlib.Core.List.{List}
@@ -63,6 +63,10 @@ module _ (p : ℕ) (masks : List ℕ) (rule : Formula) where
         (clean-within p masks (l .few-propositions) (l .follow) (length slots) f (plain-clean (chosen masks) (slotAt slots k .board) f (o .plain))
         (holds-map (λ m. (k < m) × (m < length slots)) (λ m. m < length slots) (λ m q. q .1) f (o .holds)))
 
+    -- the network that was written is the one that is read
+    pub written-network : networkOf (stateOf masks slots ticks) ≡ slots
+    written-network = network-reads masks slots ticks (l .few-boards) few-slots few-nodes coded
+
     pub written-started : stateOk (stateOf masks slots ticks) ≡ true → ((v : Bool) → slotAt slots 0 .formula ≡ constant v → length slots ≡ 1) → Started us (stateOf masks slots ticks)
     written-started ok single =
         let s = stateOf masks slots ticks in
@@ -73,10 +77,10 @@ module _ (p : ℕ) (masks : List ℕ) (rule : Formula) where
           passes = ok;
           masks-are = reads-masks masks slots ticks (l .few-boards) few-slots few-nodes coded
               (λ i h. lt-of-lt-of-le (rule-less p masks (l .follow) i h) (pow-mono (l .few-propositions)));
-          nodes-are = reads-nodes masks slots ticks (l .few-boards) few-slots few-nodes coded ∙ ap nodesOf (sym (network-reads masks slots ticks (l .few-boards) few-slots few-nodes coded));
+          nodes-are = reads-nodes masks slots ticks (l .few-boards) few-slots few-nodes coded ∙ ap nodesOf (sym written-network);
           ticks-are = reads-ticks masks slots ticks (l .few-boards) few-slots few-nodes coded few-ticks ∙ many-ticks;
           unsampled = λ b h. reads-sampled masks slots ticks (l .few-boards) few-slots few-nodes coded b (omega arith);
           unstepped = λ k h. reads-mark masks slots ticks (l .few-boards) few-slots few-nodes coded k (omega arith);
-          network = subst (λ (ss : List Slot). Watch (chosen masks) (sampleOf masks) rule us ss) (sym (network-reads masks slots ticks (l .few-boards) few-slots few-nodes coded)) w;
+          network = subst (λ (ss : List Slot). Watch (chosen masks) (sampleOf masks) rule us ss) (sym written-network) w;
           single = λ v e. many ∙ single v (sym (ap someFormula (reads-formula masks slots ticks (l .few-boards) few-slots few-nodes coded 0 (omega (arith, passing s ok .header .some-slots)))) ∙ e);
         }

@@ -1,4 +1,5 @@
--- A tick of a watch: the state that it closes to is a watch's state again, for the events so far and the tick's own (`tick-started`).
+-- A tick of a watch: the state that it closes to is a watch's state again, for the events so far and the tick's own,
+-- and holds the network of the last state laid out again (`tick-network`).
 -- So every state of a watch is one (`watch-started`), and every state that calls lead to from there is within a tick (`started-in-tick`).
 -- `close-passed` and `close-leaves` are an accepted close. Assumes nothing.
 use mathlib.Core.Path.{_≡_, refl, sym, ap, _∙_, subst}
@@ -17,7 +18,7 @@ use Rattle.ltl.specs.Formula.{Formula}
 use Rattle.ltl.specs.Meaning.{Event}
 use Rattle.checking.proofs.Each.{each-at}
 use Rattle.network.specs.Scores.{chosen, sampleOf}
-use Rattle.network.specs.Layout.{slotAt, close}
+use Rattle.network.specs.Layout.{Slot, slotAt, close}
 use Rattle.network.specs.Tick.{rest, AllMarked, Ticks, begun, ticked}
 use Rattle.network.proofs.Relaying.{AllOk}
 use Rattle.network.proofs.Choosing.{masks-choice}
@@ -32,7 +33,7 @@ use Rattle.watching.specs.Watch.{Calls, Tick, Watch, begun, ticked}
 use Rattle.watching.proofs.Networks.{marksOf, mark-is, marks-are}
 use Rattle.watching.proofs.InTick.{InTick, steps-by, board-there, calls-in-tick}
 use Rattle.watching.proofs.Single.{load-single, close-single}
-use Rattle.watching.proofs.Started.{Started, started-laid, written-started}
+use Rattle.watching.proofs.Started.{Started, started-laid, written-network, written-started}
 
 -- ---- an accepted close
 pub record Closes (t : List ℕ) : Type 0 where
@@ -70,25 +71,55 @@ module _ (p : ℕ) (masks : List ℕ) (rule : Formula) where
   pub started-in-tick : (us : List Event) (s t : List ℕ) (x : Started p masks rule us s) → Calls s t → InTick s (x .passes) (started-laid p masks rule us s x) t
   started-in-tick us s t x c = calls-in-tick s (x .passes) (started-laid p masks rule us s x) c (start-in-tick s (x .passes) (started-laid p masks rule us s x) (x .unstepped))
 
-  tick-started : (us : List Event) (s s′ : List ℕ) (e : Event) → Started p masks rule us s → Tick s e s′ → Started p masks rule (us ++ (e ∷ [])) s′
-  tick-started us s s′ e x tick =
-      let t = tick .last in
-      let laid = started-laid p masks rule us s x in
-      let i = started-in-tick us s t x (tick .calls) in
-      let closes = close-passed t (length (tick .second)) (tick .closes) in
-      let masks-are : masksIn t ≡ masks = i .masks-kept ∙ x .masks-are in
-      let steps = steps-by s (x .passes) laid (sampleIn t) (sampleOf (masksIn s) e) (networkOf t) (marksOf t) (i .steps)
-      (λ k l m. tick .saw _ (board-there s (x .passes) laid t i k l) ∙ ap (λ (ms : List ℕ). sampleOf ms e (slotAt (networkOf s) k .board)) (i .masks-kept)) in
-      let ticks = subst (λ (ms : List ℕ). Ticks (chosen ms) (sampleOf ms e) (networkOf s) (close (chosen ms) (networkOf t))) (x .masks-are)
-      (record { last = networkOf t; marks = marksOf t; steps = steps; all = done-marked t (closes .done); closes = refl }) in
-      let next = close (chosen masks) (networkOf t) in
-      let counted : ticksIn t + 1 ≡ length (us ++ (e ∷ [])) = omega (arith, i .ticks-kept, x .ticks-are, length-append us (e ∷ [])) in
-      let few-slots = subst (λ (ms : List ℕ). length (close (chosen ms) (networkOf t)) ≤ slotsMost) masks-are (closes .few-slots) in
-      let few-nodes = subst (λ (ms : List ℕ). nodesOf (close (chosen ms) (networkOf t)) ≤ nodesMost) masks-are (closes .few-nodes) in
-      let ok = subst (λ (ms : List ℕ). stateOk (stateOf ms (close (chosen ms) (networkOf t)) (ticksIn t + 1)) ≡ true) masks-are (closed-passes t (i .passes) (closes .done) (closes .few-slots) (closes .few-nodes)) in
-      let after = written-started p masks rule (x .loads) (us ++ (e ∷ [])) next (ticked (x .network) e ticks) (ticksIn t + 1) counted (closes .few-ticks) few-slots few-nodes ok (close-single (chosen masks) (networkOf t)) in
-      subst (λ (y : List ℕ). Started p masks rule (us ++ (e ∷ [])) y)
-      (ap (λ (ms : List ℕ). stateOf ms (close (chosen ms) (networkOf t)) (ticksIn t + 1)) (sym masks-are) ∙ sym (tick .leaves ∙ close-leaves t (tick .second) (tick .closes))) after
+  module _ (us : List Event) (s s′ : List ℕ) (e : Event) (x : Started p masks rule us s) (tick : Tick s e s′) where
+    abbrev t : List ℕ
+    t = tick .last
+
+    abbrev laid : AllOk (chosen (masksIn s)) (masks-choice (masksIn s)) (length (networkOf s)) 0 (networkOf s)
+    laid = started-laid p masks rule us s x
+
+    i : InTick s (x .passes) laid t
+    i = started-in-tick us s t x (tick .calls)
+
+    closes : Closes t
+    closes = close-passed t (length (tick .second)) (tick .closes)
+
+    masks-are : masksIn t ≡ masks
+    masks-are = i .masks-kept ∙ x .masks-are
+
+    abbrev next : List Slot
+    next = close (chosen masks) (networkOf t)
+
+    -- over formulas it is a tick too
+    ticks : Ticks (chosen masks) (sampleOf masks e) (networkOf s) next
+    ticks =
+        let steps = steps-by s (x .passes) laid (sampleIn t) (sampleOf (masksIn s) e) (networkOf t) (marksOf t) (i .steps)
+        (λ k l m. tick .saw _ (board-there s (x .passes) laid t i k l) ∙ ap (λ (ms : List ℕ). sampleOf ms e (slotAt (networkOf s) k .board)) (i .masks-kept)) in
+        subst (λ (ms : List ℕ). Ticks (chosen ms) (sampleOf ms e) (networkOf s) (close (chosen ms) (networkOf t))) (x .masks-are)
+        (record { last = networkOf t; marks = marksOf t; steps = steps; all = done-marked t (closes .done); closes = refl })
+
+    counted : ticksIn t + 1 ≡ length (us ++ (e ∷ []))
+    counted = omega (arith, i .ticks-kept, x .ticks-are, length-append us (e ∷ []))
+
+    few-slots : length next ≤ slotsMost
+    few-slots = subst (λ (ms : List ℕ). length (close (chosen ms) (networkOf t)) ≤ slotsMost) masks-are (closes .few-slots)
+
+    few-nodes : nodesOf next ≤ nodesMost
+    few-nodes = subst (λ (ms : List ℕ). nodesOf (close (chosen ms) (networkOf t)) ≤ nodesMost) masks-are (closes .few-nodes)
+
+    closed : s′ ≡ stateOf masks next (ticksIn t + 1)
+    closed = tick .leaves ∙ close-leaves t (tick .second) (tick .closes) ∙ ap (λ (ms : List ℕ). stateOf ms (close (chosen ms) (networkOf t)) (ticksIn t + 1)) masks-are
+
+    pub tick-network : networkOf s′ ≡ next
+    tick-network =
+        ap networkOf closed ∙ written-network p masks rule (x .loads) (us ++ (e ∷ [])) next (ticked (x .network) e ticks) (ticksIn t + 1) counted (closes .few-ticks) few-slots few-nodes
+
+    tick-started : Started p masks rule (us ++ (e ∷ [])) s′
+    tick-started =
+        let ok = subst (λ (ms : List ℕ). stateOk (stateOf ms (close (chosen ms) (networkOf t)) (ticksIn t + 1)) ≡ true) masks-are (closed-passes t (i .passes) (closes .done) (closes .few-slots) (closes .few-nodes)) in
+        subst (λ (y : List ℕ). Started p masks rule (us ++ (e ∷ [])) y) (sym closed)
+        (written-started p masks rule (x .loads) (us ++ (e ∷ [])) next (ticked (x .network) e ticks) (ticksIn t + 1) counted (closes .few-ticks) few-slots few-nodes ok
+        (close-single (chosen masks) (networkOf t)))
 
   pub watch-started : {us : List Event} {s : List ℕ} → Watch p masks rule us s → Started p masks rule us s
   watch-started (begun l) =
