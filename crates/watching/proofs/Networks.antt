@@ -47,7 +47,7 @@ network-is t slots n h =
 abbrev pub marksOf : List ℕ → List Bool
 marksOf s = listed (λ k. eqb (steppedIn s k) 1) (slotsIn s)
 
-pub marks-length : (s : List ℕ) → length (marksOf s) ≡ slotsIn s
+marks-length : (s : List ℕ) → length (marksOf s) ≡ slotsIn s
 marks-length s = listed-length (λ k. eqb (steppedIn s k) 1) (slotsIn s)
 
 pub mark-is : (s : List ℕ) (k : ℕ) → k < slotsIn s → marked (marksOf s) k ≡ eqb (steppedIn s k) 1

@@ -50,13 +50,13 @@ module _ (s : List ℕ) (ok : stateOk s ≡ true) (k : ℕ) (l : k < slotsIn s) 
   after = putAt node nodes sized
 
   -- ---- there is room
-  pub record Room : Type 0 where
-    pub records : at + 6 ≤ nodesAt (boardsIn s) (slotsIn s)
-    pub before : 16 + 17 * boardsIn s ≤ at
-    pub end : node + lengthIn s k ≤ nodesAt (boardsIn s) (slotsIn s) + nodesIn s
-    pub whole : nodesAt (boardsIn s) (slotsIn s) + nodesIn s ≤ length s
-    pub written : length nodes ≡ lengthIn s k
-    pub number : length (le 2 (size result)) ≡ 2
+  record Room : Type 0 where
+    records : at + 6 ≤ nodesAt (boardsIn s) (slotsIn s)
+    before : 16 + 17 * boardsIn s ≤ at
+    end : node + lengthIn s k ≤ nodesAt (boardsIn s) (slotsIn s) + nodesIn s
+    whole : nodesAt (boardsIn s) (slotsIn s) + nodesIn s ≤ length s
+    written : length nodes ≡ lengthIn s k
+    number : length (le 2 (size result)) ≡ 2
 
   room : Room
   room =
