@@ -1,6 +1,6 @@
 -- A tick keeps the value of every slot: once all slots are stepped, in whatever order, each has the value that it had before, with
 -- the tick's event taken off (`tick-models`). A slot is given by the slots that it holds, which have higher numbers, so that the
--- order does not enter. Assumes nothing.
+-- order does not enter. `stepped-holds`: what a step still holds. Assumes nothing.
 use mathlib.Core.Path.{_≡_, refl, sym, ap, ap₂, _∙_}
 use mathlib.Core.Bool.{Bool, true, false}
 use mathlib.Core.List.{List, [], _∷_}

@@ -1,5 +1,5 @@
 -- Place holders counted: numbers that stand at most once each are distinct (`distinct-of`), and the place holders of a state whose
--- slots are known stand as often as in those slots (`holders-times`). Assumes nothing.
+-- slots are known stand as often as in those slots (`holders-times`, for one formula `held-times`). Assumes nothing.
 use mathlib.Core.Path.{_≡_, refl, sym, ap, _∙_}
 use mathlib.Core.Bool.{true, false, not}
 use mathlib.Core.List.{List, [], _∷_, _++_}

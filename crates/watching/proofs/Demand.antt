@@ -1,5 +1,5 @@
 -- The workshop's third demand, on the state's bytes: a watch that was begun by loading a rule, whose state only the calls write, each of
--- whose ticks was closed. No more is assumed.
+-- whose ticks was closed. Assumes nothing.
 use mathlib.Core.Path.{_≡_, refl, sym, ap, _∙_}
 use mathlib.Core.Bool.{true}
 use mathlib.Core.List.{List, [], _∷_}
