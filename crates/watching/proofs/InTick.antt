@@ -125,7 +125,7 @@ module _ (s : List ℕ) (begins : stateOk s ≡ true) (laid : AllOk (chosen (mas
       slot-kept = partly .fresh k (omega (arith, network-length s, slots-kept)) unmarked
 
       -- a slot that is not stepped is as it was laid
-      pub plain : Plain (chosen (masksIn t)) (boardOfIn t k) (formulaAt t k)
+      plain : Plain (chosen (masksIn t)) (boardOfIn t k) (formulaAt t k)
       plain =
           let o = slot-ok (chosen (masksIn s)) (masks-choice (masksIn s)) (sampleIn t) (networkOf s) laid k (omega (arith, network-length s, slots-kept)) .plain in
           let e = sym slot-kept ∙ network-at t k l in

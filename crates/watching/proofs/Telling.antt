@@ -45,9 +45,9 @@ unfolding finishedIn
 finished-of s a b c = both-true _ _ (eq-eqb _ _ a) (both-true _ _ (eq-eqb _ _ b) c)
 
 -- what a finished state's root is
-pub record Ended (s : List ℕ) : Type 0 where
-  pub unstepped : steppedIn s 0 ≡ 0
-  pub constant : isConstantIn s 0 ≡ true
+record Ended (s : List ℕ) : Type 0 where
+  unstepped : steppedIn s 0 ≡ 0
+  constant : isConstantIn s 0 ≡ true
 
 ended : (s : List ℕ) → finishedIn s ≡ true → Ended s
 unfolding finishedIn
