@@ -27,7 +27,7 @@ record-used s k e =
     let c = both-1 _ _ b in
     leb-true _ _ (both-0 _ _ c)
 
-next-end : (s : List ℕ) (k : ℕ) → k + 1 < slotsIn s → stretchEnd s k ≡ startIn s (k + 1)
+pub next-end : (s : List ℕ) (k : ℕ) → k + 1 < slotsIn s → stretchEnd s k ≡ startIn s (k + 1)
 unfolding stretchEnd pick
 next-end s k h = rw (lt-ltb (k + 1) (slotsIn s) h)
 

@@ -1,6 +1,6 @@
 -- A tick keeps the value of every slot: once all slots are stepped, in whatever order, each has the value that it had before, with
 -- the tick's event taken off (`tick-models`). A slot is given by the slots that it holds, which have higher numbers, so that the
--- order does not enter. Assumes nothing.
+-- order does not enter. `stepped-holds`: what a step still holds. Assumes nothing.
 use mathlib.Core.Path.{_≡_, refl, sym, ap, ap₂, _∙_}
 use mathlib.Core.Bool.{Bool, true, false}
 use mathlib.Core.List.{List, [], _∷_}
@@ -33,23 +33,24 @@ use Rattle.network.proofs.Settling.{slot-ok, settledSlot, Partly}
 abbrev pub shifted : Event → Env → Env
 shifted e E u k = E (e ∷ u) k
 
--- a step holds no slot that was not held before
-stepped-holds : (choose : Formula → Option ℕ) (s : Event) (held : ℕ → Verdict) (Q : ℕ → Type 0) (b : ℕ) (f : Formula) → Plain choose b f → HoldsIn Q f → HoldsIn Q (resolved s (filled held f))
+-- a step holds no slot that was not held before, and none that is constant
+pub stepped-holds : (choose : Formula → Option ℕ) (s : Event) (held : ℕ → Verdict) (Q : ℕ → Type 0) (b : ℕ) (f : Formula) → Plain choose b f → HoldsIn Q f
+    → HoldsIn (λ m. Q m × (held m ≡ Pending)) (resolved s (filled held f))
 stepped-holds choose s held Q b (leaf (Const v)) p x = tt
 stepped-holds choose s held Q b (leaf (Prop i)) p x = tt
-stepped-holds choose s held Q b (leaf (Hold m)) p x = go (held m)
+stepped-holds choose s held Q b (leaf (Hold m)) p x = go (held m) refl
   where
-    go : (v : Verdict) → HoldsIn Q (resolved s (leaf (filledBy v m)))
-    go True = tt
-    go False = tt
-    go Pending = x
+    go : (v : Verdict) → held m ≡ v → HoldsIn (λ m. Q m × (held m ≡ Pending)) (resolved s (leaf (filledBy v m)))
+    go True e = tt
+    go False e = tt
+    go Pending e = (x, e)
 stepped-holds choose s held Q b (one Not f) p x =
-    negated-elim (λ g. HoldsIn Q g) (resolved s (filled held f)) (λ e. tt) (λ e. tt) (stepped-holds choose s held Q b f p x)
-stepped-holds choose s held Q b (one Next f) p x = free-holds choose Q f (p .0)
+    negated-elim (λ g. HoldsIn (λ m. Q m × (held m ≡ Pending)) g) (resolved s (filled held f)) (λ e. tt) (λ e. tt) (stepped-holds choose s held Q b f p x)
+stepped-holds choose s held Q b (one Next f) p x = free-holds choose (λ m. Q m × (held m ≡ Pending)) f (p .0)
 stepped-holds choose s held Q b (two (Joined j) f g) p x =
     let l = stepped-holds choose s held Q b f (p .0) (x .0) in
     let r = stepped-holds choose s held Q b g (p .1) (x .1) in
-    joined-elim (λ h. HoldsIn Q h) j (resolved s (filled held f)) (resolved s (filled held g)) (λ e. tt) (λ e. tt) (λ e. r) (λ e. l) (λ m. r) (l, r)
+    joined-elim (λ h. HoldsIn (λ m. Q m × (held m ≡ Pending)) h) j (resolved s (filled held f)) (resolved s (filled held g)) (λ e. tt) (λ e. tt) (λ e. r) (λ e. l) (λ m. r) (l, r)
 
 -- ---- the value of a held slot, filled in
 filled-value : (E : Env) (e s : Event) (m : ℕ) (g : Formula) → ((u : List Event) → value (shifted e E) u g ≡ E (e ∷ u) m)
@@ -101,7 +102,10 @@ module _ (choose : Formula → Option ℕ) (choice : Choice choose) (sampled : E
         (record {
           clean = stepped-clean choose (sampled e b) (verdictAt last) b f (o .plain);
           headed = stepped-headed choose (sampled e b) (verdictAt last) b f (o .plain);
-          holds = stepped-holds choose (sampled e b) (verdictAt last) (λ m. (n < m) × (m < length before)) b f (o .plain) (o .holds);
+          holds =
+              holds-map (λ m. ((n < m) × (m < length before)) × (verdictAt last m ≡ Pending)) (λ m. (n < m) × (m < length before)) (λ m h. h .0)
+              (resolved (sampled e b) (filled (verdictAt last) f))
+              (stepped-holds choose (sampled e b) (verdictAt last) (λ m. (n < m) × (m < length before)) b f (o .plain) (o .holds));
         })
 
     -- from the highest number down: a slot that holds slots whose values are right has the right value itself

@@ -68,7 +68,7 @@ module _ (p : ℕ) (masks : List ℕ) where
     abbrev choose : Formula → Option ℕ
     choose = chosen masks
 
-    free-within : (end : ℕ) (f : Formula) → Free choose f → Within p end f
+    pub free-within : (end : ℕ) (f : Formula) → Free choose f → Within p end f
     free-within end (leaf (Const v)) x = tt
     free-within end (leaf (Prop i)) x = masks-below p masks few rule i (x .0) (masks-has masks i (x .0) (x .1))
     free-within end (one o f) x = free-within end f x

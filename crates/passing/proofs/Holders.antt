@@ -1,5 +1,5 @@
 -- Place holders counted: numbers that stand at most once each are distinct (`distinct-of`), and the place holders of a state whose
--- slots are known stand as often as in those slots (`holders-times`). Assumes nothing.
+-- slots are known stand as often as in those slots (`holders-times`, for one formula `held-times`). Assumes nothing.
 use mathlib.Core.Path.{_≡_, refl, sym, ap, _∙_}
 use mathlib.Core.Bool.{true, false, not}
 use mathlib.Core.List.{List, [], _∷_, _++_}
@@ -25,12 +25,12 @@ abbrev pub times : ℕ → List ℕ → ℕ
 times m [] = 0
 times m (n ∷ ns) = pick (eqb n m) 1 0 + times m ns
 
-times-append : (m : ℕ) (ns ks : List ℕ) → times m (ns ++ ks) ≡ times m ns + times m ks
+pub times-append : (m : ℕ) (ns ks : List ℕ) → times m (ns ++ ks) ≡ times m ns + times m ks
 times-append m [] ks = omega arith
 times-append m (n ∷ ns) ks = omega (arith, times-append m ns ks)
 
 -- ---- at most once each
-found-one : (n m : ℕ) → n ≡ m → _≡_ {A = ℕ} (pick (eqb n m) 1 0) 1
+pub found-one : (n m : ℕ) → n ≡ m → _≡_ {A = ℕ} (pick (eqb n m) 1 0) 1
 unfolding pick
 found-one n m e = rw (eq-eqb n m e)
 
@@ -52,7 +52,7 @@ distinct-of (n ∷ ns) h =
     (distinct-of ns (λ m. omega (arith, h m)))
 
 -- ---- in formulas, and in a state
-held-times : (m : ℕ) (f : Formula) → times m (heldBy f) ≡ timesIn m f
+pub held-times : (m : ℕ) (f : Formula) → times m (heldBy f) ≡ timesIn m f
 unfolding heldBy
 held-times m (leaf (Const v)) = refl
 held-times m (leaf (Prop i)) = refl

@@ -45,7 +45,7 @@ start-last (s ∷ []) (suc k) l = absurd (omega arith)
 start-last (s ∷ t ∷ ss) zero l = absurd (omega arith)
 start-last (s ∷ t ∷ ss) (suc k) l = omega (arith, start-last (t ∷ ss) k (omega arith))
 
-zeros-zero : (n : ℕ) → allZero (replicate n 0) ≡ true
+pub zeros-zero : (n : ℕ) → allZero (replicate n 0) ≡ true
 unfolding allZero both
 zeros-zero zero = refl
 zeros-zero (suc n) = zeros-zero n

@@ -1,0 +1,183 @@
+-- A tick exists: from a watch's state that is not finished, and for every event, calls that are all accepted lead to a state where the close
+-- is all that is left and every board has seen the event (`tick-reached`). Boards sample from the first up, slots step from the last down.
+-- Assumes nothing.
+use mathlib.Core.Path.{_≡_, sym, ap, _∙_, subst}
+use mathlib.Core.Bool.{true, false}
+use mathlib.Core.List.{List, []}
+use mathlib.Core.Logic.{⊎-elim}
+use Prim.Native.Nat.{ℕ, zero, suc, _<_, _≤_}
+use native.Mathlib.Nat.{eq-or-lt-of-le}
+use native.Mathlib.Decide.{ℕ-discrete}
+use native.Mathlib.Omega.{arith}
+use lib.ListN.{getD}
+use lib.Bits.{bitAnd}
+use borrow.Author.Tests.{eq-eqb}
+use Rattle.answers.specs.Said.{Said, accepted, left}
+use Rattle.answers.proofs.Answers.{left-accepted}
+use Rattle.ltl.specs.Formula.{Formula}
+use Rattle.ltl.specs.Meaning.{Event}
+use Rattle.network.specs.Scores.{sampleOf}
+use Rattle.state.specs.Fields.{boardsIn, slotsIn, maskIn, sampleIn, sampledIn, masksIn, boardOfIn, steppedIn}
+use Rattle.state.specs.Clauses.{inMask, stateOk}
+use Rattle.state.specs.Calls.{finishedIn, sampleSays, sampleLeaves, stepSays, stepLeaves}
+use Rattle.state.proofs.Rows.{masks-at}
+use Rattle.passing.proofs.Passing.{passing}
+use Rattle.watching.specs.Watch.{Calls, none, sample, step}
+use Rattle.watching.specs.Claims.{Accepted, Reached}
+use Rattle.watching.proofs.Bits.{and-twice}
+use Rattle.watching.proofs.Sampling.{sampled, sample-slot, sample-other, sample-other-flag, sample-bits, sample-flag}
+use Rattle.watching.proofs.Stepping.{after, step-sample, step-flag, step-slot, step-mark}
+use Rattle.watching.proofs.InTick.{InTick, slots-kept, boards-kept}
+use Rattle.watching.proofs.Started.{Started, started-laid}
+use Rattle.watching.proofs.Ticked.{started-in-tick}
+use Rattle.watching.proofs.Telling.{calls-unfinished}
+use Rattle.watching.proofs.GoingOn.{sample-accepted, step-accepted, close-left, done-of}
+
+-- what an accepted call leaves
+accepted-leaves : (a : Said) (output before : List ℕ) → a ≡ accepted [] → left a output before ≡ output
+accepted-leaves a output before e = ap (λ (b : Said). left b output before) e ∙ left-accepted [] output before
+
+module _ (p : ℕ) (masks : List ℕ) (rule : Formula) (us : List Event) (s : List ℕ) (x : Started p masks rule us s) (unfinished : finishedIn s ≡ false) (e : Event) where
+  -- a board's sample of the event
+  abbrev due : ℕ → Event
+  due b = sampleOf (masksIn s) e b
+
+  -- boards below n have sampled, slots from d on are stepped
+  record Progress (n d : ℕ) (t : List ℕ) : Type 0 where
+    given : (b : ℕ) → b < n → b < boardsIn s → (sampledIn t b ≡ 1) × (sampleIn t b ≡ due b)
+    waiting : (b : ℕ) → n ≤ b → b < boardsIn s → sampledIn t b ≡ 0
+    stepped : (k : ℕ) → d ≤ k → k < slotsIn s → steppedIn t k ≡ 1
+    fresh : (k : ℕ) → k < d → k < slotsIn s → steppedIn t k ≡ 0
+
+  record Made (n d : ℕ) : Type 0 where
+    last : List ℕ
+    calls : Calls s last
+    all : Accepted calls
+    progress : Progress n d last
+
+  in-tick : (t : List ℕ) → Calls s t → InTick s (x .passes) (started-laid p masks rule us s x) t
+  in-tick t c = started-in-tick p masks rule us s t x c
+
+  -- ---- the next board
+  module _ (t : List ℕ) (c : Calls s t) (n : ℕ) (l : n < boardsIn s) (made : Progress n (slotsIn s) t) where
+    ok : stateOk t ≡ true
+    ok = in-tick t c .passes
+
+    there : n < boardsIn t
+    there = omega (arith, boards-kept s (x .passes) (started-laid p masks rule us s x) t (in-tick t c))
+
+    inside : inMask (due n) (maskIn t n) ≡ true
+    unfolding sampleOf
+    inside =
+        let m : maskIn t n ≡ getD (masksIn s) n 0 = sym (masks-at t n there) ∙ ap (λ (ms : List ℕ). getD ms n 0) (in-tick t c .masks-kept) in
+        eq-eqb _ _ (ap (bitAnd (bitAnd e (getD (masksIn s) n 0))) m ∙ and-twice e (getD (masksIn s) n 0))
+
+    unsampled : sampledIn t n ≡ 0
+    unsampled = made .waiting n (omega arith) l
+
+    sample-says : sampleSays t n (due n) ≡ accepted []
+    sample-says = sample-accepted t ok (calls-unfinished p masks rule us s x t c unfinished) n (due n) there inside unsampled
+
+    sample-more : Progress (suc n) (slotsIn s) (sampleLeaves t n (due n))
+    sample-more =
+        let t′ = sampled t ok n (due n) there inside unsampled in
+        let q = slots-kept s (x .passes) (started-laid p masks rule us s x) t (in-tick t c) in
+        subst (λ (u : List ℕ). Progress (suc n) (slotsIn s) u) (sym (accepted-leaves _ t′ t sample-says))
+        (record {
+          given = λ b h i. given b i (ℕ-discrete b n) h;
+          waiting = λ b h i. sample-other-flag t ok n (due n) there inside unsampled b (λ z. omega arith) ∙ made .waiting b (omega arith) i;
+          stepped = λ k h i. absurd (omega arith);
+          fresh = λ k h i. sample-slot t ok n (due n) there inside unsampled k (omega arith) .mark ∙ made .fresh k h i;
+        })
+      where
+        given : (b : ℕ) → b < boardsIn s → Dec (b ≡ n) → b < suc n
+            → (sampledIn (sampled t ok n (due n) there inside unsampled) b ≡ 1) × (sampleIn (sampled t ok n (due n) there inside unsampled) b ≡ due b)
+        given b i (yes z) h =
+            subst (λ (c : ℕ). (sampledIn (sampled t ok n (due n) there inside unsampled) c ≡ 1) × (sampleIn (sampled t ok n (due n) there inside unsampled) c ≡ due c)) (sym z)
+            (sample-flag t ok n (due n) there inside unsampled, sample-bits t ok n (due n) there inside unsampled)
+        given b i (no z) h =
+            let g = made .given b (under z h) i in
+            (sample-other-flag t ok n (due n) there inside unsampled b z ∙ g .0, sample-other t ok n (due n) there inside unsampled b z ∙ g .1)
+          where
+            under : (b ≡ n → ⊥) → b < suc n → b < n
+            under z h = omega arith
+
+  all-sampled : (n : ℕ) → n ≤ boardsIn s → Made n (slotsIn s)
+  all-sampled zero l =
+      record {
+        last = s;
+        calls = none;
+        all = tt;
+        progress = record { given = λ b h i. absurd (omega arith); waiting = λ b h i. x .unsampled b i; stepped = λ k h i. absurd (omega arith); fresh = λ k h i. x .unstepped k i };
+      }
+  all-sampled (suc n) l =
+      let m = all-sampled n (omega arith) in
+      record {
+        last = sampleLeaves (m .last) n (due n);
+        calls = sample (m .calls) n (due n);
+        all = (m .all, sample-says (m .last) (m .calls) n (omega arith) (m .progress));
+        progress = sample-more (m .last) (m .calls) n (omega arith) (m .progress);
+      }
+
+  -- ---- the next slot
+  module _ (t : List ℕ) (c : Calls s t) (k : ℕ) (l : k < slotsIn s) (made : Progress (boardsIn s) (suc k) t) where
+    abbrev passes : stateOk t ≡ true
+    passes = in-tick t c .passes
+
+    slot-there : k < slotsIn t
+    slot-there = omega (arith, slots-kept s (x .passes) (started-laid p masks rule us s x) t (in-tick t c))
+
+    step-says : stepSays t k ≡ accepted []
+    step-says =
+        let q = slots-kept s (x .passes) (started-laid p masks rule us s x) t (in-tick t c) in
+        let n = boards-kept s (x .passes) (started-laid p masks rule us s x) t (in-tick t c) in
+        let b = passing t passes .slots k slot-there .board-there in
+        step-accepted t passes (calls-unfinished p masks rule us s x t c unfinished) k slot-there (made .fresh k (omega arith) l)
+        (made .given (boardOfIn t k) (omega arith) (omega arith) .0) (λ m h i. made .stepped m (omega arith) (omega arith))
+
+    step-more : Progress (boardsIn s) k (stepLeaves t k)
+    step-more =
+        let t′ = after t passes k slot-there in
+        let q = slots-kept s (x .passes) (started-laid p masks rule us s x) t (in-tick t c) in
+        let n = boards-kept s (x .passes) (started-laid p masks rule us s x) t (in-tick t c) in
+        subst (λ (u : List ℕ). Progress (boardsIn s) k u) (sym (accepted-leaves _ t′ t step-says))
+        (record {
+          given = λ b h i.
+              (let g = made .given b h i in
+              (step-flag t passes k slot-there b (omega arith) ∙ g .0, step-sample t passes k slot-there b (omega arith) ∙ g .1));
+          waiting = λ b h i. absurd (omega arith);
+          stepped = λ j h i.
+              ⊎-elim (λ z. ap (steppedIn t′) (sym z) ∙ step-mark t passes k slot-there)
+              (λ z. step-slot t passes k slot-there j (omega arith) (λ y. omega arith) .mark ∙ made .stepped j z i) (eq-or-lt-of-le h);
+          fresh = λ j h i. step-slot t passes k slot-there j (omega arith) (λ y. omega arith) .mark ∙ made .fresh j (omega arith) i;
+        })
+
+  all-stepped : (k : ℕ) → k ≤ slotsIn s → Made (boardsIn s) k → Made (boardsIn s) 0
+  all-stepped zero l m = m
+  all-stepped (suc k) l m =
+      all-stepped k (omega arith)
+      (record {
+        last = stepLeaves (m .last) k;
+        calls = step (m .calls) k;
+        all = (m .all, step-says (m .last) (m .calls) k (omega arith) (m .progress));
+        progress = step-more (m .last) (m .calls) k (omega arith) (m .progress);
+      })
+
+  pub tick-reached : Reached s e
+  tick-reached =
+      let m = all-stepped (slotsIn s) (omega arith) (all-sampled (boardsIn s) (omega arith)) in
+      let t = m .last in
+      let i = in-tick t (m .calls) in
+      let laid = started-laid p masks rule us s x in
+      let q = slots-kept s (x .passes) laid t i in
+      let n = boards-kept s (x .passes) laid t i in
+      let going = calls-unfinished p masks rule us s x t (m .calls) unfinished in
+      let done = done-of t (i .passes) going (λ b h. m .progress .given b (omega arith) (omega arith) .0) (λ k h. m .progress .stepped k (omega arith) (omega arith)) in
+      record {
+        last = t;
+        calls = m .calls;
+        all = m .all;
+        saw = λ b h. m .progress .given b (omega arith) (omega arith) .1 ∙ ap (λ (ms : List ℕ). sampleOf ms e b) (sym (i .masks-kept));
+        done = done;
+        closing = close-left t (i .passes) going done;
+      }

@@ -1,0 +1,147 @@
+-- The verdict that a watch's state tells. At load and after each close it is that of the root's formula (`started-verdict`), and the watch
+-- is finished where that is true or false (`started-finished`). Between closes it stays: calls on a finished watch are refused with 10
+-- and leave it as it was (`finished-over`), and one that is not finished is not finished by them (`calls-unfinished`).
+-- Assumes nothing.
+use mathlib.Core.Path.{_≡_, refl, sym, ap, ap₂, _∙_}
+use mathlib.Core.Bool.{Bool, true, false, not}
+use mathlib.Core.List.{List}
+use Prim.Native.Nat.{ℕ, _<_}
+use native.Mathlib.Omega.{arith}
+use lib.ListN.{getD}
+use lib.Dec.{eqb}
+use borrow.Author.Tests.{eqb-true, eq-eqb}
+use Rattle.lists.specs.Tests.{pick}
+use Rattle.lists.proofs.Tests.{no-true, both-0, both-1, both-true}
+use Rattle.kinds.specs.declared.Leaf.the-variants.{Const, Prop, Hold}
+use Rattle.answers.specs.Said.{Said, refused, left}
+use Rattle.answers.specs.declared.Refusal.the-variants.{Finished}
+use Rattle.answers.specs.declared.Verdict.the-variants.{False, True, Pending}
+use Rattle.answers.proofs.Answers.{left-refused, order-ok, order-refused}
+use Rattle.ltl.specs.Formula.{Formula, leaf, one, two, constant, encode}
+use Rattle.ltl.specs.Meaning.{Event}
+use Rattle.ltl.specs.Progression.{verdictOf}
+use Rattle.checking.proofs.Each.{each-at}
+use Rattle.network.specs.Layout.{Slot}
+use Rattle.state.specs.Fields.{stateLength, slotsIn, steppedIn}
+use Rattle.state.specs.Clauses.{isConstantIn, stateOk}
+use Rattle.state.specs.Bytes.{formulaAt}
+use Rattle.state.specs.Calls.{finishedIn, verdictIn, doneIn, sampleSays, sampleLeaves, stepSays, stepLeaves, closeSays}
+use Rattle.state.proofs.Rows.{network-at}
+use Rattle.passing.proofs.Passing.{SlotPassing, passing}
+use Rattle.watching.specs.Watch.{Calls, none, sample, step}
+use Rattle.watching.specs.Claims.{known, Over}
+use Rattle.watching.proofs.Constants.{constant-is}
+use Rattle.watching.proofs.InTick.{slots-kept, slot-kept}
+use Rattle.watching.proofs.Started.{Started, started-laid}
+use Rattle.watching.proofs.Ticked.{started-in-tick}
+
+-- ---- finished or not
+pub unfinished-pending : (s : List ℕ) → finishedIn s ≡ false → verdictIn s ≡ Pending
+unfolding verdictIn pick
+unfinished-pending s e = rw e
+
+finished-of : (s : List ℕ) → slotsIn s ≡ 1 → steppedIn s 0 ≡ 0 → isConstantIn s 0 ≡ true → finishedIn s ≡ true
+unfolding finishedIn
+finished-of s a b c = both-true _ _ (eq-eqb _ _ a) (both-true _ _ (eq-eqb _ _ b) c)
+
+-- what a finished state's root is
+record Ended (s : List ℕ) : Type 0 where
+  unstepped : steppedIn s 0 ≡ 0
+  constant : isConstantIn s 0 ≡ true
+
+ended : (s : List ℕ) → finishedIn s ≡ true → Ended s
+unfolding finishedIn
+ended s e = let a = both-1 _ _ e in record { unstepped = eqb-true _ _ (both-0 _ _ a); constant = both-1 _ _ a }
+
+not-finished : (s : List ℕ) (b : Bool) → finishedIn s ≡ b → (Ended s → ⊥) → finishedIn s ≡ false
+not-finished s true e h = absurd (h (ended s e))
+not-finished s false e h = e
+
+-- all slots are stepped, so that it is not finished
+pub done-unfinished : (t : List ℕ) → 0 < slotsIn t → doneIn t ≡ true → finishedIn t ≡ false
+unfolding doneIn
+done-unfinished t l d =
+    not-finished t (finishedIn t) refl (λ x. (let e : steppedIn t 0 ≡ 1 = eqb-true _ _ (each-at (λ k. eqb (steppedIn t k) 1) (slotsIn t) 0 (both-1 _ _ d) l) in omega (arith, x .unstepped)))
+
+-- ---- calls on a finished state that passes
+refused-leaves : (a : Said) (output before : List ℕ) → a ≡ refused 10 → left a output before ≡ before
+refused-leaves a output before e = ap (λ (b : Said). left b output before) e ∙ left-refused Finished output before
+
+module _ (s : List ℕ) (ok : stateOk s ≡ true) (finished : finishedIn s ≡ true) where
+  sample-refused : (board bits : ℕ) → sampleSays s board bits ≡ refused 10
+  unfolding sampleSays
+  sample-refused board bits = order-ok 9 _ _ _ ok ∙ order-refused 10 _ _ _ (ap not finished)
+
+  step-refused : (k : ℕ) → stepSays s k ≡ refused 10
+  unfolding stepSays
+  step-refused k = order-ok 9 _ _ _ ok ∙ order-refused 10 _ _ _ (ap not finished)
+
+  close-refused : closeSays s stateLength ≡ refused 10
+  unfolding closeSays
+  close-refused = order-ok 1 _ _ _ refl ∙ order-ok 9 _ _ _ ok ∙ order-refused 10 _ _ _ (ap not finished)
+
+  calls-stay : {t : List ℕ} → Calls s t → t ≡ s
+  calls-stay none = refl
+  calls-stay (sample c board bits) = ap (λ (u : List ℕ). sampleLeaves u board bits) (calls-stay c) ∙ refused-leaves _ _ s (sample-refused board bits)
+  calls-stay (step c k) = ap (λ (u : List ℕ). stepLeaves u k) (calls-stay c) ∙ refused-leaves _ _ s (step-refused k)
+
+  pub finished-over : Over s
+  finished-over = record { no-sample = sample-refused; no-step = step-refused; no-close = close-refused; stays = λ t c. calls-stay c }
+
+-- ---- a watch's state
+module _ (p : ℕ) (masks : List ℕ) (rule : Formula) (us : List Event) (s : List ℕ) (x : Started p masks rule us s) where
+  some-slots : 0 < slotsIn s
+  some-slots = passing s (x .passes) .header .some-slots
+
+  root : SlotPassing s 0
+  root = passing s (x .passes) .slots 0 some-slots
+
+  constant-root : (v : Bool) → formulaAt s 0 ≡ constant v → finishedIn s ≡ true
+  constant-root v e = finished-of s (x .single v e) (x .unstepped 0 some-slots) (constant-is s 0 root ∙ ap (λ (f : Formula). known (verdictOf f)) e ∙ sure v)
+    where
+      sure : (v : Bool) → known (verdictOf (constant v)) ≡ true
+      sure true = refl
+      sure false = refl
+
+  pending-root : (f : Formula) → formulaAt s 0 ≡ f → known (verdictOf f) ≡ false → finishedIn s ≡ false
+  pending-root f e q =
+      not-finished s (finishedIn s) refl
+      (λ d. no-true (sym (constant-is s 0 root ∙ ap (λ (f : Formula). known (verdictOf f)) e ∙ q) ∙ d .constant))
+
+  pub started-finished : finishedIn s ≡ known (verdictOf (formulaAt s 0))
+  started-finished = go (formulaAt s 0) refl
+    where
+      go : (f : Formula) → formulaAt s 0 ≡ f → finishedIn s ≡ known (verdictOf f)
+      go (leaf (Const true)) e = constant-root true e
+      go (leaf (Const false)) e = constant-root false e
+      go (leaf (Prop i)) e = pending-root (leaf (Prop i)) e refl
+      go (leaf (Hold m)) e = pending-root (leaf (Hold m)) e refl
+      go (one o f) e = pending-root (one o f) e refl
+      go (two o f g) e = pending-root (two o f g) e refl
+
+  pub started-verdict : verdictIn s ≡ verdictOf (formulaAt s 0)
+  unfolding verdictIn pick
+  started-verdict =
+      ap₂ (λ (b : Bool) (l : List ℕ). pick b (pick (eqb (getD l 0 0) 1) True False) Pending) started-finished (root .bytes) ∙ told (formulaAt s 0)
+    where
+      told : (f : Formula) → pick (known (verdictOf f)) (pick (eqb (getD (encode f) 0 0) 1) True False) Pending ≡ verdictOf f
+      told (leaf (Const true)) = refl
+      told (leaf (Const false)) = refl
+      told (leaf (Prop i)) = refl
+      told (leaf (Hold m)) = refl
+      told (one o f) = refl
+      told (two o f g) = refl
+
+  -- ---- between closes
+  pub calls-unfinished : (t : List ℕ) → Calls s t → finishedIn s ≡ false → finishedIn t ≡ false
+  calls-unfinished t c unfinished = not-finished t (finishedIn t) refl (λ d. no-true (sym unfinished ∙ back d))
+    where
+      back : Ended t → finishedIn s ≡ true
+      back d =
+          let laid = started-laid p masks rule us s x in
+          let i = started-in-tick p masks rule us s t x c in
+          let n = slots-kept s (x .passes) laid t i in
+          let l : 0 < slotsIn t = omega (arith, some-slots) in
+          let same : formulaAt t 0 ≡ formulaAt s 0 =
+          ap (λ (y : Slot). y .formula) (sym (network-at t 0 l) ∙ slot-kept s (x .passes) laid t i 0 l (d .unstepped) ∙ network-at s 0 some-slots) in
+          started-finished ∙ ap (λ (f : Formula). known (verdictOf f)) (sym same) ∙ sym (constant-is t 0 (passing t (i .passes) .slots 0 l)) ∙ d .constant
