@@ -1,4 +1,6 @@
 // The state check, clause by clause: each function answers one clause of the definition.
+mod passing;
+
 ghost use mathlib.Core.Path.{_≡_};
 ghost use mathlib.Core.Bool.{true};
 ghost use Prim.Native.Nat.{_+_, _<_, _≤_};
