@@ -24,7 +24,7 @@ pub each-more : (test : ℕ → Bool) (i : ℕ) → eachBelow i test ≡ true �
 unfolding eachBelow both
 each-more test i e t = rw (add-one, e, t)
 
-both-false : (a : Bool) → both a false ≡ false
+pub both-false : (a : Bool) → both a false ≡ false
 unfolding both
 both-false true = refl
 both-false false = refl

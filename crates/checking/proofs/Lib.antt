@@ -2,3 +2,10 @@
 pub mod Each
 pub mod Stretched
 pub mod Passes
+pub mod Owing
+pub mod Allowing
+pub mod Noting
+pub mod Records
+pub mod Forming
+pub mod Masked
+pub mod Assembled

@@ -1,3 +1,4 @@
 -- What the contracts of `checking` cite.
 pub mod Header
 pub mod OnePass
+pub mod Slotted

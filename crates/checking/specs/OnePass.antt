@@ -1,11 +1,10 @@
 -- One pass over a slot's bytes: the shape of the loop in `pass_over`. What it means is the formula clause of the state check together
--- with the clause that no place holder stands twice; proofs/Passes.antt and proofs/Allowing.antt have the laws. Assumes nothing:
+-- with the clause that no place holder stands twice; specs/Slotted.antt says it, and proofs/Passes.antt and proofs/Allowing.antt have the laws. Assumes nothing:
 -- these are definitions.
-use mathlib.Core.Path.{_≡_}
-use Prim.Native.Nat.{ℕ, zero, suc, _+_, _-_, _^_, _≤_}
+use Prim.Native.Nat.{ℕ, _+_, _-_, _^_, _≤_}
 use mathlib.Core.Bool.{Bool, not}
 use mathlib.Core.List.{List, [], _∷_}
-use lib.Dec.{ltb, eqb}
+use lib.Dec.{ltb}
 use lib.Bits.{bitOr}
 use Rattle.lists.specs.Tests.{pick, both, bit}
 use Rattle.kinds.specs.declared.Leaf.{Leaf}
@@ -20,8 +19,6 @@ use Rattle.kinds.specs.Kinds.{kindOf}
 use Rattle.texts.specs.declared.Owed.{Owed}
 use Rattle.texts.specs.declared.Owed.the-variants.{Operands, Broken}
 use Rattle.texts.specs.Scan.{owedAfter}
-use Rattle.state.specs.Fields.{slotsIn, slotBytes, formulaIn}
-use Rattle.state.specs.Clauses.{formulaOk, heldOf}
 use Rattle.checking.specs.declared.passing.Allowed.{Allowed}
 use Rattle.checking.specs.declared.passing.Pass.{Pass}
 use Rattle.checking.specs.declared.passing.Passed.{Passed}
@@ -91,12 +88,8 @@ unfoldable pub pass : Allowed → List ℕ → Pass → Held
 pass a [] x = ended x
 pass a (b ∷ l) x = goOn (passAfter a (kindOf b) x) (λ y. pass a l y)
 
--- ---- what it means
+-- ---- the place holders that a pass has met
 -- the place holders' slots noted in a mask, one after the other; none may be there already
 unfoldable pub noted : List ℕ → ℕ → Held
 noted [] seen = Slots seen
 noted (m ∷ ms) seen = pick (bit seen m) Wrong (noted ms (bitOr seen (2 ^ m)))
-
--- slot k's clause, and its place holders noted
-unfoldable pub heldIn : List ℕ → ℕ → ℕ → ℕ → Held
-heldIn s p k seen = pick (formulaOk s p k (formulaIn s k)) (noted (heldOf (formulaIn s k)) seen) Wrong

@@ -1,6 +1,10 @@
 // The state check, clause by clause: each function answers one clause of the definition.
+mod formulas;
 mod passing;
+mod whole;
 
+pub use whole::finished;
+pub use whole::state_ok;
 ghost use mathlib.Core.Path.{_≡_};
 ghost use mathlib.Core.Bool.{true};
 ghost use Prim.Native.Nat.{_+_, _<_, _≤_};
@@ -124,7 +128,7 @@ fn stretch_end(s: &[u8], c: Counts, k: usize) -> usize
 }
 
 // Where slot k's nodes end.
-fn slot_end(s: &[u8], c: Counts, k: usize) -> usize
+pub fn slot_end(s: &[u8], c: Counts, k: usize) -> usize
     requires { ⌜ Sized (now s) (c .boards) (c .slots) (c .nodes) × (k < c .slots) ⌝ }
     ensures { λ r. ⌜ (r ≡ startIn (now (s .entry)) k + lengthIn (now (s .entry)) k) × (r < 131072) ⌝ }
 {

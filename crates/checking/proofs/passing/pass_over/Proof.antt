@@ -7,7 +7,7 @@ use Rattle.lists.specs.Tests.{pick}
 use Rattle.kinds.specs.Kinds.{kindOf}
 use Rattle.texts.proofs.Scans.{owed-bound}
 use Rattle.checking.specs.OnePass.{at, pass, ended}
-use Rattle.checking.proofs.Passes.{owing, turn-next, turn-off, turn-ended}
+use Rattle.checking.proofs.Owing.{owing, turn-next, turn-off, turn-ended}
 use native.Mathlib.Omega.{arith}
 use borrow.Author.Needs.{needs}
 use Rattle.checking.proofs.passing.pass_over.Statement.{statement}
