@@ -105,6 +105,9 @@ passed-records s b n m e h = of-slots s b n m h (recordOk s) ∙ clause-holds s 
 pub passed-length : (s : List ℕ) → stateOk s ≡ true → length s ≡ stateLength
 passed-length s e = eqb-true (length s) stateLength (clause-holds s 0 e)
 
+pub passed-start : (s : List ℕ) → stateOk s ≡ true → startIn s 0 ≡ 0
+passed-start s e = eqb-true (startIn s 0) 0 (clause-holds s 4 e)
+
 -- ---- one slot that is not stepped is finished where it is a constant
 pub finished-is : (s : List ℕ) → slotsIn s ≡ 1 → steppedIn s 0 ≡ 0 → isConstantIn s 0 ≡ finishedIn s
 unfolding finishedIn both

@@ -1,6 +1,6 @@
 -- A slot's formula clause is what one pass over its nodes finds (`held-passed`), and the clauses of all slots are found one slot after
 -- the other (`seen-more`, `seen-wrong`, `seen-all`). Assumes nothing.
-use mathlib.Core.Path.{_≡_, refl, sym, ap, _∙_}
+use mathlib.Core.Path.{_≡_, refl, sym, ap, _∙_, subst}
 use mathlib.Core.Bool.{Bool, true, false, not}
 use mathlib.Core.List.{List}
 use mathlib.Core.Logic.{⊎-elim}
@@ -32,9 +32,10 @@ use Rattle.checking.proofs.Allowing.{holds-all, holds-same, own-unfolde
 use Rattle.checking.proofs.Noting.{isSlots, noted-distinct}
 
 -- ---- one slot
-pub allowed-fewer : (s : List ℕ) (p settled k : ℕ) → p ≤ 64 → slotsIn s ≤ 64 → Fewer (allowedIn s p settled k)
+pub allowed-fewer : (s : List ℕ) (p settled k : ℕ) (a : Allowed) → a ≡ allowedIn s p settled k → p ≤ 64 → slotsIn s ≤ 64 → Fewer a
 unfolding allowedIn
-allowed-fewer s p settled k h l = pick-elim Fewer (eqb (steppedIn s k) 1) _ _ (λ e. record { propositions = h; slots = l }) (λ e. record { propositions = h; slots = l })
+allowed-fewer s p settled k a e h l =
+    subst Fewer (sym e) (pick-elim Fewer (eqb (steppedIn s k) 1) _ _ (λ e. record { propositions = h; slots = l }) (λ e. record { propositions = h; slots = l }))
 
 module _ (s : List ℕ) (p k seen : ℕ) where
   pub held-unsampled : sampledFor s k ≡ false → heldIn s p k seen ≡ Wrong

@@ -73,17 +73,20 @@ module _ (s : List ℕ) (b n m k : ℕ) (p : Placed s b n m k) where
       let z = p .sized .few-nodes in
       length-take-le (lengthIn s k) (drop at s) (omega arith)
 
+  -- its first byte
+  pub byte-at : (start : ℕ) → start ≡ startIn s k → 0 < lengthIn s k → getD s (16 + 17 * b + 6 * n + start) 0 ≡ getD (slotBytes s k) 0 0
+  byte-at start e l =
+      let at = nodesAt (boardsIn s) (slotsIn s) + startIn s k in
+      let i : 16 + 17 * b + 6 * n + start ≡ at + 0 = let q = nodes-at in omega arith in
+      ap (λ (j : ℕ). getD s j 0) i ∙ sym (getD-drop at s 0 0) ∙ sym (getD-take (lengthIn s k) (drop at s) 0 0 l)
+
   -- a slot of one node, by its byte
   pub constant-is : (start n₁ : ℕ) → start ≡ startIn s k → n₁ ≡ lengthIn s k → n₁ ≡ 1
       → leb (getD s (16 + 17 * b + 6 * n + start) 0) 1 ≡ isConstantIn s k
   unfolding both
   constant-is start n₁ es el e =
       let one : lengthIn s k ≡ 1 = sym el ∙ e in
-      let at = nodesAt (boardsIn s) (slotsIn s) + startIn s k in
-      let i : 16 + 17 * b + 6 * n + start ≡ at + 0 = let q = nodes-at in omega arith in
-      let byte : getD s (16 + 17 * b + 6 * n + start) 0 ≡ getD (slotBytes s k) 0 0 =
-      ap (λ (j : ℕ). getD s j 0) i ∙ sym (getD-drop at s 0 0) ∙ sym (getD-take (lengthIn s k) (drop at s) 0 0 (omega arith)) in
-      ap (λ (x : ℕ). leb x 1) byte ∙ sym (ap (λ (x : Bool). both x (leb (getD (slotBytes s k) 0 0) 1)) (eq-eqb (lengthIn s k) 1 one))
+      ap (λ (x : ℕ). leb x 1) (byte-at start es (omega arith)) ∙ sym (ap (λ (x : Bool). both x (leb (getD (slotBytes s k) 0 0) 1)) (eq-eqb (lengthIn s k) 1 one))
 
   -- its nodes, as they are lent
   pub bytes-at : (start end : ℕ) → start ≡ startIn s k → end ≡ startIn s k + lengthIn s k

@@ -24,7 +24,7 @@ slot-held-requires : tie.Need-slot-held-requires
 slot-held-requires c κs =
     let f = c .before .before .before .before .pre .0 .sized .few-slots in
     let e = c .before .before .before .before .pre .0 .sized .header .slots-are in
-    (c .before .before .before .before .pre .0, subst Fewer (sym (c .allowed-in .ensures)) (allowed-fewer (c .before .before .before .before .args .s .now) (c .before .before .before .before .args .p) (c .before .before .before .before .args .settled) (c .before .before .before .before .args .k) (c .before .before .before .before .pre .1) (omega arith)))
+    (c .before .before .before .before .pre .0, allowed-fewer (c .before .before .before .before .args .s .now) (c .before .before .before .before .args .p) (c .before .before .before .before .args .settled) (c .before .before .before .before .args .k) (c .allowed-in .result) (c .allowed-in .ensures) (c .before .before .before .before .pre .1) (omega arith))
 
 returns-2 : tie.Need-returns-2
 returns-2 c =
