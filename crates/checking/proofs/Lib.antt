@@ -1,8 +1,6 @@
 -- Laws of the clauses.
 pub mod Each
 pub mod Stretched
-pub mod Passes
-pub mod Owing
 pub mod Allowing
 pub mod Noting
 pub mod Records

@@ -15,9 +15,9 @@ use Rattle.lists.specs.Tests.{pick, both, either, bit}
 use Rattle.masks.specs.Masks.{bitAt}
 use Rattle.masks.proofs.Bits.{bit-less, or-bit, one-shifted}
 use Rattle.state.specs.Clauses.{among, distinct}
-use Rattle.checking.specs.declared.passing.Held.{Held}
-use Rattle.checking.specs.declared.passing.Held.the-variants.{Slots, Wrong}
-use Rattle.checking.specs.OnePass.{noted}
+use Rattle.passing.specs.declared.Held.{Held}
+use Rattle.passing.specs.declared.Held.the-variants.{Slots, Wrong}
+use Rattle.passing.specs.OnePass.{noted}
 use Rattle.checking.proofs.Each.{both-false, both-last}
 use Rattle.checking.proofs.Allowing.{no-bits}
 

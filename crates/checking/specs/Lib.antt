@@ -1,4 +1,3 @@
 -- What the contracts of `checking` cite.
 pub mod Header
-pub mod OnePass
 pub mod Slotted

@@ -1,6 +1,5 @@
 // The state check, clause by clause: each function answers one clause of the definition.
 mod formulas;
-mod passing;
 mod whole;
 
 pub use whole::finished;

@@ -1,10 +1,9 @@
 // A slot's formula, checked in one pass over its bytes. Two counts tell which operands are still owed: those outside next and the
 // temporal operators, and those inside one, which come first.
 ghost use mathlib.Core.Path.{_≡_};
-ghost use Prim.Native.Nat.{ℕ, _+_, _<_, _≤_, _^_};
-ghost use lib.Bits.{bitOr};
+ghost use Prim.Native.Nat.{_+_, _<_, _^_};
 ghost use Rattle.kinds.specs.Kinds.{kindOf};
-ghost use Rattle.checking.specs.OnePass.{leafOutside, unaryOutside, binaryOutside, outsideAfter, insideAfter, passAfter, pass, Fewer};
+ghost use Rattle.passing.specs.OnePass.{leafOutside, unaryOutside, binaryOutside, outsideAfter, insideAfter, passAfter, pass, Fewer};
 use kinds::Binary;
 use kinds::Kind;
 use kinds::Leaf;

@@ -1,5 +1,5 @@
 -- One pass over a slot's bytes: the shape of the loop in `pass_over`. What it means is the formula clause of the state check together
--- with the clause that no place holder stands twice; specs/Slotted.antt says it, and proofs/Passes.antt and proofs/Allowing.antt have the laws. Assumes nothing:
+-- with the clause that no place holder stands twice; proofs/Passes.antt and proofs/Owing.antt have the laws. Assumes nothing:
 -- these are definitions.
 use Prim.Native.Nat.{ℕ, _+_, _-_, _^_, _≤_}
 use mathlib.Core.Bool.{Bool, not}
@@ -19,12 +19,12 @@ use Rattle.kinds.specs.Kinds.{kindOf}
 use Rattle.texts.specs.declared.Owed.{Owed}
 use Rattle.texts.specs.declared.Owed.the-variants.{Operands, Broken}
 use Rattle.texts.specs.Scan.{owedAfter}
-use Rattle.checking.specs.declared.passing.Allowed.{Allowed}
-use Rattle.checking.specs.declared.passing.Pass.{Pass}
-use Rattle.checking.specs.declared.passing.Passed.{Passed}
-use Rattle.checking.specs.declared.passing.Passed.the-variants.{On, Off}
-use Rattle.checking.specs.declared.passing.Held.{Held}
-use Rattle.checking.specs.declared.passing.Held.the-variants.{Slots, Wrong}
+use Rattle.passing.specs.declared.Allowed.{Allowed}
+use Rattle.passing.specs.declared.Pass.{Pass}
+use Rattle.passing.specs.declared.Passed.{Passed}
+use Rattle.passing.specs.declared.Passed.the-variants.{On, Off}
+use Rattle.passing.specs.declared.Held.{Held}
+use Rattle.passing.specs.declared.Held.the-variants.{Slots, Wrong}
 
 -- numbers that a mask has a bit for
 pub record Fewer (a : Allowed) : Type 0 where

@@ -1,0 +1,2 @@
+-- What the contracts of `passing` cite.
+pub mod OnePass
