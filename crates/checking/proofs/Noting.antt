@@ -12,6 +12,7 @@ use lib.Pow.{pow-lt, pow-add, shl-shr}
 use lib.Bits.{bitOr}
 use borrow.Author.Tests.{lt-ltb, le-ltb, eq-eqb, ne-eqb}
 use Rattle.lists.specs.Tests.{pick, both, either, bit}
+use Rattle.lists.proofs.Tests.{either-right}
 use Rattle.masks.specs.Masks.{bitAt}
 use Rattle.masks.proofs.Bits.{bit-less, or-bit, one-shifted}
 use Rattle.state.specs.Clauses.{among, distinct}
@@ -20,6 +21,11 @@ use Rattle.passing.specs.declared.Held.the-variants.{Slots, Wrong}
 use Rattle.passing.specs.OnePass.{noted}
 use Rattle.checking.proofs.Each.{both-false, both-last}
 use Rattle.checking.proofs.Allowing.{no-bits}
+
+either-false : (b : Bool) → either b false ≡ b
+unfolding either
+either-false true = refl
+either-false false = refl
 
 -- ---- a bit added to a mask
 power-same : (m : ℕ) → bitAt (2 ^ m) m ≡ 1
@@ -53,18 +59,10 @@ bit-noted x m i =
     ]
   where
     there : bitAt (2 ^ m) i ≡ 1 → eqb m i ≡ true → eqb (max (bitAt x i) (bitAt (2 ^ m) i)) 1 ≡ either (eqb (bitAt x i) 1) (eqb m i)
-    there z q = let b = bit-less x i in let e : max (bitAt x i) (bitAt (2 ^ m) i) ≡ 1 = omega arith in rw (e, q) (yes-right (eqb (bitAt x i) 1))
-      where
-        yes-right : (b : Bool) → true ≡ either b true
-        yes-right true = refl
-        yes-right false = refl
+    there z q = let b = bit-less x i in let e : max (bitAt x i) (bitAt (2 ^ m) i) ≡ 1 = omega arith in rw (e, q) (sym (either-right (eqb (bitAt x i) 1)))
 
     absent : bitAt (2 ^ m) i ≡ 0 → eqb m i ≡ false → eqb (max (bitAt x i) (bitAt (2 ^ m) i)) 1 ≡ either (eqb (bitAt x i) 1) (eqb m i)
-    absent z q = let e : max (bitAt x i) (bitAt (2 ^ m) i) ≡ bitAt x i = omega arith in rw (e, q) (no-right (eqb (bitAt x i) 1))
-      where
-        no-right : (b : Bool) → b ≡ either b false
-        no-right true = refl
-        no-right false = refl
+    absent z q = let e : max (bitAt x i) (bitAt (2 ^ m) i) ≡ bitAt x i = omega arith in rw (e, q) (sym (either-false (eqb (bitAt x i) 1)))
 
 -- ---- the slots below a number that pass a test, one more at a time
 abbrev pub Below : (ℕ → Bool) → ℕ → ℕ → Type 0
@@ -94,17 +92,9 @@ module _ (test : ℕ → Bool) where
     below-yes t l m =
         ap (λ (y : ℕ). bit (bitOr x y) m) (one-shifted k l) ∙ bit-noted x k m
         ∙ elim (ℕ-discrete k m) [
-          | yes e ↦ (let q : test m ≡ true = ap test (sym e) ∙ t in rw (eq-eqb k m e, q, lt-ltb m (k + 1) (omega arith)) (right (bit x m)))
-          | no n ↦ rw (ne-eqb k m n) (left (bit x m) ∙ below-other m n)
+          | yes e ↦ (let q : test m ≡ true = ap test (sym e) ∙ t in rw (eq-eqb k m e, q, lt-ltb m (k + 1) (omega arith)) (either-right (bit x m)))
+          | no n ↦ rw (ne-eqb k m n) (either-false (bit x m) ∙ below-other m n)
         ]
-      where
-        right : (b : Bool) → either b true ≡ true
-        right true = refl
-        right false = refl
-
-        left : (b : Bool) → either b false ≡ b
-        left true = refl
-        left false = refl
 
 -- ---- place holders noted one after the other
 unfoldable pub isSlots : Held → Bool

@@ -20,18 +20,17 @@ pub struct Counts {
     pub nodes: usize,
 }
 
-// Every byte is 0.
+// Every byte is 0: so is their union. No byte ends the loop, so that the compiler takes many at once.
 fn zeros(s: &[u8]) -> bool
     ensures { λ r. ⌜ r ≡ allZero (now (s .entry)) ⌝ }
 {
+    let mut union: u8 = 0;
     let mut i: usize = 0;
     while i < s.len() {
-        if s[i] != 0 {
-            return false;
-        }
+        union = union | s[i];
         i += 1;
     }
-    true
+    union == 0
 }
 
 // The header's counts.
