@@ -23,7 +23,7 @@ use Rattle.state.specs.Clauses.{eachBelow, distinct, shapeOk, unfoldedOwn, lone
 use Rattle.passing.specs.declared.Allowed.{Allowed}
 use Rattle.passing.specs.declared.Held.{Held}
 use Rattle.passing.specs.declared.Held.the-variants.{Slots, Wrong}
-use Rattle.passing.specs.OnePass.{Fewer, at, pass, noted}
+use Rattle.passing.specs.OnePass.{Fitted, at, pass, noted}
 use Rattle.checking.specs.Slotted.{settledIn, Settled, sampledFor, ownStepped, allowedIn, heldIn, formulasOk}
 use Rattle.checking.proofs.Each.{each-none, each-more, each-false, both-false}
 use Rattle.passing.proofs.Passes.{stands, thereafter, noted-append}
@@ -32,10 +32,10 @@ use Rattle.checking.proofs.Allowing.{holds-all, holds-same, own-unfolde
 use Rattle.checking.proofs.Noting.{isSlots, noted-distinct}
 
 -- ---- one slot
-pub allowed-fewer : (s : List ℕ) (p settled k : ℕ) (a : Allowed) → a ≡ allowedIn s p settled k → p ≤ 64 → slotsIn s ≤ 64 → Fewer a
+pub allowed-fitted : (s : List ℕ) (p settled k : ℕ) (a : Allowed) → a ≡ allowedIn s p settled k → p ≤ 64 → slotsIn s ≤ 64 → Fitted a
 unfolding allowedIn
-allowed-fewer s p settled k a e h l =
-    subst Fewer (sym e) (pick-elim Fewer (eqb (steppedIn s k) 1) _ _ (λ e. record { propositions = h; slots = l }) (λ e. record { propositions = h; slots = l }))
+allowed-fitted s p settled k a e h l =
+    subst Fitted (sym e) (pick-elim Fitted (eqb (steppedIn s k) 1) _ _ (λ e. record { propositions = h; slots = l }) (λ e. record { propositions = h; slots = l }))
 
 module _ (s : List ℕ) (p k seen : ℕ) where
   pub held-unsampled : sampledFor s k ≡ false → heldIn s p k seen ≡ Wrong

@@ -5,7 +5,7 @@ ghost use Prim.Native.Nat.{_≤_};
 ghost use Rattle.state.specs.Fields.{slotBytes};
 ghost use Rattle.state.specs.Clauses.{eachBelow, isConstantIn, recordOk};
 ghost use Rattle.checking.specs.Header.{Sized};
-ghost use Rattle.passing.specs.OnePass.{Fewer, at, pass};
+ghost use Rattle.passing.specs.OnePass.{Fitted, at, pass};
 ghost use Rattle.checking.specs.Slotted.{Placed, settledIn, Settled, sampledFor, ownStepped, allowedIn, heldIn, formulasOk};
 use crate::Counts;
 use crate::slot_end;
@@ -104,7 +104,7 @@ fn allowed_in(s: &[u8], c: Counts, k: usize, p: u64, settled: u64) -> Allowed
 
 // Slot k's formula, with the place holders that the slots before it have.
 fn slot_held(s: &[u8], c: Counts, k: usize, allowed: Allowed, seen: u64) -> Held
-    requires { ⌜ Placed (now s) (c .boards) (c .slots) (c .nodes) k × Fewer allowed ⌝ }
+    requires { ⌜ Placed (now s) (c .boards) (c .slots) (c .nodes) k × Fitted allowed ⌝ }
     ensures { λ r. ⌜ r ≡ pass allowed (slotBytes (now (s .entry)) k) (at 1 0 seen) ⌝ }
 {
     let at = 16 + 17 * c.boards + 6 * k;

@@ -27,7 +27,7 @@ use Rattle.passing.specs.declared.Held.{Held}
 use Rattle.passing.specs.declared.Held.the-variants.{Slots, Wrong}
 
 -- numbers that a mask has a bit for
-pub record Fewer (a : Allowed) : Type 0 where
+pub record Fitted (a : Allowed) : Type 0 where
   pub propositions : a .propositions ≤ 64
   pub slots : a .slots ≤ 64
 

@@ -3,7 +3,7 @@
 ghost use mathlib.Core.Path.{_≡_};
 ghost use Prim.Native.Nat.{_+_, _<_, _^_};
 ghost use Rattle.kinds.specs.Kinds.{kindOf};
-ghost use Rattle.passing.specs.OnePass.{leafOutside, unaryOutside, binaryOutside, outsideAfter, insideAfter, passAfter, pass, Fewer};
+ghost use Rattle.passing.specs.OnePass.{leafOutside, unaryOutside, binaryOutside, outsideAfter, insideAfter, passAfter, pass, Fitted};
 use kinds::Binary;
 use kinds::Kind;
 use kinds::Leaf;
@@ -42,7 +42,7 @@ pub enum Held {
 
 // Outside, behind a node without operands.
 fn leaf_outside(a: Leaf, allowed: Allowed, others: usize, seen: u64) -> Passed
-    requires { ⌜ Fewer allowed ⌝ }
+    requires { ⌜ Fitted allowed ⌝ }
     ensures { λ r. ⌜ r ≡ leafOutside allowed a others seen ⌝ }
 {
     match a {
@@ -141,7 +141,7 @@ fn binary_outside(o: Binary, temporal: bool, others: usize, seen: u64) -> Passed
 
 // Outside, with `others` operands owed beside this node.
 fn outside(k: Kind, allowed: Allowed, others: usize, seen: u64) -> Passed
-    requires { ⌜ Fewer allowed × (others + 2 < 2 ^ 64) ⌝ }
+    requires { ⌜ Fitted allowed × (others + 2 < 2 ^ 64) ⌝ }
     ensures { λ r. ⌜ r ≡ outsideAfter allowed k others seen ⌝ }
 {
     match k {
@@ -170,7 +170,7 @@ fn inside(k: Kind, p: u64, others: usize, outer: usize, seen: u64) -> Passed
 
 // One node further.
 fn after(b: u8, allowed: Allowed, at: Pass) -> Passed
-    requires { ⌜ Fewer allowed × (at .outer + at .inner + 2 < 2 ^ 64) ⌝ }
+    requires { ⌜ Fitted allowed × (at .outer + at .inner + 2 < 2 ^ 64) ⌝ }
     ensures { λ r. ⌜ r ≡ passAfter allowed (kindOf b) at ⌝ }
 {
     if 0 < at.inner {
@@ -190,7 +190,7 @@ fn after(b: u8, allowed: Allowed, at: Pass) -> Passed
 
 // The pass over a slot's bytes, with the place holders that the slots before it have.
 pub fn pass_over(s: &[u8], allowed: Allowed, seen: u64) -> Held
-    requires { ⌜ Fewer allowed ⌝ }
+    requires { ⌜ Fitted allowed ⌝ }
     ensures { λ r. ⌜ r ≡ pass allowed (now (s .entry)) (record { outer = 1; inner = 0; seen = seen }) ⌝ }
 {
     let mut at = Pass {

@@ -2,10 +2,10 @@
 use mathlib.Core.Path.{sym, ap, subst, _∙_}
 use Rattle.state.specs.Fields.{slotBytes}
 use Rattle.passing.specs.declared.Allowed.{Allowed}
-use Rattle.passing.specs.OnePass.{Fewer, at, pass}
+use Rattle.passing.specs.OnePass.{Fitted, at, pass}
 use borrow.Author.Tests.{not-true, not-false}
 use Rattle.checking.proofs.Records.{bytes-length}
-use Rattle.checking.proofs.Forming.{allowed-fewer, held-unsampled, held-passed}
+use Rattle.checking.proofs.Forming.{allowed-fitted, held-unsampled, held-passed}
 use native.Mathlib.Omega.{arith}
 use borrow.Author.Needs.{needs}
 use Rattle.checking.proofs.formulas.formula_held.Statement.{statement}
@@ -24,7 +24,7 @@ slot-held-requires : tie.Need-slot-held-requires
 slot-held-requires c κs =
     let f = c .before .before .before .before .pre .0 .sized .few-slots in
     let e = c .before .before .before .before .pre .0 .sized .header .slots-are in
-    (c .before .before .before .before .pre .0, allowed-fewer (c .before .before .before .before .args .s .now) (c .before .before .before .before .args .p) (c .before .before .before .before .args .settled) (c .before .before .before .before .args .k) (c .allowed-in .result) (c .allowed-in .ensures) (c .before .before .before .before .pre .1) (omega arith))
+    (c .before .before .before .before .pre .0, allowed-fitted (c .before .before .before .before .args .s .now) (c .before .before .before .before .args .p) (c .before .before .before .before .args .settled) (c .before .before .before .before .args .k) (c .allowed-in .result) (c .allowed-in .ensures) (c .before .before .before .before .pre .1) (omega arith))
 
 returns-2 : tie.Need-returns-2
 returns-2 c =
