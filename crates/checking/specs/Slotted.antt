@@ -14,7 +14,7 @@ use Rattle.passing.specs.declared.Held.the-variants.{Wrong}
 use Rattle.checking.specs.Header.{Sized, InStretch}
 use Rattle.passing.specs.OnePass.{noted}
 
--- slot k is there, it lies in its stretch, and so does its board
+-- slot k is there, it lies in its stretch, and its board is there
 pub record Placed (s : List ℕ) (boards slots nodes k : ℕ) : Type 0 where
   pub sized : Sized s boards slots nodes
   pub number : k < slots
