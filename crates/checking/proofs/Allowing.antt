@@ -16,9 +16,9 @@ use Rattle.ltl.proofs.Texts.{size-some}
 use Rattle.masks.proofs.Exact.{below, low-bits-bit}
 use Rattle.network.specs.Tick.{holdsOnly}
 use Rattle.state.specs.Clauses.{tidy, unfoldedOwn, loneOther}
-use Rattle.passing.specs.declared.Allowed.{Allowed}
+use Rattle.scanning.specs.declared.Allowed.{Allowed}
 use Rattle.checking.proofs.Each.{both-false, both-last}
-use Rattle.passing.proofs.Passes.{leafStands, stands}
+use Rattle.scanning.proofs.Passes.{leafStands, stands}
 
 -- ---- tests regrouped
 swap : (a b c d : Bool) → both (both a b) (both c d) ≡ both (both a c) (both b d)

@@ -20,14 +20,14 @@ use Rattle.ltl.proofs.Texts.{text-is, length-encode, over-within}
 use Rattle.network.specs.Tick.{holdsOnly}
 use Rattle.state.specs.Fields.{slotsIn, maskIn, sampledIn, boardOfIn, steppedIn, lengthIn, slotBytes, formulaIn}
 use Rattle.state.specs.Clauses.{eachBelow, distinct, shapeOk, unfoldedOwn, loneOther, formulaOk, heldBy, heldOf, holdersIn}
-use Rattle.passing.specs.declared.Allowed.{Allowed}
-use Rattle.passing.specs.declared.Held.{Held}
-use Rattle.passing.specs.declared.Held.the-variants.{Slots, Wrong}
-use Rattle.passing.specs.OnePass.{Fitted, at, pass, noted}
+use Rattle.scanning.specs.declared.Allowed.{Allowed}
+use Rattle.scanning.specs.declared.Held.{Held}
+use Rattle.scanning.specs.declared.Held.the-variants.{Slots, Wrong}
+use Rattle.scanning.specs.OnePass.{Fitted, at, pass, noted}
 use Rattle.checking.specs.Slotted.{settledIn, Settled, sampledFor, ownStepped, allowedIn, heldIn, formulasOk}
 use Rattle.checking.proofs.Each.{each-none, each-more, each-false, both-false}
-use Rattle.passing.proofs.Passes.{stands, thereafter, noted-append}
-use Rattle.passing.proofs.Owing.{checkedText, wrong-slots, pass-is}
+use Rattle.scanning.proofs.Passes.{stands, thereafter, noted-append}
+use Rattle.scanning.proofs.Owing.{checkedText, wrong-slots, pass-is}
 use Rattle.checking.proofs.Allowing.{holds-all, holds-same, own-unfolded, own-stepped, all-bits, stands-so}
 use Rattle.checking.proofs.Noting.{isSlots, noted-distinct}
 

@@ -16,9 +16,9 @@ use Rattle.lists.proofs.Tests.{either-right}
 use Rattle.masks.specs.Masks.{bitAt}
 use Rattle.masks.proofs.Bits.{bit-less, or-bit, one-shifted}
 use Rattle.state.specs.Clauses.{among, distinct}
-use Rattle.passing.specs.declared.Held.{Held}
-use Rattle.passing.specs.declared.Held.the-variants.{Slots, Wrong}
-use Rattle.passing.specs.OnePass.{noted}
+use Rattle.scanning.specs.declared.Held.{Held}
+use Rattle.scanning.specs.declared.Held.the-variants.{Slots, Wrong}
+use Rattle.scanning.specs.OnePass.{noted}
 use Rattle.checking.proofs.Each.{both-false, both-last}
 use Rattle.checking.proofs.Allowing.{no-bits}
 

@@ -8,11 +8,11 @@ use lib.Dec.{ltb, eqb}
 use Rattle.lists.specs.Tests.{pick, both, either, bit}
 use Rattle.state.specs.Fields.{slotsIn, maskIn, sampledIn, boardOfIn, steppedIn, lengthIn, formulaIn}
 use Rattle.state.specs.Clauses.{eachBelow, distinct, isConstantIn, formulaOk, heldOf, holdersIn}
-use Rattle.passing.specs.declared.Allowed.{Allowed}
-use Rattle.passing.specs.declared.Held.{Held}
-use Rattle.passing.specs.declared.Held.the-variants.{Wrong}
+use Rattle.scanning.specs.declared.Allowed.{Allowed}
+use Rattle.scanning.specs.declared.Held.{Held}
+use Rattle.scanning.specs.declared.Held.the-variants.{Wrong}
 use Rattle.checking.specs.Header.{Sized, InStretch}
-use Rattle.passing.specs.OnePass.{noted}
+use Rattle.scanning.specs.OnePass.{noted}
 
 -- slot k is there, it lies in its stretch, and its board is there
 pub record Placed (s : List ℕ) (boards slots nodes k : ℕ) : Type 0 where

@@ -5,13 +5,13 @@ ghost use Prim.Native.Nat.{_≤_};
 ghost use Rattle.state.specs.Fields.{slotBytes};
 ghost use Rattle.state.specs.Clauses.{eachBelow, isConstantIn, recordOk};
 ghost use Rattle.checking.specs.Header.{Sized};
-ghost use Rattle.passing.specs.OnePass.{Fitted, at, pass};
+ghost use Rattle.scanning.specs.OnePass.{Fitted, at, pass};
 ghost use Rattle.checking.specs.Slotted.{Placed, settledIn, Settled, sampledFor, ownStepped, allowedIn, heldIn, formulasOk};
 use crate::Counts;
 use crate::slot_end;
-use passing::Allowed;
-use passing::Held;
-use passing::pass_over;
+use scanning::Allowed;
+use scanning::Held;
+use scanning::pass_over;
 
 // Slot k is the single byte 0 or 1.
 pub fn is_constant(s: &[u8], c: Counts, k: usize) -> bool

@@ -1,8 +1,8 @@
 -- The pass over the slot's nodes is its clause (`held-passed`). Assumes nothing.
 use mathlib.Core.Path.{sym, ap, subst, _∙_}
 use Rattle.state.specs.Fields.{slotBytes}
-use Rattle.passing.specs.declared.Allowed.{Allowed}
-use Rattle.passing.specs.OnePass.{Fitted, at, pass}
+use Rattle.scanning.specs.declared.Allowed.{Allowed}
+use Rattle.scanning.specs.OnePass.{Fitted, at, pass}
 use borrow.Author.Tests.{not-true, not-false}
 use Rattle.checking.proofs.Records.{bytes-length}
 use Rattle.checking.proofs.Forming.{allowed-fitted, held-unsampled, held-passed}

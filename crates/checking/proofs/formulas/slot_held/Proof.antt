@@ -2,7 +2,7 @@
 use mathlib.Core.Path.{ap, _∙_}
 use mathlib.Core.List.{List}
 use Prim.Native.Nat.{ℕ}
-use Rattle.passing.specs.OnePass.{at, pass}
+use Rattle.scanning.specs.OnePass.{at, pass}
 use Rattle.checking.proofs.Records.{start-at, bytes-at}
 use native.Mathlib.Omega.{arith}
 use borrow.Author.Needs.{needs}

@@ -30,14 +30,14 @@ use Rattle.ltl.proofs.Texts.{text-is}
 use Rattle.texts.specs.declared.Owed.the-variants.{Operands, Broken}
 use Rattle.texts.specs.Scan.{owedAfter, scan}
 use Rattle.texts.proofs.Scans.{scan-is, turn-on, turn-end}
-use Rattle.passing.specs.declared.Allowed.{Allowed}
-use Rattle.passing.specs.declared.Pass.{Pass}
-use Rattle.passing.specs.declared.Passed.{Passed}
-use Rattle.passing.specs.declared.Passed.the-variants.{On, Off}
-use Rattle.passing.specs.declared.Held.{Held}
-use Rattle.passing.specs.declared.Held.the-variants.{Slots, Wrong}
-use Rattle.passing.specs.OnePass.{at, holdable, outsideAfter, inward, insideAfter, passAfter, goOn, ended, pass}
-use Rattle.passing.proofs.Passes.{checked, thereafter, thereafter-slots, pass-ends, pass-outside}
+use Rattle.scanning.specs.declared.Allowed.{Allowed}
+use Rattle.scanning.specs.declared.Pass.{Pass}
+use Rattle.scanning.specs.declared.Passed.{Passed}
+use Rattle.scanning.specs.declared.Passed.the-variants.{On, Off}
+use Rattle.scanning.specs.declared.Held.{Held}
+use Rattle.scanning.specs.declared.Held.the-variants.{Slots, Wrong}
+use Rattle.scanning.specs.OnePass.{at, holdable, outsideAfter, inward, insideAfter, passAfter, goOn, ended, pass}
+use Rattle.scanning.proofs.Passes.{checked, thereafter, thereafter-slots, pass-ends, pass-outside}
 
 -- ---- a pass that succeeds is one over a formula of the language
 off-on : (y : Pass) → _≡_ {A = Passed} Off (On y) → ⊥

@@ -24,13 +24,13 @@ use Rattle.kinds.proofs.Codes.{kind-leaf, kind-unary, kind-binary}
 use Rattle.ltl.specs.Formula.{Formula, leaf, one, two, encode, Within, leafOver, over}
 use Rattle.texts.specs.declared.Owed.the-variants.{Operands, Broken}
 use Rattle.state.specs.Clauses.{heldBy}
-use Rattle.passing.specs.declared.Allowed.{Allowed}
-use Rattle.passing.specs.declared.Pass.{Pass}
-use Rattle.passing.specs.declared.Passed.{Passed}
-use Rattle.passing.specs.declared.Passed.the-variants.{On, Off}
-use Rattle.passing.specs.declared.Held.{Held}
-use Rattle.passing.specs.declared.Held.the-variants.{Slots, Wrong}
-use Rattle.passing.specs.OnePass.{at, holdable, leafOutside, outsideAfter, inward, insideAfter, passAfter, goOn, ended, pass, noted}
+use Rattle.scanning.specs.declared.Allowed.{Allowed}
+use Rattle.scanning.specs.declared.Pass.{Pass}
+use Rattle.scanning.specs.declared.Passed.{Passed}
+use Rattle.scanning.specs.declared.Passed.the-variants.{On, Off}
+use Rattle.scanning.specs.declared.Held.{Held}
+use Rattle.scanning.specs.declared.Held.the-variants.{Slots, Wrong}
+use Rattle.scanning.specs.OnePass.{at, holdable, leafOutside, outsideAfter, inward, insideAfter, passAfter, goOn, ended, pass, noted}
 
 -- ---- what may stand, by the formula
 -- inside next and the temporal operators as in a rule, `over p 0`

@@ -19,12 +19,12 @@ use Rattle.kinds.specs.Kinds.{kindOf}
 use Rattle.texts.specs.declared.Owed.{Owed}
 use Rattle.texts.specs.declared.Owed.the-variants.{Operands, Broken}
 use Rattle.texts.specs.Scan.{owedAfter}
-use Rattle.passing.specs.declared.Allowed.{Allowed}
-use Rattle.passing.specs.declared.Pass.{Pass}
-use Rattle.passing.specs.declared.Passed.{Passed}
-use Rattle.passing.specs.declared.Passed.the-variants.{On, Off}
-use Rattle.passing.specs.declared.Held.{Held}
-use Rattle.passing.specs.declared.Held.the-variants.{Slots, Wrong}
+use Rattle.scanning.specs.declared.Allowed.{Allowed}
+use Rattle.scanning.specs.declared.Pass.{Pass}
+use Rattle.scanning.specs.declared.Passed.{Passed}
+use Rattle.scanning.specs.declared.Passed.the-variants.{On, Off}
+use Rattle.scanning.specs.declared.Held.{Held}
+use Rattle.scanning.specs.declared.Held.the-variants.{Slots, Wrong}
 
 -- numbers that a mask has a bit for
 pub record Fitted (a : Allowed) : Type 0 where

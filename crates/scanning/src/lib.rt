@@ -3,7 +3,7 @@
 ghost use mathlib.Core.Path.{_≡_};
 ghost use Prim.Native.Nat.{_+_, _<_, _^_};
 ghost use Rattle.kinds.specs.Kinds.{kindOf};
-ghost use Rattle.passing.specs.OnePass.{leafOutside, unaryOutside, binaryOutside, outsideAfter, insideAfter, passAfter, pass, Fitted};
+ghost use Rattle.scanning.specs.OnePass.{leafOutside, unaryOutside, binaryOutside, outsideAfter, insideAfter, passAfter, pass, Fitted};
 use kinds::Binary;
 use kinds::Kind;
 use kinds::Leaf;

@@ -1,10 +1,10 @@
 -- The tests in the order of the definition. Assumes nothing.
 use borrow.Author.Tests.{lt-ltb, le-ltb}
 use Rattle.lists.specs.Tests.{pick}
-use Rattle.passing.specs.OnePass.{passAfter}
+use Rattle.scanning.specs.OnePass.{passAfter}
 use borrow.Author.Needs.{needs}
-use Rattle.passing.proofs.after.Statement.{statement}
-use Rattle.passing.proofs.after.Tie as tie
+use Rattle.scanning.proofs.after.Statement.{statement}
+use Rattle.scanning.proofs.after.Tie as tie
 
 of-requires : tie.Need-of-requires
 of-requires c κs = search needs

@@ -5,8 +5,8 @@ use Rattle.lists.specs.Tests.{pick, both, bit}
 use Rattle.masks.proofs.Bits.{one-shifted}
 use native.Mathlib.Omega.{arith}
 use borrow.Author.Needs.{needs}
-use Rattle.passing.proofs.leaf_outside.Statement.{statement}
-use Rattle.passing.proofs.leaf_outside.Tie as tie
+use Rattle.scanning.proofs.leaf_outside.Statement.{statement}
+use Rattle.scanning.proofs.leaf_outside.Tie as tie
 
 enum-told : tie.Need-enum-told
 enum-told c = search needs

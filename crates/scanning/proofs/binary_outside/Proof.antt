@@ -1,8 +1,8 @@
 -- One arm for each operator, as the definition has them. Assumes nothing.
 use Rattle.lists.specs.Tests.{pick}
 use borrow.Author.Needs.{needs}
-use Rattle.passing.proofs.binary_outside.Statement.{statement}
-use Rattle.passing.proofs.binary_outside.Tie as tie
+use Rattle.scanning.proofs.binary_outside.Statement.{statement}
+use Rattle.scanning.proofs.binary_outside.Tie as tie
 
 enum-told : tie.Need-enum-told
 enum-told c = search needs

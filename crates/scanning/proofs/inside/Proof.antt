@@ -1,8 +1,8 @@
 -- What a rule's node leaves owed is owed inside. Assumes nothing.
 use mathlib.Core.Path.{_∙_, sym}
 use borrow.Author.Needs.{needs}
-use Rattle.passing.proofs.inside.Statement.{statement}
-use Rattle.passing.proofs.inside.Tie as tie
+use Rattle.scanning.proofs.inside.Statement.{statement}
+use Rattle.scanning.proofs.inside.Tie as tie
 
 after-requires : tie.Need-after-requires
 after-requires c κs = search needs

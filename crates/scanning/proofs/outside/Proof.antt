@@ -1,7 +1,7 @@
 -- One arm for each number of operands, as the definition has them. Assumes nothing.
 use borrow.Author.Needs.{needs}
-use Rattle.passing.proofs.outside.Statement.{statement}
-use Rattle.passing.proofs.outside.Tie as tie
+use Rattle.scanning.proofs.outside.Statement.{statement}
+use Rattle.scanning.proofs.outside.Tie as tie
 
 enum-known-k : tie.Need-enum-known-k
 enum-known-k c = search needs

@@ -6,12 +6,12 @@ use borrow.Author.Tests.{lt-ltb, le-ltb}
 use Rattle.lists.specs.Tests.{pick}
 use Rattle.kinds.specs.Kinds.{kindOf}
 use Rattle.texts.proofs.Scans.{owed-bound}
-use Rattle.passing.specs.OnePass.{at, pass, ended}
-use Rattle.passing.proofs.Owing.{owing, turn-next, turn-off, turn-ended}
+use Rattle.scanning.specs.OnePass.{at, pass, ended}
+use Rattle.scanning.proofs.Owing.{owing, turn-next, turn-off, turn-ended}
 use native.Mathlib.Omega.{arith}
 use borrow.Author.Needs.{needs}
-use Rattle.passing.proofs.pass_over.Statement.{statement}
-use Rattle.passing.proofs.pass_over.Tie as tie
+use Rattle.scanning.proofs.pass_over.Statement.{statement}
+use Rattle.scanning.proofs.pass_over.Tie as tie
 
 abbrev Inv-loop : tie.InvT-loop
 Inv-loop s allowed seen at₀ i₀ x i = (i ≤ length s) × (x .outer + x .inner ≤ i + 1) × (pass allowed s (at 1 0 seen) ≡ pass allowed (drop i s) x)

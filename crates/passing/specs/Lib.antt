@@ -1,2 +1,0 @@
--- What the contracts of `passing` cite.
-pub mod OnePass
