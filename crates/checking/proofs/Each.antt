@@ -6,13 +6,15 @@ use Prim.Native.Nat.{ℕ, zero, suc, _+_, _<_, _≤_}
 use native.Mathlib.Nat.{eq-or-lt-of-le}
 use native.Mathlib.Numerals.{add-one}
 use native.Mathlib.Omega.{arith}
+use native.Mathlib.Decide.{ℕ-discrete}
 use mathlib.Core.Logic.{⊎-elim}
 use lib.ListN.{length, getD, drop, drop-of-length-le}
 use lib.Seq.{drop-cons}
-use lib.Dec.{leb}
+use lib.Dec.{leb, eqb}
+use lib.Bits.{bitOr, or-add-and, and-le-l, and-le-r}
 use borrow.Author.Tests.{leb-true, eq-eqb, ne-eqb}
 use Rattle.lists.specs.Tests.{both, inRange}
-use Rattle.lists.proofs.Tests.{both-0, both-1}
+use Rattle.lists.proofs.Tests.{both-0, both-1, both-true}
 use Rattle.state.specs.Clauses.{eachBelow, allZero}
 
 -- ---- below a number
@@ -24,7 +26,7 @@ pub each-more : (test : ℕ → Bool) (i : ℕ) → eachBelow i test ≡ true �
 unfolding eachBelow both
 each-more test i e t = rw (add-one, e, t)
 
-both-false : (a : Bool) → both a false ≡ false
+pub both-false : (a : Bool) → both a false ≡ false
 unfolding both
 both-false true = refl
 both-false false = refl
@@ -47,26 +49,45 @@ each-at test (suc n) i e l =
     (λ q. each-at test n i (both-0 (eachBelow n test) (test n) e) (omega arith))
     (eq-or-lt-of-le l)
 
--- ---- all bytes
-module _ (s : List ℕ) (i : ℕ) where
-  pub zero-on : i < length s → getD s i 0 ≡ 0 → allZero (drop i s) ≡ allZero (drop (i + 1) s)
-  unfolding allZero both
-  zero-on h e = rw (add-one, drop-cons s i 0 h, eq-eqb (getD s i 0) 0 e)
-
-  pub zero-off : i < length s → (getD s i 0 ≡ 0 → ⊥) → allZero (drop i s) ≡ false
-  unfolding allZero both
-  zero-off h e = rw (drop-cons s i 0 h, ne-eqb (getD s i 0) 0 e)
-
-  pub zero-end : length s ≤ i → allZero (drop i s) ≡ true
-  unfolding allZero
-  zero-end h = rw (drop-of-length-le s h)
-
--- ---- a range
-pub range-most : (most n : ℕ) → inRange most n ≡ true → n ≤ most
-range-most most n e = leb-true n most (both-1 (leb 1 n) (leb n most) e)
-
 -- the last of some tests
 pub both-last : (a : Bool) → a ≡ both a true
 unfolding both
 both-last true = refl
 both-last false = refl
+
+-- ---- all bytes, by their union
+union-zero : (a b : ℕ) → eqb (bitOr a b) 0 ≡ both (eqb a 0) (eqb b 0)
+unfolding both
+union-zero a b = go (ℕ-discrete a 0) (ℕ-discrete b 0)
+  where
+    some : (0 < a + b) → eqb (bitOr a b) 0 ≡ false
+    some h = let s = or-add-and a b in let l = and-le-l a b in let r = and-le-r a b in ne-eqb (bitOr a b) 0 (λ e. omega arith)
+
+    go : Dec (a ≡ 0) → Dec (b ≡ 0) → eqb (bitOr a b) 0 ≡ both (eqb a 0) (eqb b 0)
+    go (yes p) (yes q) = let s = or-add-and a b in eq-eqb (bitOr a b) 0 (omega arith) ∙ sym (both-true (eqb a 0) (eqb b 0) (eq-eqb a 0 p) (eq-eqb b 0 q))
+    go (yes p) (no q) = some (omega arith) ∙ sym (ap (both (eqb a 0)) (ne-eqb b 0 q) ∙ both-false (eqb a 0))
+    go (no p) d = some (omega arith) ∙ sym (none (ne-eqb a 0 p))
+      where
+        none : eqb a 0 ≡ false → both (eqb a 0) (eqb b 0) ≡ false
+        none e = rw e
+
+both-assoc : (a b c : Bool) → both a (both b c) ≡ both (both a b) c
+unfolding both
+both-assoc true b c = refl
+both-assoc false b c = refl
+
+-- the bytes before i are 0 where their union is
+module _ (s : List ℕ) (union i : ℕ) where
+  pub zero-turn : i < length s → both (eqb union 0) (allZero (drop i s)) ≡ both (eqb (bitOr union (getD s i 0)) 0) (allZero (drop (i + 1) s))
+  unfolding allZero
+  zero-turn h =
+      rw (add-one, drop-cons s i 0 h)
+      (both-assoc (eqb union 0) (eqb (getD s i 0) 0) (allZero (drop (suc i) s)) ∙ ap (λ (x : Bool). both x (allZero (drop (suc i) s))) (sym (union-zero union (getD s i 0))))
+
+  pub zero-end : length s ≤ i → both (eqb union 0) (allZero (drop i s)) ≡ eqb union 0
+  unfolding allZero
+  zero-end h = rw (drop-of-length-le s h) (sym (both-last (eqb union 0)))
+
+-- ---- a range
+pub range-most : (most n : ℕ) → inRange most n ≡ true → n ≤ most
+range-most most n e = leb-true n most (both-1 (leb 1 n) (leb n most) e)

@@ -1,3 +1,9 @@
 -- Laws of the clauses.
 pub mod Each
 pub mod Stretched
+pub mod Allowing
+pub mod Noting
+pub mod Records
+pub mod Forming
+pub mod Masked
+pub mod Assembled

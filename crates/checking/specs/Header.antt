@@ -3,7 +3,10 @@ use mathlib.Core.Path.{_≡_}
 use Prim.Native.Nat.{ℕ, _+_, _≤_}
 use mathlib.Core.List.{List}
 use lib.ListN.{length}
-use Rattle.state.specs.Fields.{stateLength, boardsIn, slotsIn, nodesIn, startIn, lengthIn, stretchEnd}
+use Rattle.lists.specs.Tests.{pick}
+use Rattle.masks.specs.Masks.{sumOnes}
+use Rattle.state.specs.Fields.{stateLength, boardsIn, slotsIn, nodesIn, masksIn, startIn, lengthIn, stretchEnd}
+use Rattle.state.specs.Clauses.{masksOk}
 
 -- the counts are the header's
 pub record Header (s : List ℕ) (boards slots nodes : ℕ) : Type 0 where
@@ -23,3 +26,7 @@ pub record Sized (s : List ℕ) (boards slots nodes : ℕ) : Type 0 where
 pub record InStretch (s : List ℕ) (k : ℕ) : Type 0 where
   pub used : startIn s k + lengthIn s k ≤ stretchEnd s k
   pub ends : stretchEnd s k ≤ nodesIn s
+
+-- the number of propositions where the masks follow their rule, else 0
+unfoldable pub propositionsIn : List ℕ → ℕ
+propositionsIn s = pick (masksOk s) (sumOnes (masksIn s)) 0

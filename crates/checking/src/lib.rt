@@ -1,4 +1,9 @@
 // The state check, clause by clause: each function answers one clause of the definition.
+mod formulas;
+mod whole;
+
+pub use whole::finished;
+pub use whole::state_ok;
 ghost use mathlib.Core.Path.{_≡_};
 ghost use mathlib.Core.Bool.{true};
 ghost use Prim.Native.Nat.{_+_, _<_, _≤_};
@@ -15,18 +20,17 @@ pub struct Counts {
     pub nodes: usize,
 }
 
-// Every byte is 0.
+// Every byte is 0: so is their union. No byte ends the loop, so that the compiler takes many at once.
 fn zeros(s: &[u8]) -> bool
     ensures { λ r. ⌜ r ≡ allZero (now (s .entry)) ⌝ }
 {
+    let mut union: u8 = 0;
     let mut i: usize = 0;
     while i < s.len() {
-        if s[i] != 0 {
-            return false;
-        }
+        union = union | s[i];
         i += 1;
     }
-    true
+    union == 0
 }
 
 // The header's counts.
@@ -122,7 +126,7 @@ fn stretch_end(s: &[u8], c: Counts, k: usize) -> usize
 }
 
 // Where slot k's nodes end.
-fn slot_end(s: &[u8], c: Counts, k: usize) -> usize
+pub fn slot_end(s: &[u8], c: Counts, k: usize) -> usize
     requires { ⌜ Sized (now s) (c .boards) (c .slots) (c .nodes) × (k < c .slots) ⌝ }
     ensures { λ r. ⌜ (r ≡ startIn (now (s .entry)) k + lengthIn (now (s .entry)) k) × (r < 131072) ⌝ }
 {

@@ -5,7 +5,7 @@ ghost use lib.ListN.{length};
 ghost use Rattle.masks.specs.Masks.{bitAt, sumOnes, unionWith, masksRule};
 
 // The ones of each mask, summed over boards.
-fn sum_ones(masks: &[u64]) -> u64
+pub fn sum_ones(masks: &[u64]) -> u64
     requires { ⌜ length (now masks) ≤ 16 ⌝ }
     ensures { λ r. ⌜ r ≡ sumOnes (now (masks .entry)) ⌝ }
 {

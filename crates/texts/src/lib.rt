@@ -15,7 +15,7 @@ pub enum Owed {
 
 // What is owed behind a node of kind k that was itself owed, with `others` operands owed beside it.
 // Propositions are below p, place holders below h.
-fn after(k: Kind, others: usize, p: u64, h: u64) -> Owed
+pub fn after(k: Kind, others: usize, p: u64, h: u64) -> Owed
     requires { ⌜ others + 2 < 2 ^ 64 ⌝ }
     ensures { λ r. ⌜ r ≡ owedAfter p h k others ⌝ }
 {

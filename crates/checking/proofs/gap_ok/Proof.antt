@@ -5,55 +5,42 @@ use Rattle.checking.proofs.Stretched.{gap-is}
 use Rattle.checking.proofs.gap_ok.Statement.{statement}
 use Rattle.checking.proofs.gap_ok.Tie as tie
 
--- src/lib.rt:180:22
 mul-nodes : tie.Need-mul-nodes
 mul-nodes c = search needs
 
--- src/lib.rt:180:17
 add-nodes : tie.Need-add-nodes
 add-nodes c = search needs
 
--- src/lib.rt:180:38
 mul-nodes-2 : tie.Need-mul-nodes-2
 mul-nodes-2 c = search needs
 
--- src/lib.rt:180:17
 add-nodes-2 : tie.Need-add-nodes-2
 add-nodes-2 c = search needs
 
--- src/lib.rt:181:24
 slot-end-requires : tie.Need-slot-end-requires
 slot-end-requires c κs = search needs
 
--- src/lib.rt:181:16
 add-from : tie.Need-add-from
 add-from c = search needs
 
--- src/lib.rt:182:22
 stretch-end-requires : tie.Need-stretch-end-requires
 stretch-end-requires c κs = search needs
 
--- src/lib.rt:182:14
 add-to : tie.Need-add-to
 add-to c = search needs
 
--- src/lib.rt:183:11
 sub-zeros : tie.Need-sub-zeros
 sub-zeros c = search needs
 
--- src/lib.rt:183:11
 part-zeros-start : tie.Need-part-zeros-start
 part-zeros-start c = search needs
 
--- src/lib.rt:183:11
 part-zeros-end : tie.Need-part-zeros-end
 part-zeros-end c = search needs
 
--- src/lib.rt:183:5
 zeros-requires : tie.Need-zeros-requires
 zeros-requires c κs = search needs
 
--- src/lib.rt:176:1
 returns : tie.Need-returns
 returns c = c .zeros .ensures ∙ gap-is (c .before .before .before .before .before .before .before .args .s .now) (c .before .before .before .before .before .before .before .args .k) (c .before .before .before .before .before .before .before .args .c .boards) (c .before .before .before .before .before .before .before .args .c .slots) (c .before .before .before .slot-end .result) (c .before .before .stretch-end .result) (c .before .before .before .before .before .before .before .pre .0 .header .boards-are) (c .before .before .before .before .before .before .before .pre .0 .header .slots-are) (c .before .before .before .slot-end .ensures .0) (c .before .before .stretch-end .ensures .0)
 

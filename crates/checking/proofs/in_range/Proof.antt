@@ -4,12 +4,10 @@ use Rattle.lists.specs.Tests.{both}
 use Rattle.checking.proofs.in_range.Statement.{statement}
 use Rattle.checking.proofs.in_range.Tie as tie
 
--- src/lib.rt:48:9
 returns : tie.Need-returns
 unfolding both
 returns c = rw (lt-leb 1 (c .before .args .n) (c .if1 .taken))
 
--- src/lib.rt:44:1
 returns-2 : tie.Need-returns-2
 unfolding both
 returns-2 c = rw (le-leb 1 (c .before .args .n) (c .if1 .left))

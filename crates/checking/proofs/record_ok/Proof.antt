@@ -9,80 +9,62 @@ use Rattle.state.specs.Clauses.{recordOk}
 use Rattle.checking.proofs.record_ok.Statement.{statement}
 use Rattle.checking.proofs.record_ok.Tie as tie
 
--- src/lib.rt:137:19
 mul-at : tie.Need-mul-at
 mul-at c = search needs
 
--- src/lib.rt:137:14
 add-at : tie.Need-add-at
 add-at c = search needs
 
--- src/lib.rt:137:35
 mul-at-2 : tie.Need-mul-at-2
 mul-at-2 c = search needs
 
--- src/lib.rt:137:14
 add-at-2 : tie.Need-add-at-2
 add-at-2 c = search needs
 
--- src/lib.rt:138:17
 shared-slice-read-board : tie.Need-shared-slice-read-board
 shared-slice-read-board c = search needs
 
--- src/lib.rt:138:17
 cast-board : tie.Need-cast-board
 cast-board c = omega (arith, c .shared-slice-known2 .given (16 + 17 * c .before .before .before .args .c .boards + 6 * c .before .before .before .args .k))
 
--- src/lib.rt:139:21
 add-stepped : tie.Need-add-stepped
 add-stepped c = search needs
 
--- src/lib.rt:139:19
 shared-slice-read-stepped : tie.Need-shared-slice-read-stepped
 shared-slice-read-stepped c = search needs
 
--- src/lib.rt:141:9
 returns : tie.Need-returns
 unfolding recordOk both either
 returns c = rw (← c .before .before .before .before .before .before .pre .0 .header .boards-are, le-ltb (getD (c .before .before .before .before .before .before .args .s .now) (16 + 17 * c .before .before .before .before .before .before .args .c .boards + 6 * c .before .before .before .before .before .before .args .k) 0) (c .before .before .before .before .before .before .args .c .boards) (c .if1 .taken))
 
--- src/lib.rt:144:9
 returns-2 : tie.Need-returns-2
 unfolding recordOk both either
 returns-2 c = rw (← c .before .before .before .before .before .before .before .pre .0 .header .boards-are, lt-ltb (getD (c .before .before .before .before .before .before .before .args .s .now) (16 + 17 * c .before .before .before .before .before .before .before .args .c .boards + 6 * c .before .before .before .before .before .before .before .args .k) 0) (c .before .before .before .before .before .before .before .args .c .boards) (c .before .if1 .left), lt-leb (getD (c .before .before .before .before .before .before .before .args .s .now) ((16 + 17 * c .before .before .before .before .before .before .before .args .c .boards + 6 * c .before .before .before .before .before .before .before .args .k) + 1) 0) 1 (c .if2 .taken))
 
--- src/lib.rt:146:22
 add-u16-at : tie.Need-add-u16-at
 add-u16-at c = search needs
 
--- src/lib.rt:146:8
 u16-at-requires : tie.Need-u16-at-requires
 u16-at-requires c κs = search needs
 
--- src/lib.rt:147:9
 returns-3 : tie.Need-returns-3
 unfolding recordOk both either
 returns-3 c = rw (← c .before .before .before .before .before .before .before .before .before .pre .0 .header .boards-are, lt-ltb (getD (c .before .before .before .before .before .before .before .before .before .args .s .now) (16 + 17 * c .before .before .before .before .before .before .before .before .before .args .c .boards + 6 * c .before .before .before .before .before .before .before .before .before .args .k) 0) (c .before .before .before .before .before .before .before .before .before .args .c .boards) (c .before .before .before .if1 .left), le-leb (getD (c .before .before .before .before .before .before .before .before .before .args .s .now) ((16 + 17 * c .before .before .before .before .before .before .before .before .before .args .c .boards + 6 * c .before .before .before .before .before .before .before .before .before .args .k) + 1) 0) 1 (c .before .before .if2 .left), ← c .before .u16-at .ensures, lt-leb 1 (c .before .u16-at .result) (c .if3 .taken))
 
--- src/lib.rt:149:9
 slot-end-requires : tie.Need-slot-end-requires
 slot-end-requires c κs = search needs
 
--- src/lib.rt:150:9
 stretch-end-requires : tie.Need-stretch-end-requires
 stretch-end-requires c κs = search needs
 
--- src/lib.rt:152:9
 returns-4 : tie.Need-returns-4
 unfolding recordOk both either
 returns-4 c = rw (← c .before .before .slot-end .ensures .0, ← c .before .stretch-end .ensures .0, ← c .before .before .before .before .before .before .before .before .before .before .before .before .pre .0 .header .boards-are, lt-ltb (getD (c .before .before .before .before .before .before .before .before .before .before .before .before .args .s .now) (16 + 17 * c .before .before .before .before .before .before .before .before .before .before .before .before .args .c .boards + 6 * c .before .before .before .before .before .before .before .before .before .before .before .before .args .k) 0) (c .before .before .before .before .before .before .before .before .before .before .before .before .args .c .boards) (c .before .before .before .before .before .before .if1 .left), le-leb (getD (c .before .before .before .before .before .before .before .before .before .before .before .before .args .s .now) ((16 + 17 * c .before .before .before .before .before .before .before .before .before .before .before .before .args .c .boards + 6 * c .before .before .before .before .before .before .before .before .before .before .before .before .args .k) + 1) 0) 1 (c .before .before .before .before .before .if2 .left), ← c .before .before .before .before .u16-at .ensures, le-leb 1 (c .before .before .before .before .u16-at .result) (c .before .before .before .if3 .left), lt-leb (c .before .before .slot-end .result) (c .before .stretch-end .result) (c .if4 .taken))
 
--- src/lib.rt:155:9
 returns-5 : tie.Need-returns-5
 unfolding recordOk both either
 returns-5 c = rw (← c .before .before .before .slot-end .ensures .0, ← c .before .before .stretch-end .ensures .0, ← c .before .before .before .before .before .before .before .before .before .before .before .before .before .pre .0 .header .boards-are, lt-ltb (getD (c .before .before .before .before .before .before .before .before .before .before .before .before .before .args .s .now) (16 + 17 * c .before .before .before .before .before .before .before .before .before .before .before .before .before .args .c .boards + 6 * c .before .before .before .before .before .before .before .before .before .before .before .before .before .args .k) 0) (c .before .before .before .before .before .before .before .before .before .before .before .before .before .args .c .boards) (c .before .before .before .before .before .before .before .if1 .left), le-leb (getD (c .before .before .before .before .before .before .before .before .before .before .before .before .before .args .s .now) ((16 + 17 * c .before .before .before .before .before .before .before .before .before .before .before .before .before .args .c .boards + 6 * c .before .before .before .before .before .before .before .before .before .before .before .before .before .args .k) + 1) 0) 1 (c .before .before .before .before .before .before .if2 .left), ← c .before .before .before .before .before .u16-at .ensures, le-leb 1 (c .before .before .before .before .before .u16-at .result) (c .before .before .before .before .if3 .left), le-leb (c .before .before .before .slot-end .result) (c .before .before .stretch-end .result) (c .before .if4 .left), eq-eqb (getD (c .before .before .before .before .before .before .before .before .before .before .before .before .before .args .s .now) ((16 + 17 * c .before .before .before .before .before .before .before .before .before .before .before .before .before .args .c .boards + 6 * c .before .before .before .before .before .before .before .before .before .before .before .before .before .args .k) + 1) 0) 1 (c .if5 .taken))
 
--- src/lib.rt:133:1
 returns-6 : tie.Need-returns-6
 unfolding recordOk both either
 returns-6 c = rw (← c .before .before .before .slot-end .ensures .0, ← c .before .before .stretch-end .ensures .0, ← c .before .before .before .before .before .before .before .before .before .before .before .before .before .pre .0 .header .boards-are, lt-ltb (getD (c .before .before .before .before .before .before .before .before .before .before .before .before .before .args .s .now) (16 + 17 * c .before .before .before .before .before .before .before .before .before .before .before .before .before .args .c .boards + 6 * c .before .before .before .before .before .before .before .before .before .before .before .before .before .args .k) 0) (c .before .before .before .before .before .before .before .before .before .before .before .before .before .args .c .boards) (c .before .before .before .before .before .before .before .if1 .left), le-leb (getD (c .before .before .before .before .before .before .before .before .before .before .before .before .before .args .s .now) ((16 + 17 * c .before .before .before .before .before .before .before .before .before .before .before .before .before .args .c .boards + 6 * c .before .before .before .before .before .before .before .before .before .before .before .before .before .args .k) + 1) 0) 1 (c .before .before .before .before .before .before .if2 .left), ← c .before .before .before .before .before .u16-at .ensures, le-leb 1 (c .before .before .before .before .before .u16-at .result) (c .before .before .before .before .if3 .left), le-leb (c .before .before .before .slot-end .result) (c .before .before .stretch-end .result) (c .before .if4 .left), ne-eqb (getD (c .before .before .before .before .before .before .before .before .before .before .before .before .before .args .s .now) ((16 + 17 * c .before .before .before .before .before .before .before .before .before .before .before .before .before .args .c .boards + 6 * c .before .before .before .before .before .before .before .before .before .before .before .before .before .args .k) + 1) 0) 1 (c .if5 .left))

@@ -6,51 +6,39 @@ use Prim.Native.Nat.{_+_}
 use Rattle.checking.proofs.slot_end.Statement.{statement}
 use Rattle.checking.proofs.slot_end.Tie as tie
 
--- src/lib.rt:128:19
 mul-at : tie.Need-mul-at
 mul-at c = search needs
 
--- src/lib.rt:128:14
 add-at : tie.Need-add-at
 add-at c = search needs
 
--- src/lib.rt:128:35
 mul-at-2 : tie.Need-mul-at-2
 mul-at-2 c = search needs
 
--- src/lib.rt:128:14
 add-at-2 : tie.Need-add-at-2
 add-at-2 c = search needs
 
--- src/lib.rt:129:19
 add-u16-at : tie.Need-add-u16-at
 add-u16-at c = search needs
 
--- src/lib.rt:129:5
 u16-at-requires : tie.Need-u16-at-requires
 u16-at-requires c κs = search needs
 
--- src/lib.rt:129:5
 cast-result : tie.Need-cast-result
 cast-result c = search needs
 
--- src/lib.rt:129:52
 add-u16-at-2 : tie.Need-add-u16-at-2
 add-u16-at-2 c = search needs
 
--- src/lib.rt:129:38
 u16-at-requires-2 : tie.Need-u16-at-requires-2
 u16-at-requires-2 c κs = search needs
 
--- src/lib.rt:129:38
 cast-result-2 : tie.Need-cast-result-2
 cast-result-2 c = search needs
 
--- src/lib.rt:129:5
 add-result : tie.Need-add-result
 add-result c = search needs
 
--- src/lib.rt:124:1
 returns : tie.Need-returns
 returns c = (ap₂ _+_ (rw (← c .before .before .before .before .pre .0 .header .boards-are) (c .before .u16-at .ensures)) (rw (← c .before .before .before .before .pre .0 .header .boards-are) (c .u16-at2 .ensures)), omega arith)
 

@@ -1,0 +1,2 @@
+-- What the contracts of `asking` cite.
+pub mod Ask

@@ -1,0 +1,83 @@
+-- The boards' masks as they are read into an array of zeros, and the number of propositions by the masks' rule. Assumes nothing.
+use mathlib.Core.Path.{_≡_, refl, sym, ap, _∙_}
+use mathlib.Core.Bool.{Bool, true, false}
+use mathlib.Core.List.{List, _++_}
+use Prim.Native.Nat.{ℕ, zero, suc, _+_, _<_, _≤_}
+use native.Mathlib.Nat.{add-zero, zero-add}
+use native.Mathlib.Omega.{arith}
+use native.Mathlib.Decide.{decLt}
+use lib.ListN.{length, getD, take}
+use lib.Seq.{take-at}
+use lib.Dec.{leb}
+use borrow.Author.Tests.{le-leb, lt-leb, leb-true}
+use Rattle.lists.specs.Tests.{pick, both, inRange}
+use Rattle.lists.proofs.Tests.{both-0}
+use Rattle.masks.specs.Masks.{sumOnes, masksRule}
+use Rattle.state.specs.Fields.{boardsIn, maskIn, masksFrom, masksIn}
+use Rattle.state.specs.Clauses.{masksOk}
+use Rattle.checking.specs.Header.{propositionsIn}
+use Rattle.checking.proofs.Each.{both-false, range-most}
+
+-- ---- the masks of boards i, i + 1, ..
+pub masksFrom-length : (s : List ℕ) (i n : ℕ) → length (masksFrom s i n) ≡ n
+unfolding masksFrom
+masksFrom-length s i zero = refl
+masksFrom-length s i (suc n) = ap suc (masksFrom-length s (i + 1) n)
+
+masksFrom-get : (s : List ℕ) (i n j : ℕ) → j < n → getD (masksFrom s i n) j 0 ≡ maskIn s (i + j)
+unfolding masksFrom
+masksFrom-get s i zero j h = absurd (omega arith)
+masksFrom-get s i (suc n) zero h = ap (maskIn s) (sym (add-zero i))
+masksFrom-get s i (suc n) (suc j) h =
+    let e : i + 1 + j ≡ i + suc j = omega arith in
+    masksFrom-get s (i + 1) n j (omega arith) ∙ ap (maskIn s) e
+
+pub masks-get : (s : List ℕ) (n j : ℕ) → j < n → maskIn s j ≡ getD (masksFrom s 0 n) j 0
+masks-get s n j h = sym (masksFrom-get s 0 n j h ∙ ap (maskIn s) (zero-add j))
+
+-- in front of an array
+pub masks-front : (s found rest : List ℕ) (b : ℕ) → b ≡ boardsIn s → found ≡ masksFrom s 0 b ++ rest → take b found ≡ masksIn s
+masks-front s found rest b q e = ap (take b) e ∙ take-at (masksFrom s 0 b) rest b (masksFrom-length s 0 b) ∙ ap (masksFrom s 0) q
+
+-- ---- the number of propositions
+module _ (s : List ℕ) where
+  pub ones-many : 64 < sumOnes (masksIn s) → propositionsIn s ≡ 0
+  unfolding propositionsIn masksOk pick both
+  ones-many h = rw (lt-leb (sumOnes (masksIn s)) 64 h, both-false (leb 1 (sumOnes (masksIn s))))
+
+  pub rule-broken : masksRule (sumOnes (masksIn s)) (masksIn s) ≡ false → propositionsIn s ≡ 0
+  unfolding propositionsIn masksOk pick
+  rule-broken e = rw (e, both-false (inRange 64 (sumOnes (masksIn s))))
+
+  pub rule-kept : sumOnes (masksIn s) ≤ 64 → masksRule (sumOnes (masksIn s)) (masksIn s) ≡ true → sumOnes (masksIn s) ≡ propositionsIn s
+  unfolding propositionsIn masksOk pick both
+  rule-kept h e =
+      elim (decLt 0 (sumOnes (masksIn s))) [
+        | yes l ↦ rw (le-leb 1 (sumOnes (masksIn s)) l, le-leb (sumOnes (masksIn s)) 64 h, e)
+        | no l ↦ (let z : sumOnes (masksIn s) ≡ 0 = omega arith in z ∙ sym (zero-picked (masksOk s) z))
+      ]
+    where
+      zero-picked : (b : Bool) → sumOnes (masksIn s) ≡ 0 → pick b (sumOnes (masksIn s)) 0 ≡ 0
+      zero-picked true z = z
+      zero-picked false z = refl
+
+  pub propositions-none : propositionsIn s < 1 → masksOk s ≡ false
+  unfolding propositionsIn pick masksOk
+  propositions-none h = go (masksOk s) refl h
+    where
+      go : (b : Bool) → masksOk s ≡ b → pick b (sumOnes (masksIn s)) 0 < 1 → b ≡ false
+      go true e l = let z = leb-true 1 (sumOnes (masksIn s)) (both-0 (leb 1 (sumOnes (masksIn s))) (leb (sumOnes (masksIn s)) 64) (both-0 _ _ e)) in absurd (omega arith)
+      go false e l = refl
+
+  pub record Ruled (p : ℕ) : Type 0 where
+    pub holds : masksOk s ≡ true
+    pub sum : p ≡ sumOnes (masksIn s)
+    pub few : p ≤ 64
+
+  pub propositions-some : (p : ℕ) → p ≡ propositionsIn s → 1 ≤ p → Ruled p
+  unfolding propositionsIn pick masksOk
+  propositions-some p q h = go (masksOk s) refl q
+    where
+      go : (b : Bool) → masksOk s ≡ b → p ≡ pick b (sumOnes (masksIn s)) 0 → Ruled p
+      go true e r = let z = range-most 64 (sumOnes (masksIn s)) (both-0 _ _ e) in record { holds = e; sum = r; few = omega arith }
+      go false e r = absurd (omega arith)

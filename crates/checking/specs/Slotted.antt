@@ -1,0 +1,68 @@
+-- A slot's formula, when its clause is checked: what is known of the slot, what may stand in it, and what the check answers. Assumes
+-- nothing: these are definitions.
+use mathlib.Core.Path.{_≡_}
+use Prim.Native.Nat.{ℕ, _-_, _^_, _<_}
+use mathlib.Core.Bool.{Bool, true, false, not}
+use mathlib.Core.List.{List}
+use lib.Dec.{ltb, eqb}
+use Rattle.lists.specs.Tests.{pick, both, either, bit}
+use Rattle.state.specs.Fields.{slotsIn, maskIn, sampledIn, boardOfIn, steppedIn, lengthIn, formulaIn}
+use Rattle.state.specs.Clauses.{eachBelow, distinct, isConstantIn, formulaOk, heldOf, holdersIn}
+use Rattle.scanning.specs.declared.Allowed.{Allowed}
+use Rattle.scanning.specs.declared.Held.{Held}
+use Rattle.scanning.specs.declared.Held.the-variants.{Wrong}
+use Rattle.checking.specs.Header.{Sized, InStretch}
+use Rattle.scanning.specs.OnePass.{noted}
+
+-- slot k is there, it lies in its stretch, and its board is there
+pub record Placed (s : List ℕ) (boards slots nodes k : ℕ) : Type 0 where
+  pub sized : Sized s boards slots nodes
+  pub number : k < slots
+  pub stretch : InStretch s k
+  pub board : boardOfIn s k < boards
+
+-- a slot that a stepped slot may hold: it is stepped and no constant
+unfoldable pub settledIn : List ℕ → ℕ → Bool
+settledIn s m = both (eqb (steppedIn s m) 1) (not (isConstantIn s m))
+
+-- the mask of these slots
+abbrev pub Settled : List ℕ → ℕ → Type 0
+Settled s mask = (m : ℕ) → bit mask m ≡ both (ltb m (slotsIn s)) (settledIn s m)
+
+-- the board of a stepped slot has sampled
+unfoldable pub sampledFor : List ℕ → ℕ → Bool
+sampledFor s k = either (not (eqb (steppedIn s k) 1)) (eqb (sampledIn s (boardOfIn s k)) 1)
+
+-- the propositions that may stand in a stepped slot of n nodes: a single one is of the slot's own board
+unfoldable pub ownStepped : ℕ → ℕ → ℕ
+ownStepped mask n = pick (eqb n 1) mask (2 ^ 64 - 1)
+
+-- what may stand in slot k: where it is not stepped, no temporal operator and no other board's proposition outside next; where it is
+-- stepped, place holders of settled slots alone
+unfoldable pub allowedIn : List ℕ → ℕ → ℕ → ℕ → Allowed
+allowedIn s p settled k =
+    pick (eqb (steppedIn s k) 1)
+    (record {
+      propositions = p;
+      slots = slotsIn s;
+      slot = k;
+      own = ownStepped (maskIn s (boardOfIn s k)) (lengthIn s k);
+      holders = settled;
+      temporal = true;
+    })
+    (record {
+      propositions = p;
+      slots = slotsIn s;
+      slot = k;
+      own = maskIn s (boardOfIn s k);
+      holders = 2 ^ 64 - 1;
+      temporal = false;
+    })
+
+-- slot k's clause, and its place holders noted beside those seen before
+unfoldable pub heldIn : List ℕ → ℕ → ℕ → ℕ → Held
+heldIn s p k seen = pick (formulaOk s p k (formulaIn s k)) (noted (heldOf (formulaIn s k)) seen) Wrong
+
+-- the clauses of the first n slots' formulas and of their place holders together
+unfoldable pub formulasOk : List ℕ → ℕ → ℕ → Bool
+formulasOk s p n = both (eachBelow n (λ k. formulaOk s p k (formulaIn s k))) (distinct (holdersIn s n))

@@ -1,0 +1,146 @@
+// The slots' formulas: each is checked in one pass over its bytes, and the place holders seen are handed on from slot to slot.
+ghost use mathlib.Core.Path.{_≡_};
+ghost use mathlib.Core.Bool.{true};
+ghost use Prim.Native.Nat.{_≤_};
+ghost use Rattle.state.specs.Fields.{slotBytes};
+ghost use Rattle.state.specs.Clauses.{eachBelow, isConstantIn, recordOk};
+ghost use Rattle.checking.specs.Header.{Sized};
+ghost use Rattle.scanning.specs.OnePass.{Fitted, at, pass};
+ghost use Rattle.checking.specs.Slotted.{Placed, settledIn, Settled, sampledFor, ownStepped, allowedIn, heldIn, formulasOk};
+use crate::Counts;
+use crate::slot_end;
+use scanning::Allowed;
+use scanning::Held;
+use scanning::pass_over;
+
+// Slot k is the single byte 0 or 1.
+pub fn is_constant(s: &[u8], c: Counts, k: usize) -> bool
+    requires { ⌜ Placed (now s) (c .boards) (c .slots) (c .nodes) k ⌝ }
+    ensures { λ r. ⌜ r ≡ isConstantIn (now (s .entry)) k ⌝ }
+{
+    let at = 16 + 17 * c.boards + 6 * k;
+    if le::u16_at(s, at + 4) != 1 {
+        return false;
+    }
+    let first = 16 + 17 * c.boards + 6 * c.slots + le::u16_at(s, at + 2) as usize;
+    s[first] <= 1
+}
+
+// Slot k is stepped and no constant: a stepped slot may hold it.
+fn is_settled(s: &[u8], c: Counts, k: usize) -> bool
+    requires { ⌜ Placed (now s) (c .boards) (c .slots) (c .nodes) k ⌝ }
+    ensures { λ r. ⌜ r ≡ settledIn (now (s .entry)) k ⌝ }
+{
+    if s[16 + 17 * c.boards + 6 * k + 1] != 1 {
+        return false;
+    }
+    !is_constant(s, c, k)
+}
+
+// The mask of the slots that a stepped slot may hold.
+fn settled(s: &[u8], c: Counts) -> u64
+    requires { ⌜ Sized (now s) (c .boards) (c .slots) (c .nodes) × (eachBelow (c .slots) (recordOk (now s)) ≡ true) ⌝ }
+    ensures { λ r. ⌜ Settled (now (s .entry)) r ⌝ }
+{
+    let n = c.slots;
+    let mut slots: u64 = 0;
+    let mut k: usize = 0;
+    while k < n {
+        if is_settled(s, c, k) {
+            slots = slots | (1u64 << k);
+        }
+        k += 1;
+    }
+    slots
+}
+
+// The board of slot k has sampled, if the slot is stepped.
+fn sampled_for(s: &[u8], c: Counts, k: usize) -> bool
+    requires { ⌜ Placed (now s) (c .boards) (c .slots) (c .nodes) k ⌝ }
+    ensures { λ r. ⌜ r ≡ sampledFor (now (s .entry)) k ⌝ }
+{
+    let at = 16 + 17 * c.boards + 6 * k;
+    if s[at + 1] != 1 {
+        return true;
+    }
+    let board = s[at] as usize;
+    s[16 + 17 * board + 16] == 1
+}
+
+// The propositions that may stand in a stepped slot of n nodes.
+fn own_stepped(mask: u64, n: u16) -> u64
+    ensures { λ r. ⌜ r ≡ ownStepped mask n ⌝ }
+{
+    if n == 1 { mask } else { u64::MAX }
+}
+
+// What may stand in slot k's formula.
+fn allowed_in(s: &[u8], c: Counts, k: usize, p: u64, settled: u64) -> Allowed
+    requires { ⌜ Placed (now s) (c .boards) (c .slots) (c .nodes) k ⌝ }
+    ensures { λ r. ⌜ r ≡ allowedIn (now (s .entry)) p settled k ⌝ }
+{
+    let at = 16 + 17 * c.boards + 6 * k;
+    let board = s[at] as usize;
+    let mask = le::u64_at(s, 16 + 17 * board);
+    if s[at + 1] == 1 {
+        return Allowed {
+            propositions: p,
+            slots: c.slots as u64,
+            slot: k as u64,
+            own: own_stepped(mask, le::u16_at(s, at + 4)),
+            holders: settled,
+            temporal: true,
+        };
+    }
+    Allowed {
+        propositions: p,
+        slots: c.slots as u64,
+        slot: k as u64,
+        own: mask,
+        holders: u64::MAX,
+        temporal: false,
+    }
+}
+
+// Slot k's formula, with the place holders that the slots before it have.
+fn slot_held(s: &[u8], c: Counts, k: usize, allowed: Allowed, seen: u64) -> Held
+    requires { ⌜ Placed (now s) (c .boards) (c .slots) (c .nodes) k × Fitted allowed ⌝ }
+    ensures { λ r. ⌜ r ≡ pass allowed (slotBytes (now (s .entry)) k) (at 1 0 seen) ⌝ }
+{
+    let at = 16 + 17 * c.boards + 6 * k;
+    let nodes = 16 + 17 * c.boards + 6 * c.slots;
+    let from = nodes + le::u16_at(s, at + 2) as usize;
+    let to = nodes + slot_end(s, c, k);
+    pass_over(&s[from..to], allowed, seen)
+}
+
+// Slot k's clause, and the place holders seen behind it.
+fn formula_held(s: &[u8], c: Counts, k: usize, p: u64, settled: u64, seen: u64) -> Held
+    requires { ⌜ Placed (now s) (c .boards) (c .slots) (c .nodes) k × (p ≤ 64) × Settled (now s) settled ⌝ }
+    ensures { λ r. ⌜ r ≡ heldIn (now (s .entry)) p k seen ⌝ }
+{
+    if !sampled_for(s, c, k) {
+        return Held::Wrong;
+    }
+    slot_held(s, c, k, allowed_in(s, c, k, p, settled), seen)
+}
+
+// Every slot's formula passes its clause, and no place holder stands twice.
+pub fn formulas_ok(s: &[u8], c: Counts, p: u64) -> bool
+    requires { ⌜ Sized (now s) (c .boards) (c .slots) (c .nodes) × (eachBelow (c .slots) (recordOk (now s)) ≡ true) × (p ≤ 64) ⌝ }
+    ensures { λ r. ⌜ r ≡ formulasOk (now (s .entry)) p (c .slots) ⌝ }
+{
+    let n = c.slots;
+    let holders = settled(s, c);
+    let mut seen: u64 = 0;
+    let mut k: usize = 0;
+    while k < n {
+        let held = formula_held(s, c, k, p, holders, seen);
+        let Held::Slots(x) = held else {
+            return false;
+        };
+        seen = x;
+        k += 1;
+    }
+    true
+}

@@ -1,0 +1,2 @@
+-- What the contracts of `sampling` cite.
+pub mod Sample

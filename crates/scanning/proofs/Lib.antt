@@ -1,0 +1,3 @@
+-- Laws of the pass over a slot's bytes.
+pub mod Passes
+pub mod Owing

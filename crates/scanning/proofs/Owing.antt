@@ -1,0 +1,171 @@
+-- The pass over a slot's bytes finds exactly a formula in which what may stand stands, and notes its place holders: `pass-is`. Behind
+-- each node as many operands are owed as in the language (`owing`), so that a pass that succeeds is over a formula (`pass-scans`).
+-- Assumes nothing.
+use mathlib.Core.Path.{_≡_, refl, sym, ap, _∙_}
+use mathlib.Core.Bool.{Bool, true, false, not}
+use mathlib.Core.List.{List, [], _∷_, append-nil}
+use mathlib.Core.Option.{Option, none, some}
+use Prim.Native.Nat.{ℕ, _+_, _-_, _^_, _<_, _≤_}
+use native.Mathlib.Numerals.{add-one}
+use native.Mathlib.Omega.{arith}
+use lib.ListN.{length, drop, getD, drop-of-length-le}
+use lib.Seq.{drop-cons}
+use lib.Dec.{ltb}
+use lib.Bits.{bitOr}
+use borrow.Author.Tests.{ltb-true, ltb-false, lt-ltb, eq-eqb}
+use Rattle.lists.specs.Tests.{pick, both, bit}
+use Rattle.lists.proofs.Tests.{no-true}
+use Rattle.kinds.specs.declared.Leaf.{Leaf}
+use Rattle.kinds.specs.declared.Leaf.the-variants.{Const, Prop, Hold}
+use Rattle.kinds.specs.declared.Unary.{Unary}
+use Rattle.kinds.specs.declared.Unary.the-variants.{Not, Next, Eventually, Always}
+use Rattle.kinds.specs.declared.Binary.{Binary}
+use Rattle.kinds.specs.declared.Binary.the-variants.{Joined, Until}
+use Rattle.kinds.specs.declared.Kind.{Kind}
+use Rattle.kinds.specs.Kinds.{kindOf}
+use Rattle.kinds.proofs.Codes.{CodeOf, isZero, isOne, isTwo, isNone, code}
+use Rattle.ltl.specs.Formula.{Formula, one, encode, over}
+use Rattle.ltl.specs.Text.{textOf, overAlone, textOver}
+use Rattle.ltl.proofs.Texts.{text-is}
+use Rattle.texts.specs.declared.Owed.the-variants.{Operands, Broken}
+use Rattle.texts.specs.Scan.{owedAfter, scan}
+use Rattle.texts.proofs.Scans.{scan-is, turn-on, turn-end}
+use Rattle.scanning.specs.declared.Allowed.{Allowed}
+use Rattle.scanning.specs.declared.Pass.{Pass}
+use Rattle.scanning.specs.declared.Passed.{Passed}
+use Rattle.scanning.specs.declared.Passed.the-variants.{On, Off}
+use Rattle.scanning.specs.declared.Held.{Held}
+use Rattle.scanning.specs.declared.Held.the-variants.{Slots, Wrong}
+use Rattle.scanning.specs.OnePass.{at, holdable, outsideAfter, inward, insideAfter, passAfter, goOn, ended, pass}
+use Rattle.scanning.proofs.Passes.{checked, thereafter, thereafter-slots, pass-ends, pass-outside}
+
+-- ---- a pass that succeeds is one over a formula of the language
+off-on : (y : Pass) → _≡_ {A = Passed} Off (On y) → ⊥
+off-on y e = let z : _≡_ {A = ℕ} 0 1 = cc in omega arith
+
+on-owed : (n m seen k : ℕ) (y : Pass) → _≡_ {A = Passed} (On (at n m seen)) (On y) → k ≡ n + m → Operands k ≡ Operands (y .outer + y .inner)
+on-owed n m seen k y e q = let f : at n m seen ≡ y = cc in ap Operands (q ∙ ap (λ (x : Pass). x .outer + x .inner) f)
+
+on-owed-if : (b : Bool) (n m seen k : ℕ) (y : Pass) → pick b (On (at n m seen)) Off ≡ On y → k ≡ n + m → Operands k ≡ Operands (y .outer + y .inner)
+unfolding pick
+on-owed-if true n m seen k y e q = on-owed n m seen k y e q
+on-owed-if false n m seen k y e q = absurd (off-on y e)
+
+inward-pick : (b : Bool) (n m seen : ℕ) → inward (pick b (Operands m) Broken) n seen ≡ pick b (On (at n m seen)) Off
+unfolding pick
+inward-pick true n m seen = refl
+inward-pick false n m seen = refl
+
+inside-scans : (p b : ℕ) {k : Kind} → CodeOf b k → (m n seen : ℕ) (y : Pass) → insideAfter p k m n seen ≡ On y
+    → owedAfter 64 64 k (n + m) ≡ Operands (y .outer + y .inner)
+unfolding pick
+inside-scans p b (isZero {a = Const v} e c) m n seen y h = on-owed n m seen (n + m) y h refl
+inside-scans p b (isZero {a = Prop i} e c) m n seen y h =
+    rw (lt-ltb i 64 c) (on-owed-if (ltb i p) n m seen (n + m) y (sym (inward-pick (ltb i p) n m seen) ∙ h) refl)
+inside-scans p b (isZero {a = Hold k} e c) m n seen y h =
+    rw (lt-ltb k 64 c) (on-owed-if (ltb k 0) n m seen (n + m) y (sym (inward-pick (ltb k 0) n m seen) ∙ h) refl)
+inside-scans p b (isOne {o = o} e) m n seen y h = on-owed n (m + 1) seen (n + m + 1) y h (omega arith)
+inside-scans p b (isTwo {o = o} e) m n seen y h = on-owed n (m + 2) seen (n + m + 2) y h (omega arith)
+inside-scans p b isNone m n seen y h = absurd (off-on y h)
+
+outside-scans : (a : Allowed) (b : ℕ) {k : Kind} → CodeOf b k → (n seen : ℕ) (y : Pass) → outsideAfter a k n seen ≡ On y
+    → owedAfter 64 64 k n ≡ Operands (y .outer + y .inner)
+unfolding pick
+outside-scans a b (isZero {a = Const v} e c) n seen y h = on-owed n 0 seen n y h (omega arith)
+outside-scans a b (isZero {a = Prop i} e c) n seen y h =
+    rw (lt-ltb i 64 c) (on-owed-if (both (ltb i (a .propositions)) (bit (a .own) i)) n 0 seen n y h (omega arith))
+outside-scans a b (isZero {a = Hold m} e c) n seen y h =
+    rw (lt-ltb m 64 c) (on-owed-if (both (holdable a m) (not (bit seen m))) n 0 (bitOr seen (2 ^ m)) n y h (omega arith))
+outside-scans a b (isOne {o = Not} e) n seen y h = on-owed (n + 1) 0 seen (n + 1) y h (omega arith)
+outside-scans a b (isOne {o = Next} e) n seen y h = on-owed n 1 seen (n + 1) y h refl
+outside-scans a b (isOne {o = Eventually} e) n seen y h = on-owed-if (a .temporal) n 1 seen (n + 1) y h refl
+outside-scans a b (isOne {o = Always} e) n seen y h = on-owed-if (a .temporal) n 1 seen (n + 1) y h refl
+outside-scans a b (isTwo {o = Joined j} e) n seen y h = on-owed (n + 2) 0 seen (n + 2) y h (omega arith)
+outside-scans a b (isTwo {o = Until} e) n seen y h = on-owed-if (a .temporal) n 2 seen (n + 2) y h refl
+outside-scans a b isNone n seen y h = absurd (off-on y h)
+
+-- behind a node as many operands are owed as in the language
+pub record Owing (k : Kind) (x y : Pass) : Type 0 where
+  pub some : 0 < x .outer + x .inner
+  pub owed : owedAfter 64 64 k (x .outer + x .inner - 1) ≡ Operands (y .outer + y .inner)
+
+pub owing : (a : Allowed) (b : ℕ) (x y : Pass) → passAfter a (kindOf b) x ≡ On y → Owing (kindOf b) x y
+unfolding passAfter pick
+owing a b x y h = go (ltb 0 (x .inner)) refl (ltb (x .outer) 1) refl h
+  where
+    go : (i : Bool) → ltb 0 (x .inner) ≡ i → (o : Bool) → ltb (x .outer) 1 ≡ o
+        → pick i (insideAfter (a .propositions) (kindOf b) (x .inner - 1) (x .outer) (x .seen)) (pick o Off (outsideAfter a (kindOf b) (x .outer - 1) (x .seen))) ≡ On y
+        → Owing (kindOf b) x y
+    go true p o q h =
+        let z = ltb-true 0 (x .inner) p in
+        let e : x .outer + x .inner - 1 ≡ x .outer + (x .inner - 1) = omega arith in
+        record { some = omega arith; owed = ap (λ (n : ℕ). owedAfter 64 64 (kindOf b) n) e ∙ inside-scans (a .propositions) b (code b) (x .inner - 1) (x .outer) (x .seen) y h }
+    go false p true q h = absurd (off-on y h)
+    go false p false q h =
+        let z = ltb-false 0 (x .inner) p in
+        let w = ltb-false (x .outer) 1 q in
+        let e : x .outer + x .inner - 1 ≡ x .outer - 1 = omega arith in
+        record { some = omega arith; owed = ap (λ (n : ℕ). owedAfter 64 64 (kindOf b) n) e ∙ outside-scans a b (code b) (x .outer - 1) (x .seen) y h }
+
+pub wrong-slots : (r : ℕ) → _≡_ {A = Held} Wrong (Slots r) → ⊥
+wrong-slots r e = let z : _≡_ {A = ℕ} 0 1 = cc in omega arith
+
+ended-owes : (x : Pass) (r : ℕ) → ended x ≡ Slots r → x .outer + x .inner ≡ 0
+unfolding ended pick
+ended-owes x r h = go (ltb 0 (x .outer)) refl (ltb 0 (x .inner)) refl h
+  where
+    go : (o : Bool) → ltb 0 (x .outer) ≡ o → (i : Bool) → ltb 0 (x .inner) ≡ i → pick o Wrong (pick i Wrong (Slots (x .seen))) ≡ Slots r → x .outer + x .inner ≡ 0
+    go true p i q h = absurd (wrong-slots r h)
+    go false p true q h = absurd (wrong-slots r h)
+    go false p false q h = let y = ltb-false 0 (x .outer) p in let z = ltb-false 0 (x .inner) q in omega arith
+
+pass-scans : (a : Allowed) (l : List ℕ) (x : Pass) (r : ℕ) → pass a l x ≡ Slots r → scan 64 64 l (x .outer + x .inner) ≡ true
+unfolding pass
+pass-scans a [] x r h = turn-end 64 64 [] 0 (x .outer + x .inner) (omega arith) ∙ eq-eqb (x .outer + x .inner) 0 (ended-owes x r h)
+pass-scans a (b ∷ l) x r h = go (passAfter a (kindOf b) x) refl h (λ y. pass-scans a l y r)
+  where
+    go : (z : Passed) → passAfter a (kindOf b) x ≡ z → goOn z (λ y. pass a l y) ≡ Slots r
+        → ((y : Pass) → pass a l y ≡ Slots r → scan 64 64 l (y .outer + y .inner) ≡ true) → scan 64 64 (b ∷ l) (x .outer + x .inner) ≡ true
+    go (On y) e h ih =
+        let w = owing a b x y e in
+        let s = w .some in
+        turn-on 64 64 (b ∷ l) 0 (x .outer + x .inner) (omega arith) (λ q. omega arith) (y .outer + y .inner) (w .owed) ∙ ih y h
+    go Off e h ih = absurd (wrong-slots r h)
+
+-- ---- the pass is the formula's clause
+abbrev pub checkedText : Allowed → Option Formula → ℕ → Held
+checkedText a none seen = Wrong
+checkedText a (some f) seen = checked a f seen
+
+pub pass-is : (a : Allowed) (l : List ℕ) (seen : ℕ) → pass a l (at 1 0 seen) ≡ checkedText a (textOf l) seen
+unfolding textOver
+pass-is a l seen = go (textOf l) refl
+  where
+    none-fails : (h : Held) → pass a l (at 1 0 seen) ≡ h → textOf l ≡ none → h ≡ Wrong
+    none-fails Wrong e q = refl
+    none-fails (Slots r) e q =
+        let t : textOver 64 64 l ≡ true = sym (scan-is 64 64 l) ∙ pass-scans a l (at 1 0 seen) r e in
+        absurd (no-true (ap (overAlone 64 64) (sym q) ∙ t))
+
+    go : (x : Option Formula) → textOf l ≡ x → pass a l (at 1 0 seen) ≡ checkedText a x seen
+    go none q = none-fails (pass a l (at 1 0 seen)) refl q
+    go (some f) q =
+        let t = text-is l f q in
+        ap (λ (k : List ℕ). pass a k (at 1 0 seen)) (t .1 ∙ sym (append-nil (encode f)))
+        ∙ pass-outside a f 0 seen [] (t .0)
+        ∙ ap (λ (h : ℕ → Held). thereafter (checked a f seen) h) (λ i s. pass-ends a s i)
+        ∙ thereafter-slots (checked a f seen)
+
+-- ---- one turn of the loop, over plain lists
+module _ (a : Allowed) (s : List ℕ) (i : ℕ) (x : Pass) where
+  pub turn-next : i < length s → (y : Pass) → passAfter a (kindOf (getD s i 0)) x ≡ On y → pass a (drop i s) x ≡ pass a (drop (i + 1) s) y
+  unfolding pass
+  turn-next h y e = rw (drop-cons s i 0 h, add-one, e)
+
+  pub turn-off : i < length s → passAfter a (kindOf (getD s i 0)) x ≡ Off → pass a (drop i s) x ≡ Wrong
+  unfolding pass
+  turn-off h e = rw (drop-cons s i 0 h, e)
+
+  pub turn-ended : length s ≤ i → pass a (drop i s) x ≡ ended x
+  unfolding pass
+  turn-ended h = rw (drop-of-length-le s h)

@@ -1,0 +1,2 @@
+-- What the contracts of `scanning` cite.
+pub mod OnePass
