@@ -1,11 +1,11 @@
 -- A network behind its boards (`network-put`), and the whole state (`state-put`), as rows of puts leave them. Assumes nothing.
-use mathlib.Core.Path.{_≡_, refl, sym, ap, ap₂, _∙_, subst}
+use mathlib.Core.Path.{_≡_, sym, ap, ap₂, _∙_}
 use mathlib.Core.List.{List, _++_, append-assoc}
 use Prim.Native.Nat.{ℕ, _+_, _-_, _*_, _≤_}
 use native.Mathlib.Omega.{arith}
 use lib.ListN.{length, take, drop, replicate, length-append, length-drop, take-append-drop}
 use lib.Seq.{take-at, drop-at, length-take-le}
-use Rattle.lists.specs.Runs.{tail, tailAs, padded}
+use Rattle.lists.specs.Runs.{tail, tailAs}
 use Rattle.lists.proofs.Parts.{tail-is, tail-length, lent-tail, handed-tail}
 use Rattle.lists.proofs.Stretches.{put-more, tail-clear}
 use Rattle.network.specs.Layout.{Slot}

@@ -30,11 +30,12 @@ pub record Counts (network : List Slot) (slots nodes : ℕ) : Type 0 where
   pub few-slots : slots ≤ slotsMost
   pub few-nodes : nodes ≤ nodesMost
 
-pub record NetworkAsk (out : List ℕ) (slots nodes : ℕ) (u marks : List ℕ) : Type 0 where
+pub record NetworkAsk (out rows : List ℕ) (slots nodes : ℕ) (u marks : List ℕ) : Type 0 where
   pub network : List Slot
   pub laid-out : LaidOut u marks network
   pub counts : Counts network slots nodes
   pub room : 6 * slots + nodes ≤ length out
+  pub rows-room : 6 * slots ≤ length rows
 
 abbrev pub StoresNetwork : ℕ → ℕ → List ℕ → List ℕ → List ℕ → List ℕ → Type 0
 StoresNetwork slots nodes u marks out out′ =

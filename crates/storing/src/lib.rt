@@ -47,27 +47,36 @@ fn put_boards(out: &mut [u8], masks: &[u64])
     }
 }
 
-// The records and the nodes of the network that u and its marks are laid out to, and zeros behind them.
-fn put_network(out: &mut [u8], slots: usize, nodes: usize, u: &[u8], marks: &[u32])
-    requires { ⌜ NetworkAsk (now out) slots nodes (now u) (now marks) ⌝ }
+// The records and the nodes of the network that u and its marks are laid out to, and zeros behind them. The records are laid in
+// `rows` first: one slice cannot lend two of its parts at once.
+fn put_network(out: &mut [u8], rows: &mut [u8], slots: usize, nodes: usize, u: &[u8], marks: &[u32])
+    requires { ⌜ NetworkAsk (now out) (now rows) slots nodes (now u) (now marks) ⌝ }
     ensures { λ _. ⌜ StoresNetwork slots nodes (now (u .entry)) (now (marks .entry)) (now (out .entry)) (now (out .exit)) ⌝ }
 {
-    let rows = 6 * slots;
-    let mut records = [0u8; 384];
-    laying::lay_root(u, marks, &mut out[rows..], &mut records);
-    runs::copy(out, &records[..rows]);
-    let end = rows + nodes;
+    let n = 6 * slots;
+    laying::lay_root(u, marks, &mut out[n..], rows);
+    runs::copy(out, &rows[..n]);
+    let end = n + nodes;
     runs::clear(&mut out[end..]);
 }
 
 // The state of the network that u and its marks are laid out to, which has so many slots and nodes.
-pub fn put_state(state: &mut [u8], masks: &[u64], slots: usize, nodes: usize, ticks: u32, u: &[u8], marks: &[u32])
+pub fn put_state(
+    state: &mut [u8],
+    masks: &[u64],
+    slots: usize,
+    nodes: usize,
+    ticks: u32,
+    u: &[u8],
+    marks: &[u32],
+)
     requires { ⌜ StateAsk (now state) (now masks) slots nodes (now u) (now marks) ⌝ }
     ensures { λ _. ⌜ Stores (now (masks .entry)) slots nodes ticks (now (u .entry)) (now (marks .entry)) (now (state .exit)) ⌝ }
 {
     let b = masks.len();
+    let mut rows = [0u8; 384];
     put_header(state, b as u16, slots as u16, nodes as u16, ticks);
     put_boards(&mut state[16..], masks);
     let at = 16 + 17 * b;
-    put_network(&mut state[at..], slots, nodes, u, marks);
+    put_network(&mut state[at..], &mut rows, slots, nodes, u, marks);
 }

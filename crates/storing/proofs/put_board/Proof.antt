@@ -4,10 +4,6 @@ use native.Mathlib.Omega.{arith}
 use borrow.Author.Needs.{needs}
 use Rattle.storing.proofs.put_board.Statement.{statement}
 use Rattle.storing.proofs.put_board.Tie as tie
-use Rattle.storing.proofs.put_board.Reads as reads
-use Rattle.storing.proofs.put_board.Lts as lts
-use Rattle.le.proofs.put_u64.Reads as put-u64-reads
-use Rattle.runs.proofs.clear.Reads as clear-reads
 
 put-u64-requires : tie.Need-put-u64-requires
 put-u64-requires c κs = let p = c .before .before .pre in omega arith

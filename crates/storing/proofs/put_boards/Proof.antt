@@ -15,9 +15,6 @@ use native.Mathlib.Omega.{arith}
 use borrow.Author.Needs.{needs}
 use Rattle.storing.proofs.put_boards.Statement.{statement}
 use Rattle.storing.proofs.put_boards.Tie as tie
-use Rattle.storing.proofs.put_boards.Reads as reads
-use Rattle.storing.proofs.put_boards.Lts as lts
-use Rattle.storing.proofs.put_board.Reads as put-board-reads
 
 abbrev Inv-loop : tie.InvT-loop
 Inv-loop out₀ masks i₀ out i =
@@ -65,11 +62,12 @@ loop-again c = let k = c .before .before .before .before .before .before .loop .
     let p = c .before .before .before .before .before .before .before .before .before .pre in
     let l = boards-length (take i ms) in
     let m = length-take-le i ms (k .0) in
-    let e : 17 * i + 17 ≡ 17 * (i + 1) = omega arith in
-    (omega arith,
-    put-more out (c .before .before .before .before .before .before .loop .out) (boardRecords (take i ms)) (le 8 (getD ms i 0) ++ replicate 9 0) (c .before .before .put-board .last .0) (17 * i) 17 (omega arith) (k .1) (c .before .before .put-board .ensures)
-    ∙ ap₂ (λ (u : List ℕ) (j : ℕ). u ++ drop j out) (sym (boards-more ms i taken)) e,
-    handed-length (17 * i) (c .before .before .before .before .before .before .loop .out) (c .before .before .put-board .last .0) (omega arith) (c .before .before .put-board .kept .0) ∙ k .2)
+    let e : 17 * i + 17 ≡ 17 * (i + 1) = omega arith in (
+      omega arith,
+      put-more out (c .before .before .before .before .before .before .loop .out) (boardRecords (take i ms)) (le 8 (getD ms i 0) ++ replicate 9 0) (c .before .before .put-board .last .0) (17 * i) 17 (omega arith) (k .1) (c .before .before .put-board .ensures)
+          ∙ ap₂ (λ (u : List ℕ) (j : ℕ). u ++ drop j out) (sym (boards-more ms i taken)) e,
+      handed-length (17 * i) (c .before .before .before .before .before .before .loop .out) (c .before .before .put-board .last .0) (omega arith) (c .before .before .put-board .kept .0) ∙ k .2,
+    )
 
 same-length : tie.Need-same-length Inv-loop μ-loop
 same-length c = c .before .loop .inv .2

@@ -5,10 +5,6 @@ use native.Mathlib.Omega.{arith}
 use borrow.Author.Needs.{needs}
 use Rattle.storing.proofs.put_header.Statement.{statement}
 use Rattle.storing.proofs.put_header.Tie as tie
-use Rattle.storing.proofs.put_header.Reads as reads
-use Rattle.storing.proofs.put_header.Lts as lts
-use Rattle.le.proofs.put_u16.Reads as put-u16-reads
-use Rattle.le.proofs.put_u32.Reads as put-u32-reads
 
 put-u16-requires : tie.Need-put-u16-requires
 put-u16-requires c κs = let p = c .before .before .pre .0 in omega arith

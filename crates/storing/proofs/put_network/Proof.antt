@@ -1,89 +1,72 @@
--- proof
+-- The network's records and nodes, and zeros. Assumes nothing.
+use mathlib.Core.Path.{sym}
+use Prim.Native.Nat.{_+_, _*_}
+use lib.Seq.{length-take-le}
+use Rattle.lists.proofs.Parts.{handed-length}
+use Rattle.storing.proofs.Asked.{network-numbers, root-ask, network-stored}
 use native.Mathlib.Omega.{arith}
 use borrow.Author.Needs.{needs}
 use Rattle.storing.proofs.put_network.Statement.{statement}
 use Rattle.storing.proofs.put_network.Tie as tie
-use Rattle.storing.proofs.put_network.Reads as reads
-use Rattle.storing.proofs.put_network.Lts as lts
-use Rattle.laying.proofs.lay_root.Reads as lay-root-reads
-use Rattle.runs.proofs.clear.Reads as clear-reads
-use Rattle.runs.proofs.copy.Reads as copy-reads
 
--- src/lib.rt:55:16
-mul-rows : tie.Need-mul-rows
-mul-rows c = search needs
+mul-n : tie.Need-mul-n
+mul-n c = let a = network-numbers (c .before .before .before .before .pre) in omega arith
 
--- src/lib.rt:57:32
 sub-lay-root : tie.Need-sub-lay-root
-sub-lay-root c = search needs
+sub-lay-root c = let a = network-numbers (c .before .before .before .before .pre) in omega arith
 
--- src/lib.rt:57:32
 part-lay-root-start : tie.Need-part-lay-root-start
-part-lay-root-start c = search needs
+part-lay-root-start c = let a = network-numbers (c .before .before .before .before .pre) in omega arith
 
--- src/lib.rt:57:32
 part-lay-root-end : tie.Need-part-lay-root-end
-part-lay-root-end c = search needs
+part-lay-root-end c = let a = network-numbers (c .before .before .before .before .pre) in omega arith
 
--- src/lib.rt:57:50
-slice-aggregate-lay-root : tie.Need-slice-aggregate-lay-root
-slice-aggregate-lay-root c = search needs
-
--- src/lib.rt:57:5
 lay-root-requires : tie.Need-lay-root-requires
-lay-root-requires c κs = ?
+lay-root-requires c κs = root-ask (c .before .before .before .before .before .before .pre)
 
--- src/lib.rt:58:21
-array-share-prefix-records : tie.Need-array-share-prefix-records
-array-share-prefix-records c = search needs
+slice-reshare-prefix-copy : tie.Need-slice-reshare-prefix-copy
+slice-reshare-prefix-copy c = let a = network-numbers (c .before .before .before .before .before .before .before .before .before .before .before .before .pre) in let k = c .before .before .before .before .before .lay-root .kept .1 .1 .1 .0 in omega arith
 
--- src/lib.rt:58:21
 slice-aggregate-copy : tie.Need-slice-aggregate-copy
-slice-aggregate-copy c = ?
+slice-aggregate-copy c = let a = network-numbers (c .before .before .before .before .before .before .before .before .before .before .before .before .before .pre) in let k = c .before .before .before .before .before .before .lay-root .kept .1 .1 .1 .0 in sym (length-take-le (6 * c .before .before .before .before .before .before .before .before .before .before .before .before .before .args .slots) (c .before .before .before .before .before .before .lay-root .last .1 .1 .1 .0) (omega arith))
 
--- src/lib.rt:58:5
 copy-requires : tie.Need-copy-requires
-copy-requires c κs = ?
+copy-requires c κs = let a = network-numbers (c .before .before .before .before .before .before .before .before .before .before .before .before .before .pre) in let k = c .before .before .before .before .before .before .lay-root .kept .1 .1 .1 .0 in let t = length-take-le (6 * c .before .before .before .before .before .before .before .before .before .before .before .before .before .args .slots) (c .before .before .before .before .before .before .lay-root .last .1 .1 .1 .0) (omega arith) in let h = handed-length (6 * c .before .before .before .before .before .before .before .before .before .before .before .before .before .args .slots) (c .before .before .before .before .before .before .before .before .before .before .before .before .before .args .out .now) (c .before .before .before .before .before .before .lay-root .last .1 .1 .0) (omega arith) (c .before .before .before .before .before .before .lay-root .kept .1 .1 .0) in omega arith
 
--- src/lib.rt:59:15
 add-end : tie.Need-add-end
-add-end c = search needs
+add-end c = let a = network-numbers (c .before .before .before .before .before .before .before .before .before .before .before .before .before .before .before .before .pre) in omega arith
 
--- src/lib.rt:60:17
 sub-clear : tie.Need-sub-clear
-sub-clear c = search needs
+sub-clear c = let a = network-numbers (c .before .before .before .before .before .before .before .before .before .before .before .before .before .before .before .before .pre) in let h = handed-length (6 * c .before .before .before .before .before .before .before .before .before .before .before .before .before .before .before .before .args .slots) (c .before .before .before .before .before .before .before .before .before .before .before .before .before .before .before .before .args .out .now) (c .before .before .before .before .before .before .before .before .before .lay-root .last .1 .1 .0) (omega arith) (c .before .before .before .before .before .before .before .before .before .lay-root .kept .1 .1 .0) in let d = c .before .before .copy .kept .0 in omega arith
 
--- src/lib.rt:60:17
 part-clear-start : tie.Need-part-clear-start
-part-clear-start c = search needs
+part-clear-start c = let a = network-numbers (c .before .before .before .before .before .before .before .before .before .before .before .before .before .before .before .before .pre) in let h = handed-length (6 * c .before .before .before .before .before .before .before .before .before .before .before .before .before .before .before .before .args .slots) (c .before .before .before .before .before .before .before .before .before .before .before .before .before .before .before .before .args .out .now) (c .before .before .before .before .before .before .before .before .before .lay-root .last .1 .1 .0) (omega arith) (c .before .before .before .before .before .before .before .before .before .lay-root .kept .1 .1 .0) in let d = c .before .before .copy .kept .0 in omega arith
 
--- src/lib.rt:60:17
 part-clear-end : tie.Need-part-clear-end
-part-clear-end c = search needs
+part-clear-end c = let a = network-numbers (c .before .before .before .before .before .before .before .before .before .before .before .before .before .before .before .before .pre) in let h = handed-length (6 * c .before .before .before .before .before .before .before .before .before .before .before .before .before .before .before .before .args .slots) (c .before .before .before .before .before .before .before .before .before .before .before .before .before .before .before .before .args .out .now) (c .before .before .before .before .before .before .before .before .before .lay-root .last .1 .1 .0) (omega arith) (c .before .before .before .before .before .before .before .before .before .lay-root .kept .1 .1 .0) in let d = c .before .before .copy .kept .0 in omega arith
 
--- src/lib.rt:60:5
 clear-requires : tie.Need-clear-requires
 clear-requires c κs = search needs
 
--- src/lib.rt:51:1
 same-length : tie.Need-same-length
-same-length c = search needs
+same-length c = let a = network-numbers (c .before .before .before .before .before .before .before .before .before .before .before .before .before .before .before .before .before .before .before .before .pre) in let h = handed-length (6 * c .before .before .before .before .before .before .before .before .before .before .before .before .before .before .before .before .before .before .before .before .args .slots) (c .before .before .before .before .before .before .before .before .before .before .before .before .before .before .before .before .before .before .before .before .args .out .now) (c .before .before .before .before .before .before .before .before .before .before .before .before .before .lay-root .last .1 .1 .0) (omega arith) (c .before .before .before .before .before .before .before .before .before .before .before .before .before .lay-root .kept .1 .1 .0) in let d = c .before .before .before .before .before .before .copy .kept .0 in let i = handed-length (6 * c .before .before .before .before .before .before .before .before .before .before .before .before .before .before .before .before .before .before .before .before .args .slots + c .before .before .before .before .before .before .before .before .before .before .before .before .before .before .before .before .before .before .before .before .args .nodes) (c .before .before .before .before .before .before .copy .last .0) (c .before .before .clear .last .0) (omega arith) (c .before .before .clear .kept .0) in omega arith
 
--- src/lib.rt:51:1
+same-length-2 : tie.Need-same-length-2
+same-length-2 c = search needs
+
 returns : tie.Need-returns
-returns c = ?
+returns c = network-stored (c .before .before .before .before .before .before .before .before .before .before .before .before .before .before .before .before .before .before .before .before .pre) (c .before .before .before .before .before .before .before .before .before .before .before .before .before .lay-root .ensures) (c .before .before .before .before .before .before .copy .ensures) (c .before .before .clear .ensures)
 
 pub put-network-spec : {M : Type 1} → statement M
 put-network-spec =
     tie.close
     (tie.spec
-    mul-rows
+    mul-n
     sub-lay-root
     part-lay-root-start
     part-lay-root-end
-    slice-aggregate-lay-root
     lay-root-requires
-    array-share-prefix-records
+    slice-reshare-prefix-copy
     slice-aggregate-copy
     copy-requires
     add-end
@@ -92,4 +75,5 @@ put-network-spec =
     part-clear-end
     clear-requires
     same-length
+    same-length-2
     returns)
