@@ -20,7 +20,7 @@ use Rattle.answers.specs.declared.Verdict.the-variants.{Pending}
 use Rattle.ltl.specs.Formula.{Formula, leaf, one, two, join, size, encode, Within}
 use Rattle.ltl.specs.Meaning.{Event}
 use Rattle.ltl.specs.Progression.{unfolded, resolved, progressed, verdictOf, filled, filledBy}
-use Rattle.ltl.proofs.Texts.{size-some, length-encode}
+use Rattle.ltl.proofs.Texts.{unfolded-coded, size-some, length-encode}
 use Rattle.nodes.specs.Begins.{Front}
 use Rattle.resolving.specs.declared.Seen.{Seen}
 use Rattle.resolving.specs.declared.Settled.{Settled}
@@ -43,16 +43,6 @@ verdict-first (two o f g) = let h = binary-high o in rw (ne-eqb (first (two o f 
 -- the first byte of an output that holds a formula
 pub first-of : (g : Formula) (out zeros : List ℕ) → out ≡ encode g ++ zeros → getD out 0 0 ≡ first g
 first-of g out zeros e = ap (λ (l : List ℕ). getD l 0 0) e ∙ first-is g zeros
-
--- ---- unfolding keeps every number within its codes
-pub unfolded-coded : (p s : ℕ) (f : Formula) → Within p s f → Within p s (unfolded f)
-unfolded-coded p s (leaf a) w = w
-unfolded-coded p s (one Not f) w = unfolded-coded p s f w
-unfolded-coded p s (one Next f) w = w
-unfolded-coded p s (one Eventually f) w = (unfolded-coded p s f w, w)
-unfolded-coded p s (one Always f) w = (unfolded-coded p s f w, w)
-unfolded-coded p s (two (Joined j) f g) w = (unfolded-coded p s f (w .0), unfolded-coded p s g (w .1))
-unfolded-coded p s (two Until f g) w = (unfolded-coded p s g (w .1), (unfolded-coded p s f (w .0), w))
 
 -- ---- where nothing is held, settling is resolving
 filled-none : (held : ℕ → Verdict) → ((k : ℕ) → held k ≡ Pending) → (f : Formula) → filled held f ≡ f

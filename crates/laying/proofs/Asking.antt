@@ -5,7 +5,7 @@ use mathlib.Core.Bool.{true, false}
 use mathlib.Core.List.{List}
 use mathlib.Core.Logic.{inl, inr}
 use mathlib.Core.Option.{Option, none, some}
-use Prim.Native.Nat.{ℕ, _+_, _-_, _*_, _/_, _%_, _<_, _≤_}
+use Prim.Native.Nat.{ℕ, _+_, _-_, _*_, _<_, _≤_}
 use native.Mathlib.Omega.{arith}
 use lib.ListN.{length, getD, length-append}
 use lib.Dec.{eqb}
@@ -21,7 +21,7 @@ use Rattle.state.specs.Bytes.{nodesOf}
 use Rattle.nodes.specs.Begins.{Front}
 use Rattle.cutting.specs.Cuts.{codeOf, staysOn}
 use Rattle.cutting.proofs.Looking.{stays-none, stays-board}
-use Rattle.marking.specs.Marks.{boardIn, hereIn, aheadIn, Marks, Marked}
+use Rattle.marking.specs.Marks.{boardIn, hereIn, Marks, Marked}
 use Rattle.laying.specs.declared.Place.{Place}
 use Rattle.laying.specs.declared.Lain.{Lain}
 use Rattle.laying.specs.Lays.{OnBoard, Fits, Lays}

@@ -9,3 +9,4 @@ pub mod Slots
 pub mod Room
 pub mod Cutting
 pub mod Rooting
+pub mod Counting

@@ -3,7 +3,7 @@
 -- Assumes nothing.
 use mathlib.Core.Path.{_≡_}
 use mathlib.Core.List.{List}
-use Prim.Native.Nat.{ℕ, _+_, _-_, _*_, _/_, _%_, _<_, _≤_}
+use Prim.Native.Nat.{ℕ, _+_, _-_, _*_, _<_, _≤_}
 use native.Mathlib.Omega.{arith}
 use lib.ListN.{length, getD}
 use Rattle.lists.specs.Runs.{tail}
@@ -16,7 +16,7 @@ use Rattle.kinds.specs.Kinds.{kindOf}
 use Rattle.ltl.proofs.Texts.{size-some}
 use Rattle.network.specs.Layout.{looked, laid}
 use Rattle.nodes.proofs.Fronts.{front-length}
-use Rattle.marking.specs.Marks.{boardIn, hereIn, aheadIn}
+use Rattle.marking.specs.Marks.{boardIn, hereIn}
 use Rattle.laying.specs.declared.Place.{Place}
 use Rattle.laying.specs.declared.Lain.{Lain}
 use Rattle.laying.specs.Lays.{CutAsk, LookAsk, Looks, SlotAsk, Cuts}

@@ -1,6 +1,6 @@
 -- Bytes and formulas. `text-is` and `text-of`: the bytes read as a formula exactly where they are its bytes; `rule-is` and
 -- `rule-of`: the same of a rule's formula; `one-way`: no formula's bytes begin another's. `Within 64 64 f` says that every
--- number of a proposition or place holder has a code. Assumes nothing.
+-- number of a proposition or place holder has a code, and `unfolded-coded` that unfolding brings no others. Assumes nothing.
 use mathlib.Core.Path.{_≡_, refl, sym, ap, ap₂, _∙_, subst}
 use mathlib.Core.Bool.{true}
 use mathlib.Core.List.{List, [], _∷_, _++_, append-assoc, append-nil}
@@ -17,6 +17,9 @@ use Rattle.kinds.specs.declared.Kind.{Kind}
 use Rattle.kinds.specs.Kinds.{leafWithin, unaryCode, binaryCode}
 use Rattle.kinds.proofs.Codes.{CodeOf, isZero, isOne, isTwo, isNone, code, kind-leaf, kind-unary, kind-binary}
 use Rattle.ltl.specs.Formula.{Formula, leaf, one, two, size, encode, Within, leafOver, over}
+use Rattle.kinds.specs.declared.Unary.the-variants.{Not, Next, Eventually, Always}
+use Rattle.kinds.specs.declared.Binary.the-variants.{Joined, Until}
+use Rattle.ltl.specs.Progression.{unfolded}
 use Rattle.ltl.specs.Text.{Parsed, Reader, withOne, withSecond, withTwo, node, parse, before, alone, textOf, overAlone, textOver, ruleText}
 use Rattle.lists.proofs.Tests.{no-true, no-some, both-0, both-1, both-true}
 
@@ -161,3 +164,13 @@ rule-of p l h t =
     let f = t .formula in
     let e : textOf l ≡ some f = ap textOf (t .bytes) ∙ text-of f (wider p 0 64 64 h (omega arith) f (t .within)) in
     rw e (within-over p 0 f (t .within))
+
+-- ---- unfolding brings no other numbers
+pub unfolded-coded : (p s : ℕ) (f : Formula) → Within p s f → Within p s (unfolded f)
+unfolded-coded p s (leaf a) w = w
+unfolded-coded p s (one Not f) w = unfolded-coded p s f w
+unfolded-coded p s (one Next f) w = w
+unfolded-coded p s (one Eventually f) w = (unfolded-coded p s f w, w)
+unfolded-coded p s (one Always f) w = (unfolded-coded p s f w, w)
+unfolded-coded p s (two (Joined j) f g) w = (unfolded-coded p s f (w .0), unfolded-coded p s g (w .1))
+unfolded-coded p s (two Until f g) w = (unfolded-coded p s g (w .1), (unfolded-coded p s f (w .0), w))

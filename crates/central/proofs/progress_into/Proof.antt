@@ -7,7 +7,8 @@ use Prim.Native.Nat.{_-_}
 use lib.ListN.{drop}
 use Rattle.ltl.specs.Formula.{size}
 use Rattle.ltl.specs.Progression.{unfolded}
-use Rattle.central.proofs.Progresses.{unfolded-coded, result, progress-done}
+use Rattle.ltl.proofs.Texts.{unfolded-coded}
+use Rattle.central.proofs.Progresses.{result, progress-done}
 use Rattle.central.proofs.progress_into.Statement.{statement}
 use Rattle.central.proofs.progress_into.Tie as tie
 

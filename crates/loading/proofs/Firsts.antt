@@ -1,0 +1,109 @@
+-- What the functions that put the first state ask of each other, and what they have put: `first-put`. Assumes nothing.
+use mathlib.Core.Path.{_≡_, sym, ap, ap₂, _∙_, subst}
+use mathlib.Core.List.{List, [], append-nil}
+use Prim.Native.Nat.{ℕ, _+_, _≤_, min}
+use native.Mathlib.Omega.{arith}
+use lib.ListN.{length, take, drop}
+use lib.Seq.{take-at}
+use lib.Dec.{eqb}
+use Rattle.lists.specs.Tests.{pick}
+use Rattle.ltl.specs.Limits.{boardsMost}
+use Rattle.ltl.specs.Formula.{Formula, size, encode}
+use Rattle.ltl.specs.Progression.{unfolded}
+use Rattle.ltl.proofs.Texts.{length-encode, wider}
+use Rattle.network.specs.Scores.{highest, chosen}
+use Rattle.state.specs.Calls.{firstOf, loadedState}
+use mathlib.Core.Option.{none}
+use Rattle.nodes.specs.Begins.{Front, Begins}
+use Rattle.nodes.proofs.Fronts.{front-length, front-one-way}
+use Rattle.scores.specs.Owned.{Table, Owned}
+use Rattle.unfolding.specs.declared.Walk.{Walk}
+use Rattle.unfolding.specs.Unfolds.{Room, Unfolds}
+use Rattle.cutting.specs.declared.Part.{Part}
+use Rattle.cutting.specs.Cuts.{codeOf, Parted}
+use Rattle.cutting.proofs.Choices.{chosen-below}
+use Rattle.marking.specs.declared.Placed.{Placed}
+use Rattle.marking.specs.Marks.{MarkedAs, Marking}
+use Rattle.storing.specs.Stores.{LaidOut, Counts, StateAsk, Stores}
+use Rattle.loading.specs.Load.{BeginAsk, FirstAsk, Firsts}
+use Rattle.loading.proofs.Rules.{board-of, rule-within, first-large, first-slots, first-nodes, first-choice, first-laid}
+
+pub whole-begins : {s : List ℕ} {f : Formula} → Front s f [] → Begins s
+whole-begins {f = f} x = record { formula = f; rest = []; front = x }
+
+module _ {state masks bytes owner : List ℕ} {board slots nodes : ℕ} {u marks : List ℕ} (ask : FirstAsk state masks bytes owner board slots nodes u marks) where
+  abbrev U : Formula
+  U = unfolded (ask .rule)
+
+  pub first-size : size U ≤ 4096
+  first-size = let l = first-large (ask .ruled) in let n = ask .nodes-are in let f = ask .few-nodes in omega arith
+
+  pub unfold-ask : Room u bytes
+  unfold-ask = record { begins = record { formula = ask .rule; rest = []; front = ask .ruled .front }; room = let s = first-size in let l = ask .u-long in omega arith }
+
+  module _ {u′ : List ℕ} (w : Walk) (h : Unfolds u bytes u′ (w .read) (w .written)) where
+    written-is : w .written ≡ size U
+    written-is = h (ask .rule) [] (ask .ruled .front) .writes
+
+    -- the unfolded rule's bytes
+    bytes-are : take (w .written) u′ ≡ encode U
+    bytes-are =
+        ap₂ take written-is (h (ask .rule) [] (ask .ruled .front) .leaves) ∙ take-at (encode U) (drop (size U) u) (size U) (length-encode U)
+
+    front-is : Front (take (w .written) u′) U []
+    front-is =
+        record {
+          coded = wider (ask .ruled .propositions) 0 64 64 (ask .ruled .few-propositions) (omega arith) U (rule-within (ask .ruled));
+          bytes = bytes-are ∙ sym (append-nil (encode U));
+        }
+
+    pub mark-ask : Begins (take (w .written) u′) × Table owner × (length (take (w .written) u′) ≤ length marks) × (length (take (w .written) u′) ≤ 4096)
+    mark-ask =
+        let e = front-length (take (w .written) u′) U [] front-is in
+        let s = first-size in
+        let l = ask .marks-long in
+        (whole-begins front-is, ask .table, omega arith, omega arith)
+
+    module _ {marks′ : List ℕ} (y : Placed) (m : Marking owner (take (w .written) u′) board marks′ y) (kept : length marks′ ≡ length marks) where
+      laid-is : LaidOut (take (w .written) u′) marks′ (firstOf masks (ask .rule))
+      laid-is =
+          subst (λ (x : List ℕ). LaidOut x marks′ (firstOf masks (ask .rule))) (sym bytes-are)
+          (first-laid (ask .ruled) owner (ask .owned) marks′ y (subst (λ (b : ℕ). MarkedAs owner U b marks′ y) (ask .board-is) (m U [] front-is))
+          (let s = first-size in let l = ask .marks-long in omega arith))
+
+      counts-are : Counts (firstOf masks (ask .rule)) slots nodes
+      counts-are = record { slots-are = ask .slots-are; nodes-are = ask .nodes-are; few-slots = ask .few-slots; few-nodes = ask .few-nodes }
+
+      pub state-ask : StateAsk state masks slots nodes (take (w .written) u′) marks′
+      state-ask = record { network = firstOf masks (ask .rule); laid-out = laid-is; counts = counts-are; long = ask .long; few-boards = ask .ruled .few-boards }
+
+      pub first-put : {state′ : List ℕ} → Stores masks slots nodes 0 (take (w .written) u′) marks′ state′ → Firsts masks bytes state′
+      first-put {state′} h rule r =
+          let same : ask .rule ≡ rule = front-one-way bytes (ask .rule) rule [] [] (ask .ruled .front) (r .front) .0 in
+          subst (λ (f : Formula). state′ ≡ loadedState masks f) same (h (firstOf masks (ask .rule)) laid-is counts-are)
+
+-- ---- what the counts tell
+pub first-ask : {masks bytes state owner : List ℕ} (ask : BeginAsk masks bytes state) (owned : Owned (ask .ruled .propositions) masks owner) → Table owner
+    → (x : Part) → Parted owner (unfolded (ask .rule)) boardsMost x → 1 + x .cuts ≤ 64 → (count : ℕ) → count ≡ min (size (unfolded (ask .rule))) 4097 → count + x .cuts ≤ 4096
+    → (board : ℕ) → board ≡ pick (eqb (codeOf (highest none 0 0 (x .scores .counts))) boardsMost) 0 (codeOf (highest none 0 0 (x .scores .counts)))
+    → (u : List ℕ) → length u ≡ 4096 → (marks : List ℕ) → length marks ≡ 4096
+    → FirstAsk state masks bytes owner board (1 + x .cuts) (count + x .cuts) u marks
+first-ask {masks} {owner = owner} ask owned table x parted few count c most board b u ul marks ml =
+    let r = ask .ruled in
+    let s = first-slots r owner owned x parted in
+    let n = first-nodes r owner owned x parted in
+    let h = first-choice r owner owned x parted in
+    record {
+      rule = ask .rule;
+      ruled = r;
+      long = ask .long;
+      table = table;
+      owned = owned;
+      board-is = b ∙ ap (λ o. pick (eqb (codeOf o) boardsMost) 0 (codeOf o)) h ∙ board-of (chosen masks (unfolded (ask .rule))) (λ c e. chosen-below boardsMost masks (r .few-boards) (unfolded (ask .rule)) c e);
+      slots-are = omega arith;
+      nodes-are = omega arith;
+      few-slots = few;
+      few-nodes = most;
+      u-long = ul;
+      marks-long = ml;
+    }

@@ -1,0 +1,239 @@
+-- What `begin` and `load` answer and leave, one law for each outcome, over plain lists. Assumes nothing.
+use mathlib.Core.Path.{_≡_, refl, sym, ap, ap₂, _∙_, subst}
+use mathlib.Core.Bool.{Bool, true, false}
+use mathlib.Core.List.{List, [], _∷_, _++_, append-nil}
+use Prim.Native.Nat.{ℕ, _+_, _-_, _<_, _≤_, min}
+use native.Mathlib.Omega.{arith}
+use lib.ListN.{length, getD, take, replicate, length-drop}
+use lib.Seq.{take-at}
+use lib.Dec.{leb, eqb}
+use borrow.Author.Tests.{le-leb, lt-leb, eq-eqb, ne-eqb}
+use Rattle.lists.specs.Tests.{pick, both}
+use Rattle.lists.specs.Runs.{padded}
+use Rattle.answers.specs.declared.Refusal.{Refusal}
+use Rattle.answers.specs.declared.Refusal.the-variants.{Length, Slots, Nodes}
+use Rattle.answers.specs.declared.Outcome.{Outcome}
+use Rattle.answers.specs.declared.Outcome.the-variants.{Refused}
+use Rattle.answers.specs.Said.{Said, accepted, refused, left, numberOf, Check, check, inOrder, saidOutcome}
+use Rattle.answers.proofs.Answers.{number-some, left-refused, left-accepted, Passed, order-ok, order-refused, order-done}
+use Rattle.ltl.specs.Formula.{Formula, size, encode, Within}
+use Rattle.ltl.specs.Progression.{unfolded}
+use Rattle.state.specs.Bytes.{nodesOf, someFormula}
+use Rattle.state.specs.Calls.{firstOf, loadedState}
+use Rattle.scores.specs.Owned.{Owned}
+use Rattle.cutting.specs.declared.Part.{Part}
+use Rattle.cutting.specs.Cuts.{Parted}
+use Rattle.ltl.specs.Limits.{boardsMost, ruleNodesMost}
+use Rattle.masks.specs.Masks.{masksRule}
+use Rattle.ltl.specs.Text.{textOf, ruleText}
+use Rattle.ltl.proofs.Texts.{rule-is, text-of, wider}
+use Rattle.nodes.specs.Begins.{Front}
+use Rattle.rules.specs.declared.reading.Counts.{Counts}
+use Rattle.rules.specs.declared.reading.ReadAnswer.{ReadAnswer}
+use Rattle.rules.specs.declared.reading.ReadAnswer.the-variants.{Rule}
+use Rattle.rules.proofs.Files.{masksFrom-length}
+use Rattle.rules.proofs.Outcomes.{sized, counted, placed, ReadPassed, read-passed}
+use Rattle.rules.specs.RuleFile.{version, masksAt, formulaAt, countsOk, versionIn, boardsIn, propositionsIn, nodesIn, masksIn, formulaIn}
+use Rattle.rules.specs.Read.{offsetsOk, readSays, Reads}
+use Rattle.rules.specs.Read as read
+use Rattle.state.specs.Fields.{stateLength}
+use Rattle.loading.specs.Load.{ruleIn, lengthsOk, loadSays, LoadsRule, Ruled, beginSays, BeginAsk, Begun}
+use Rattle.loading.proofs.Rules.{first-slots, first-nodes}
+
+-- ---- begin
+module _ (masks bytes state : List ℕ) (owner : List ℕ) (x : Part) (rule : Formula) (r : Ruled masks bytes rule) (owned : Owned (r .propositions) masks owner)
+    (parted : Parted owner (unfolded rule) boardsMost x) where
+  abbrev Ends : List ℕ → Said → Type 0
+  Ends state′ said = (said ≡ beginSays masks rule) × (state′ ≡ left (beginSays masks rule) (loadedState masks rule) state)
+
+  refusal : (why : Refusal) → beginSays masks rule ≡ refused (numberOf why) → Ends state (refused (numberOf why))
+  refusal why e = (sym e, sym (ap (λ (s : Said). left s (loadedState masks rule) state) e ∙ left-refused why (loadedState masks rule) state))
+
+  pub begun-slots : 64 < 1 + x .cuts → Ends state (refused (numberOf Slots))
+  begun-slots l = let e = first-slots r owner owned x parted in refusal Slots (order-refused 7 _ _ _ (lt-leb (length (firstOf masks rule)) 64 (omega arith)))
+
+  module _ (few : 1 + x .cuts ≤ 64) where
+    slots-ok : leb (length (firstOf masks rule)) 64 ≡ true
+    slots-ok = let e = first-slots r owner owned x parted in le-leb (length (firstOf masks rule)) 64 (omega arith)
+
+    pub begun-nodes : (count : ℕ) → count ≡ min (size (unfolded rule)) 4097 → 4096 < count + x .cuts → Ends state (refused (numberOf Nodes))
+    begun-nodes count c l =
+        let e = first-nodes r owner owned x parted in
+        refusal Nodes (order-ok 7 _ _ _ slots-ok ∙ order-refused 8 _ _ _ (lt-leb (nodesOf (firstOf masks rule)) 4096 (omega arith)))
+
+    pub begun-done : (count : ℕ) → count ≡ min (size (unfolded rule)) 4097 → count + x .cuts ≤ 4096 → (state′ : List ℕ) → state′ ≡ loadedState masks rule → Ends state′ (accepted [])
+    begun-done count c l state′ h =
+        let e = first-nodes r owner owned x parted in
+        let says : beginSays masks rule ≡ accepted [] =
+        order-ok 7 _ _ _ slots-ok ∙ order-ok 8 _ _ _ (le-leb (nodesOf (firstOf masks rule)) 4096 (omega arith)) ∙ order-done _ in
+        (sym says, h ∙ sym (ap (λ (s : Said). left s (loadedState masks rule) state) says ∙ left-accepted [] (loadedState masks rule) state))
+
+-- ---- load
+-- a list of checks that refuses, with more checks behind it
+order-more : (cs ds : List Check) (vs : List ℕ) (t : Said) (n : ℕ) → 0 < n → inOrder cs (accepted vs) ≡ refused n → inOrder (cs ++ ds) t ≡ refused n
+unfolding inOrder pick
+order-more [] ds vs t n l e = absurd (let z = ap (λ (s : Said). s .number) e in omega arith)
+order-more (c ∷ cs) ds vs t n l e = go (c .ok) e (order-more cs ds vs t n l)
+  where
+    go : (b : Bool) → pick b (inOrder cs (accepted vs)) (refused (c .number)) ≡ refused n → (inOrder cs (accepted vs) ≡ refused n → inOrder (cs ++ ds) t ≡ refused n)
+        → pick b (inOrder (cs ++ ds) t) (refused (c .number)) ≡ refused n
+    go true q h = h q
+    go false q h = q
+
+-- and one that passes
+order-after : (cs ds : List Check) (t : Said) → Passed cs → inOrder (cs ++ ds) t ≡ inOrder ds t
+unfolding inOrder pick
+order-after [] ds t p = refl
+order-after (c ∷ cs) ds t p = ap (λ b. pick b (inOrder (cs ++ ds) t) (refused (c .number))) (p .0) ∙ order-after cs ds t (p .1)
+
+module _ (file state : List ℕ) where
+  load-refusal : (why : Refusal) → loadSays file (length state) ≡ refused (numberOf why) → LoadsRule file state state (Refused why)
+  load-refusal why e =
+      let o = loadedState (masksIn file) (ruleIn file) in
+      record { says = sym e; leaves = sym (ap (λ (s : Said). left s o state) e ∙ left-refused why o state) }
+
+  pub load-length : (length state ≡ stateLength → ⊥) → LoadsRule file state state (Refused Length)
+  unfolding loadSays lengthsOk both
+  load-length n = load-refusal Length (order-refused 1 _ _ _ (rw (ne-eqb (length state) stateLength n)))
+
+  module _ (long : length state ≡ stateLength) where
+    -- the checks of the file are those of reading
+    abbrev layout-checks : List Check
+    layout-checks =
+        check 7 (leb (length (firstOf (masksIn file) (ruleIn file))) 64) ∷ check 8 (leb (nodesOf (firstOf (masksIn file) (ruleIn file))) 4096) ∷ []
+
+    abbrev file-checks : List Check
+    file-checks =
+        check 1 (read.lengthsOk file boardsMost ruleNodesMost)
+        ∷ check 2 (eqb (versionIn file) version)
+        ∷ check 3 (countsOk (boardsIn file) (propositionsIn file) (nodesIn file))
+        ∷ check 4 (offsetsOk file)
+        ∷ check 5 (masksRule (propositionsIn file) (masksIn file))
+        ∷ check 6 (ruleText (propositionsIn file) (formulaIn file))
+        ∷ []
+
+    says-is : loadSays file (length state) ≡ inOrder (file-checks ++ layout-checks) (accepted [])
+    unfolding loadSays lengthsOk both read.lengthsOk
+    says-is = rw (eq-eqb (length state) stateLength long)
+
+    pub load-read : (why : Refusal) → refused (numberOf why) ≡ readSays file boardsMost ruleNodesMost → LoadsRule file state state (Refused why)
+    unfolding readSays
+    load-read why e = load-refusal why (says-is ∙ order-more file-checks layout-checks (boardsIn file ∷ propositionsIn file ∷ nodesIn file ∷ []) (accepted []) (numberOf why) (number-some why) (sym e))
+
+    -- the file was read
+    module _ (passed : ReadPassed file boardsMost ruleNodesMost) where
+      pub load-begun : (state′ : List ℕ) (answer : Outcome) → saidOutcome answer ≡ beginSays (masksIn file) (ruleIn file)
+          → state′ ≡ left (beginSays (masksIn file) (ruleIn file)) (loadedState (masksIn file) (ruleIn file)) state → LoadsRule file state state′ answer
+      load-begun state′ answer e f =
+          let says : loadSays file (length state) ≡ beginSays (masksIn file) (ruleIn file) =
+          says-is ∙ order-after file-checks layout-checks (accepted []) (passed .lengths, (passed .version, (passed .counts, (passed .offsets, (passed .masks, (passed .formula, tt)))))) in
+          record { says = e ∙ sym says; leaves = f ∙ ap (λ (s : Said). left s (loadedState (masksIn file) (ruleIn file)) state) (sym says) }
+
+-- ---- what was read
+module _ (file : List ℕ) (passed : ReadPassed file boardsMost ruleNodesMost) where
+  pub read-ruled : Ruled (masksIn file) (formulaIn file) (ruleIn file)
+  read-ruled =
+      let z = sized file boardsMost ruleNodesMost (passed .lengths) in
+      let c = counted (boardsIn file) (propositionsIn file) (nodesIn file) (passed .counts) in
+      let o = placed file (passed .offsets) in
+      let t = rule-is (propositionsIn file) (formulaIn file) (passed .formula) in
+      let w = wider (propositionsIn file) 0 64 64 (c .propositions-few) (omega arith) (t .formula) (t .within) in
+      let same : ruleIn file ≡ t .formula = ap someFormula (ap textOf (t .bytes) ∙ text-of (t .formula) w) in
+      let a = z .whole in
+      let b = o .total in
+      let d = length-drop (formulaAt (boardsIn file)) file in
+      let n = c .nodes-few in
+      let l = masksFrom-length file masksAt (boardsIn file) in
+      let m = c .boards-few in
+      record {
+        propositions = propositionsIn file;
+        few-propositions = c .propositions-few;
+        few-boards = omega arith;
+        follow = passed .masks;
+        within = subst (Within (propositionsIn file) 0) (sym same) (t .within);
+        front = subst (λ (f : Formula). Front (formulaIn file) f []) (sym same) (record { coded = w; bytes = t .bytes ∙ sym (append-nil (encode (t .formula))) });
+        few-nodes = omega arith;
+      }
+
+  -- the answer's counts, and the fronts of the lent outputs
+  module _ (c : Counts) (masks formula masks′ formula′ : List ℕ) (m : length masks ≡ boardsMost) (f : length formula ≡ ruleNodesMost) (r : Reads file masks formula masks′ formula′ (Rule c)) where
+    says-read : readSays file (length masks) (length formula) ≡ accepted (boardsIn file ∷ propositionsIn file ∷ nodesIn file ∷ [])
+    unfolding readSays
+    says-read =
+        ap₂ (readSays file) m f
+        ∙ order-ok 1 _ _ _ (passed .lengths)
+        ∙ order-ok 2 _ _ _ (passed .version)
+        ∙ order-ok 3 _ _ _ (passed .counts)
+        ∙ order-ok 4 _ _ _ (passed .offsets)
+        ∙ order-ok 5 _ _ _ (passed .masks)
+        ∙ order-ok 6 _ _ _ (passed .formula)
+        ∙ order-done _
+
+    pub read-boards : c .boards ≡ boardsIn file
+    read-boards = ap (λ (s : Said). getD (s .values) 0 0) (r .says ∙ says-read)
+
+    pub read-nodes : c .nodes ≡ nodesIn file
+    read-nodes = ap (λ (s : Said). getD (s .values) 2 0) (r .says ∙ says-read)
+
+    pub read-masks : take (c .boards) masks′ ≡ masksIn file
+    read-masks =
+        ap (take (c .boards)) (r .leaves-masks ∙ ap (λ (s : Said). left s (padded boardsMost (masksIn file)) masks) says-read ∙ left-accepted _ (padded boardsMost (masksIn file)) masks)
+        ∙ take-at (masksIn file) (replicate (boardsMost - length (masksIn file)) 0) (c .boards) (masksFrom-length file masksAt (boardsIn file) ∙ sym read-boards)
+
+    pub read-formula : take (c .nodes) formula′ ≡ formulaIn file
+    read-formula =
+        let z = sized file boardsMost ruleNodesMost (passed .lengths) in
+        let o = placed file (passed .offsets) in
+        let a = z .whole in
+        let b = o .total in
+        let d = length-drop (formulaAt (boardsIn file)) file in
+        let n = read-nodes in
+        ap (take (c .nodes)) (r .leaves-formula ∙ ap (λ (s : Said). left s (padded ruleNodesMost (formulaIn file)) formula) says-read ∙ left-accepted _ (padded ruleNodesMost (formulaIn file)) formula)
+        ∙ take-at (formulaIn file) (replicate (ruleNodesMost - length (formulaIn file)) 0) (c .nodes) (omega arith)
+
+pub read-was-passed : (file masks formula masks′ formula′ : List ℕ) (c : Counts) → length masks ≡ boardsMost → length formula ≡ ruleNodesMost
+    → Reads file masks formula masks′ formula′ (Rule c) → ReadPassed file boardsMost ruleNodesMost
+read-was-passed file masks formula masks′ formula′ c m f r =
+    read-passed file boardsMost ruleNodesMost (ap (λ (s : Said). s .number) (sym (r .says ∙ ap₂ (readSays file) m f)))
+
+-- ---- a rule was read into outputs of their lengths: all that the call needs of it
+pub record Read (file masks′ formula′ : List ℕ) (c : Counts) : Type 0 where
+  pub passed : ReadPassed file boardsMost ruleNodesMost
+  pub boards-few : c .boards ≤ boardsMost
+  pub nodes-few : c .nodes ≤ ruleNodesMost
+  pub masks-are : take (c .boards) masks′ ≡ masksIn file
+  pub formula-is : take (c .nodes) formula′ ≡ formulaIn file
+
+pub read-all : (file masks formula masks′ formula′ : List ℕ) (c : Counts) (answer : ReadAnswer) → answer ≡ Rule c → length masks ≡ boardsMost → length formula ≡ ruleNodesMost
+    → Reads file masks formula masks′ formula′ answer → Read file masks′ formula′ c
+read-all file masks formula masks′ formula′ c answer e m f h =
+    let r = subst (Reads file masks formula masks′ formula′) e h in
+    let p = read-was-passed file masks formula masks′ formula′ c m f r in
+    let n = counted (boardsIn file) (propositionsIn file) (nodesIn file) (p .counts) in
+    let b = read-boards file p c masks formula masks′ formula′ m f r in
+    let k = read-nodes file p c masks formula masks′ formula′ m f r in
+    let x = n .boards-few in
+    let y = n .nodes-few in
+    record {
+      passed = p;
+      boards-few = omega arith;
+      nodes-few = omega arith;
+      masks-are = read-masks file p c masks formula masks′ formula′ m f r;
+      formula-is = read-formula file p c masks formula masks′ formula′ m f r;
+    }
+
+pub read-begins : {file masks′ formula′ : List ℕ} {c : Counts} (state : List ℕ) → length state ≡ stateLength → Read file masks′ formula′ c
+    → BeginAsk (take (c .boards) masks′) (take (c .nodes) formula′) state
+read-begins {file} {masks′} {c = c} state long r =
+    record {
+      rule = ruleIn file;
+      ruled = subst (λ (b : List ℕ). Ruled (take (c .boards) masks′) b (ruleIn file)) (sym (r .formula-is)) (subst (λ (m : List ℕ). Ruled m (formulaIn file) (ruleIn file)) (sym (r .masks-are)) (read-ruled file (r .passed)));
+      long = long;
+    }
+
+pub read-begun : {file masks′ formula′ : List ℕ} {c : Counts} (state state′ : List ℕ) (answer : Outcome) → length state ≡ stateLength → Read file masks′ formula′ c
+    → Begun (take (c .boards) masks′) (take (c .nodes) formula′) state state′ answer → LoadsRule file state state′ answer
+read-begun {file} {masks′} {c = c} state state′ answer long r h =
+    let b = subst (λ (m : List ℕ). Begun m (formulaIn file) state state′ answer) (r .masks-are) (subst (λ (f : List ℕ). Begun (take (c .boards) masks′) f state state′ answer) (r .formula-is) h) in
+    let x = b (ruleIn file) (read-ruled file (r .passed)) in
+    load-begun file state long (r .passed) state′ answer (x .0) (x .1)

@@ -1,0 +1,194 @@
+-- A rule that was read, and its layout: the board of its first slot (`first-rests`), how many slots and nodes it has (`first-slots`,
+-- `first-nodes`), and that its marked bytes are laid out to it (`first-laid`). Assumes nothing.
+use mathlib.Core.Path.{_≡_, refl, sym, ap, _∙_}
+use mathlib.Core.Bool.{Bool, true, false}
+use mathlib.Core.List.{List, [], _++_, append-nil}
+use mathlib.Core.Logic.{_⊎_, inl, inr}
+use mathlib.Core.Option.{Option, none, some}
+use Prim.Native.Nat.{ℕ, zero, suc, _+_, _-_, _<_, _≤_}
+use native.Mathlib.Omega.{arith}
+use lib.ListN.{length, getD, List·getD-append}
+use lib.Seq.{getD-append-add}
+use lib.Dec.{eqb, ltb}
+use borrow.Author.Tests.{eq-eqb, ne-eqb, ltb-true, ltb-false}
+use Rattle.lists.specs.Tests.{pick}
+use Rattle.kinds.specs.declared.Unary.{Unary}
+use Rattle.kinds.specs.declared.Unary.the-variants.{Not, Next, Eventually, Always}
+use Rattle.kinds.specs.declared.Join.the-variants.{And, Or}
+use Rattle.kinds.specs.declared.Binary.{Binary}
+use Rattle.kinds.specs.declared.Binary.the-variants.{Joined, Until}
+use Rattle.kinds.specs.declared.Leaf.{Leaf}
+use Rattle.kinds.specs.declared.Leaf.the-variants.{Const, Prop, Hold}
+use Rattle.kinds.specs.Kinds.{leafWithin, leafCode, unaryCode, binaryCode}
+use Rattle.ltl.specs.Limits.{boardsMost}
+use Rattle.ltl.specs.Formula.{Formula, leaf, one, two, size, encode, Within}
+use Rattle.ltl.specs.Progression.{unfolded}
+use Rattle.ltl.proofs.Texts.{length-encode, wider, unfolded-coded}
+use Rattle.network.specs.Scores.{highest, chosen}
+use Rattle.network.specs.Layout.{noHold, orZero, load}
+use Rattle.network.proofs.Owned.{unfolded-free}
+use Rattle.network.proofs.Laying.{HoldsIn}
+use Rattle.network.proofs.Holding.{free-holds}
+use Rattle.network.proofs.Choosing.{masks-free}
+use Rattle.state.specs.Bytes.{nodesOf}
+use Rattle.state.specs.Calls.{firstOf}
+use Rattle.nodes.proofs.Fronts.{front-length}
+use Rattle.scores.specs.Owned.{Owned}
+use Rattle.scores.proofs.Counting.{counted-chosen}
+use Rattle.cutting.specs.declared.Part.{Part}
+use Rattle.cutting.specs.Cuts.{codeOf, cutsOn, Rests, Parted}
+use Rattle.cutting.proofs.Choices.{chosen-below}
+use Rattle.cutting.proofs.Looking.{place-given}
+use Rattle.marking.specs.declared.Placed.{Placed}
+use Rattle.marking.specs.Marks.{MarkedAs}
+use Rattle.marking.proofs.Places.{mark-has}
+use Rattle.laying.specs.Lays.{OnBoard, Source}
+use Rattle.laying.proofs.Counting.{held, held-none, laid-slots, laid-nodes}
+use Rattle.storing.specs.Stores.{LaidOut}
+use Rattle.loading.specs.Load.{Ruled}
+
+-- ---- the board of the first slot
+pub board-none : (choice : ℕ) → choice ≡ boardsMost → pick (eqb choice boardsMost) 0 choice ≡ 0
+unfolding pick
+board-none choice e = rw (eq-eqb choice boardsMost e)
+
+pub board-some : (choice : ℕ) → (choice ≡ boardsMost → ⊥) → pick (eqb choice boardsMost) 0 choice ≡ choice
+unfolding pick
+board-some choice n = rw (ne-eqb choice boardsMost n)
+
+pub board-of : (o : Option ℕ) → ((c : ℕ) → o ≡ some c → c < boardsMost) → pick (eqb (codeOf o) boardsMost) 0 (codeOf o) ≡ orZero o
+board-of none h = board-none boardsMost refl
+board-of (some c) h = let l = h c refl in board-some c (λ e. omega arith)
+
+-- ---- no place holder among the bytes of a formula without one
+unary-low : (o : Unary) → unaryCode o < 128
+unary-low Not = omega arith
+unary-low Next = omega arith
+unary-low Eventually = omega arith
+unary-low Always = omega arith
+
+binary-low : (o : Binary) → binaryCode o < 128
+binary-low (Joined And) = omega arith
+binary-low (Joined Or) = omega arith
+binary-low Until = omega arith
+
+leaf-holder : (p : ℕ) → p ≤ 64 → (a : Leaf) → leafWithin p 0 a → (m : ℕ) → leafCode a ≡ leafCode (Hold m) → ⊥
+leaf-holder p few (Const true) w m e = omega arith
+leaf-holder p few (Const false) w m e = omega arith
+leaf-holder p few (Prop j) w m e = omega arith
+leaf-holder p few (Hold k) w m e = omega arith
+
+no-holder : (p : ℕ) → p ≤ 64 → (f : Formula) → Within p 0 f → (i m : ℕ) → i < size f → getD (encode f) i 0 ≡ leafCode (Hold m) → ⊥
+no-holder p few (leaf a) w zero m l e = leaf-holder p few a w m e
+no-holder p few (leaf a) w (suc i) m l e = omega arith
+no-holder p few (one o f) w zero m l e = let h = unary-low o in omega arith
+no-holder p few (one o f) w (suc i) m l e = no-holder p few f w i m (omega arith) e
+no-holder p few (two o f g) w zero m l e = let h = binary-low o in omega arith
+no-holder p few (two o f g) w (suc i) m l e =
+    go (ltb i (size f)) refl (λ k q. no-holder p few f (w .0) i m k q) (λ k q. no-holder p few g (w .1) (i - size f) m k q)
+  where
+    go : (t : Bool) → ltb i (size f) ≡ t → (i < size f → getD (encode f) i 0 ≡ leafCode (Hold m) → ⊥) → (i - size f < size g → getD (encode g) (i - size f) 0 ≡ leafCode (Hold m) → ⊥) → ⊥
+    go true q left right =
+        let k = ltb-true i (size f) q in
+        let n = length-encode f in
+        left k (sym (List·getD-append (encode f) (encode g) 0 i (omega arith)) ∙ e)
+    go false q left right =
+        let k = ltb-false i (size f) q in
+        let n = length-encode f in
+        let j : length (encode f) + (i - size f) ≡ i = omega arith in
+        right (omega arith) (sym (getD-append-add (encode f) (encode g) (i - size f) 0) ∙ ap (λ (x : ℕ). getD (encode f ++ encode g) x 0) j ∙ e)
+
+-- ---- a rule that was read
+module _ {masks bytes : List ℕ} {rule : Formula} (r : Ruled masks bytes rule) where
+  abbrev choose : Formula → Option ℕ
+  choose = chosen masks
+
+  abbrev first-board : ℕ
+  first-board = orZero (choose (unfolded rule))
+
+  pub rule-within : Within (r .propositions) 0 (unfolded rule)
+  rule-within = unfolded-coded (r .propositions) 0 rule (r .within)
+
+  pub rule-size : size rule ≤ 1024
+  rule-size = let e = front-length bytes rule [] (r .front) in let f = r .few-nodes in omega arith
+
+  first-rests : Rests choose (unfolded rule) first-board
+  first-rests = go (choose (unfolded rule)) refl
+    where
+      go : (o : Option ℕ) → choose (unfolded rule) ≡ o → (o ≡ none) ⊎ (o ≡ some (orZero o))
+      go none e = inl refl
+      go (some c) e = inr refl
+
+  pub first-there : first-board < boardsMost
+  first-there = go (choose (unfolded rule)) refl
+    where
+      go : (o : Option ℕ) → choose (unfolded rule) ≡ o → orZero o < boardsMost
+      go none e = omega arith
+      go (some c) e = chosen-below boardsMost masks (r .few-boards) (unfolded rule) c e
+
+  holds-all : (Q : ℕ → Type 0) → HoldsIn Q (unfolded rule)
+  holds-all Q = free-holds choose Q (unfolded rule) (unfolded-free choose rule (masks-free (r .propositions) masks (r .few-propositions) (r .follow) rule (r .within)))
+
+  laid-out-nodes : nodesOf (firstOf masks rule) ≡ cutsOn choose (unfolded rule) first-board + (size (unfolded rule) + held (λ m. 0) (unfolded rule))
+  unfolding load
+  laid-out-nodes =
+      laid-nodes choose noHold (λ m. 0) (unfolded rule) first-board 1 (holds-all (λ m. (n : ℕ) → size (noHold m n .here) + nodesOf (noHold m n .slots) ≡ 1 + 0))
+
+  pub first-large : size (unfolded rule) ≤ nodesOf (firstOf masks rule)
+  first-large = omega (arith, laid-out-nodes)
+
+  -- how many slots and nodes the layout has, by the cuts that were counted
+  module _ (owner : List ℕ) (owned : Owned (r .propositions) masks owner) (x : Part) (parted : Parted owner (unfolded rule) boardsMost x) where
+    cuts-are : x .cuts ≡ cutsOn choose (unfolded rule) first-board
+    cuts-are = parted .cuts-are (r .propositions) 0 masks owned rule-within first-board (inl (refl, first-rests))
+
+    pub first-slots : length (firstOf masks rule) ≡ 1 + x .cuts
+    unfolding load
+    first-slots =
+        let e = laid-slots choose noHold (λ m. 0) (unfolded rule) first-board 1 (holds-all (λ m. (n : ℕ) → length (noHold m n .slots) ≡ 0)) in
+        let z = held-none (unfolded rule) in
+        let c = cuts-are in
+        omega arith
+
+    pub first-nodes : nodesOf (firstOf masks rule) ≡ size (unfolded rule) + x .cuts
+    first-nodes = omega (arith, laid-out-nodes, held-none (unfolded rule), cuts-are)
+
+    pub first-choice : highest none 0 0 (x .scores .counts) ≡ choose (unfolded rule)
+    first-choice = counted-chosen (r .propositions) 0 masks (parted .scored) owned rule-within
+
+  -- the marked bytes are laid out to it
+  module _ (owner : List ℕ) (owned : Owned (r .propositions) masks owner) (marks : List ℕ) (y : Placed) (m : MarkedAs owner (unfolded rule) first-board marks y) (long : size (unfolded rule) ≤ length marks) where
+    first-source : Source choose noHold (encode (unfolded rule)) marks
+    first-source =
+        record {
+          long = let e = length-encode (unfolded rule) in omega arith;
+          held = λ i n l k e. absurd (no-holder (r .propositions) (r .few-propositions) (unfolded rule) rule-within i n (let z = length-encode (unfolded rule) in omega arith) e);
+          single = λ n k. refl;
+          boards = λ f c e. chosen-below boardsMost masks (r .few-boards) f c e;
+        }
+
+    first-stands : OnBoard choose (encode (unfolded rule)) marks (unfolded rule) [] first-board
+    first-stands =
+        let l = first-there in
+        let b : y .board ≡ first-board = m .board-is ∙ place-given first-board (y .scores .counts) (λ e. omega arith) in
+        let h = mark-has (getD marks 0 0) (y .here) (y .board) (m .mark-is) (omega arith) (m .small) in
+        record {
+          front = record { coded = wider (r .propositions) 0 64 64 (r .few-propositions) (omega arith) (unfolded rule) rule-within; bytes = sym (append-nil (encode (unfolded rule))) };
+          board-is = h .board-is ∙ b;
+          here-is = h .here-is ∙ m .here-is (r .propositions) 0 masks owned rule-within first-board (inr (refl, l));
+          marked = m .marked (r .propositions) 0 masks owned rule-within;
+        }
+
+    pub first-laid : LaidOut (encode (unfolded rule)) marks (firstOf masks rule)
+    unfolding load
+    first-laid =
+        record {
+          choose = choose;
+          hold = noHold;
+          formula = unfolded rule;
+          rest = [];
+          board = first-board;
+          source = first-source;
+          stands = first-stands;
+          network-is = refl;
+        }

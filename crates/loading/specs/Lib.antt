@@ -1,0 +1,2 @@
+-- Loading a rule file, and what the contracts of `loading` cite.
+pub mod Load

@@ -1,0 +1,96 @@
+// The call `load`: a watch begun from a rule file. The rule is read as `read` does; its layout is counted as it stands, and only
+// where it is within the limits it is unfolded, marked and laid out into the state.
+ghost use mathlib.Core.Path.{_≡_};
+ghost use lib.Dec.{eqb};
+ghost use Rattle.lists.specs.Tests.{pick};
+ghost use Rattle.ltl.specs.Limits.{boardsMost};
+ghost use Rattle.loading.specs.Load.{FirstAsk, Firsts, BeginAsk, Begun, LoadsRule};
+use answers::Outcome;
+use answers::Refusal;
+use cutting::STAYS;
+use rules::ReadAnswer;
+use storing::STATE_LENGTH;
+use unfolding::NODES_MOST;
+
+// The most slots.
+const SLOTS_MOST: usize = 64;
+
+// The board of the first slot: board 0 where all scores are 0.
+fn first_board(choice: u8) -> u8
+    ensures { λ r. ⌜ r ≡ pick (eqb choice boardsMost) 0 choice ⌝ }
+{
+    if choice == STAYS { 0 } else { choice }
+}
+
+// Unfolds the rule into u, marks it on its board, and lays it out into the state.
+fn put_first(
+    state: &mut [u8],
+    masks: &[u64],
+    rule: &[u8],
+    owner: &[u8],
+    board: u8,
+    slots: usize,
+    nodes: usize,
+    u: &mut [u8],
+    marks: &mut [u32],
+)
+    requires { ⌜ FirstAsk (now state) (now masks) (now rule) (now owner) board slots nodes (now u) (now marks) ⌝ }
+    ensures { λ _. ⌜ Firsts (now (masks .entry)) (now (rule .entry)) (now (state .exit)) ⌝ }
+{
+    let n = unfolding::unfold_into(u, rule).written;
+    marking::mark(&u[..n], marks, owner, board);
+    storing::put_state(state, masks, slots, nodes, 0, &u[..n], marks);
+}
+
+// Begins a watch with a rule that was read: 7 and 8 by the whole layout, however large, then its state.
+fn begin(masks: &[u64], rule: &[u8], state: &mut [u8]) -> Outcome
+    requires { ⌜ BeginAsk (now masks) (now rule) (now state) ⌝ }
+    ensures { λ r. ⌜ Begun (now (masks .entry)) (now (rule .entry)) (now (state .entry)) (now (state .exit)) r ⌝ }
+{
+    let mut owner = [0u8; 64];
+    scores::owners(masks, &mut owner);
+    let part = cutting::count_cuts(rule, &owner, STAYS).part;
+    let slots = 1 + part.cuts;
+    if SLOTS_MOST < slots {
+        return Outcome::Refused(Refusal::Slots);
+    }
+    let nodes = unfolding::count_unfolded(rule).written + part.cuts;
+    if NODES_MOST < nodes {
+        return Outcome::Refused(Refusal::Nodes);
+    }
+    let scores = part.scores;
+    let board = first_board(cutting::choice_of(scores));
+    let mut u = [0u8; NODES_MOST];
+    let mut marks = [0u32; NODES_MOST];
+    put_first(
+        state,
+        masks,
+        rule,
+        &owner,
+        board,
+        slots,
+        nodes,
+        &mut u,
+        &mut marks,
+    );
+    Outcome::Done
+}
+
+pub fn load(file: &[u8], state: &mut [u8]) -> Outcome
+    ensures { λ r. ⌜ LoadsRule (now (file .entry)) (now (state .entry)) (now (state .exit)) r ⌝ }
+{
+    if state.len() != STATE_LENGTH {
+        return Outcome::Refused(Refusal::Length);
+    }
+    let mut masks = [0u64; 16];
+    let mut formula = [0u8; 1024];
+    let answer = rules::read(file, &mut masks, &mut formula);
+    match answer {
+        ReadAnswer::Refused(why) => Outcome::Refused(why),
+        ReadAnswer::Rule(c) => {
+            let b = c.boards as usize;
+            let n = c.nodes as usize;
+            begin(&masks[..b], &formula[..n], state)
+        }
+    }
+}
