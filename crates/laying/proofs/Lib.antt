@@ -10,3 +10,5 @@ pub mod Room
 pub mod Cutting
 pub mod Rooting
 pub mod Counting
+pub mod Relays
+pub mod Totals
