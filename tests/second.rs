@@ -12,6 +12,17 @@ mod replay;
 mod run;
 
 #[cfg(test)]
+#[allow(dead_code)] // the tests take small formulas from the generator's many
+#[path = "generate/formulas.rs"]
+mod formulas;
+#[cfg(test)]
+#[path = "second/invariants.rs"]
+mod invariants;
+#[cfg(test)]
+#[allow(dead_code)]
+#[path = "generate/random.rs"]
+mod random;
+#[cfg(test)]
 #[path = "second/readings.rs"]
 mod readings;
 #[cfg(test)]

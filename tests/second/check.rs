@@ -81,18 +81,30 @@ fn samples_hold(network: &Network) -> bool {
     network.boards.iter().all(|board| board.sample & !board.mask == 0 && (board.sampled || board.sample == 0))
 }
 
-// The place holders that stand outside next and temporal operators, and how many there are in all.
-fn place_holders(f: &Formula) -> (Vec<usize>, usize) {
-    let below = || f.operands().map(place_holders).fold((vec![], 0), |(a, m), (b, n)| ([a, b].concat(), m + n));
+// The slots held by place holders outside next and temporal operators.
+fn held_by(f: &Formula) -> Vec<usize> {
+    fn collect(f: &Formula, held: &mut Vec<usize>) {
+        match f {
+            PlaceHolder(number) => held.push(*number),
+            Next(_) | Until(..) | Eventually(_) | Always(_) => {}
+            _ => f.operands().for_each(|operand| collect(operand, held)),
+        }
+    }
+    let mut held = Vec::new();
+    collect(f, &mut held);
+    held
+}
+
+// Whether no place holder stands inside next or a temporal operator.
+fn held_outside(f: &Formula) -> bool {
     match f {
-        PlaceHolder(number) => (vec![*number], 1),
-        Next(_) | Until(..) | Eventually(_) | Always(_) => (vec![], below().1),
-        _ => below(),
+        Next(_) | Until(..) | Eventually(_) | Always(_) => f.all(&|node| !matches!(node, PlaceHolder(_))),
+        _ => f.operands().all(held_outside),
     }
 }
 
 fn numbers_stand_once(network: &Network) -> bool {
-    let mut numbers: Vec<usize> = network.slots.iter().flat_map(|slot| place_holders(&slot.formula).0).collect();
+    let mut numbers: Vec<usize> = network.slots.iter().flat_map(|slot| held_by(&slot.formula)).collect();
     numbers.sort();
     numbers.windows(2).all(|pair| pair[0] != pair[1])
 }
@@ -105,11 +117,10 @@ fn slot_holds(network: &Network, number: usize) -> bool {
     let slot = &network.slots[number];
     let board = &network.boards[slot.board];
     let union = network.boards.iter().fold(0, |union, board| union | board.mask);
-    let (held, place_holders) = place_holders(&slot.formula);
+    let held = held_by(&slot.formula);
     let covered = slot.formula.all(&|node| !matches!(node, Proposition(i) if union >> i & 1 == 0));
-    let held_outside = held.len() == place_holders;
     let held_above = held.iter().all(|&other| other > number && other < network.slots.len());
-    if !covered || !held_outside || !held_above {
+    if !covered || !held_outside(&slot.formula) || !held_above {
         return false;
     }
     let settled = |other: usize| network.slots[other].stepped && !network.slots[other].formula.is_constant();
