@@ -1,6 +1,7 @@
 // The generator: random and damaged requests of PROTOCOL.md for one seed, the same on every machine.
 //   generate SEED COUNT        writes the stream of COUNT requests
 //   generate SEED COUNT list   writes a line for each of them instead: its call, its offset in the stream, its length, its case
+//   generate SEED COUNT inputs ROOM   writes COUNT inputs of the run program into files ROOM/1, ROOM/2, .. and a line with the case of each
 // The worked values and the rules at the borders come first; then the cases below, for the calls without a state, and the episodes
 // on the kept state take turns, so that a stream of some hundreds meets each of them often.
 
@@ -16,6 +17,8 @@ mod episodes;
 mod files;
 #[path = "generate/formulas.rs"]
 mod formulas;
+#[path = "generate/inputs.rs"]
+mod inputs;
 #[allow(dead_code)] // the generator needs the watch's calls and the check
 #[path = "second/model.rs"]
 mod model;
@@ -37,6 +40,8 @@ mod spoilt;
 mod spoilt_formulas;
 #[path = "generate/spoilt_records.rs"]
 mod spoilt_records;
+#[path = "generate/spots.rs"]
+mod spots;
 #[path = "generate/watches.rs"]
 mod watches;
 #[path = "generate/worked.rs"]
@@ -124,22 +129,39 @@ fn stream(seed: u64, count: usize, mut emit: impl FnMut(Made)) {
     }
 }
 
-fn generate() {
-    let words: Vec<String> = std::env::args().collect();
-    let number = |i: usize| words.get(i).and_then(|word| word.parse::<u64>().ok());
-    let (Some(seed), Some(count)) = (number(1), number(2)) else {
-        eprintln!("usage: generate SEED COUNT [list]");
-        std::process::exit(2);
-    };
-    let list = words.get(3).is_some_and(|word| word == "list");
+fn write_stream(seed: u64, count: usize, list: bool) {
     let mut output = std::io::BufWriter::new(std::io::stdout().lock());
     let mut offset = 0;
-    stream(seed, count as usize, |(call, case, request)| {
+    stream(seed, count, |(call, case, request)| {
         let bytes = request.bytes();
         let done = if list { writeln!(output, "{call} {offset} {} {case}", bytes.len()) } else { output.write_all(&bytes) };
         done.expect("standard output can be written");
         offset += bytes.len();
     });
+}
+
+fn write_inputs(seed: u64, count: usize, room: &str) {
+    let mut random = Random::new(seed);
+    for i in 0..count {
+        let (case, make) = inputs::CASES[i % inputs::CASES.len()];
+        std::fs::write(format!("{room}/{}", i + 1), make(&mut random)).expect("an input can be written");
+        println!("{case}");
+    }
+}
+
+fn generate() {
+    let words: Vec<String> = std::env::args().skip(1).collect();
+    let number = |i: usize| words.get(i).and_then(|word| word.parse::<u64>().ok());
+    let rest: Vec<&str> = words.iter().skip(2).map(String::as_str).collect();
+    match (number(0), number(1), &rest[..]) {
+        (Some(seed), Some(count), []) => write_stream(seed, count as usize, false),
+        (Some(seed), Some(count), ["list"]) => write_stream(seed, count as usize, true),
+        (Some(seed), Some(count), ["inputs", room]) => write_inputs(seed, count as usize, room),
+        _ => {
+            eprintln!("usage: generate SEED COUNT [list | inputs ROOM]");
+            std::process::exit(2);
+        }
+    }
 }
 
 // The model calls itself once for each level of a formula, and there may be thousands.

@@ -70,6 +70,7 @@ fn loads() -> Kind {
         ("masks", load(|random, large| files::of(&rules::bad_masks(random, large)))),
         ("nodes", load(at_limit)),
         ("formula", load(|random, large| files::of(&rules::bad_formula(random, large)))),
+        ("far too large", load(|random, large| files::of(&patterns::far_too_large(random, large)))),
         ("several", load(files::several)),
         ("flipped", load(files::flipped)),
     ];
@@ -88,6 +89,7 @@ fn whole_watches() -> Kind {
         ("watch: responses", watch(patterns::responses)),
         ("watch: chain", watch(patterns::chain)),
         ("watch: nested", watch(patterns::nested_always)),
+        ("watch: constants", watch(patterns::constants)),
         ("watch: wide", watch(patterns::wide)),
     ];
     Kind::new(4, episodes)
@@ -128,7 +130,7 @@ pub struct Episodes {
 }
 
 // The kinds by their place in `kinds`: loads make one request, watches many.
-const TURNS: [usize; 17] = [0, 2, 0, 3, 0, 2, 1, 2, 0, 3, 0, 2, 4, 0, 3, 0, 2];
+const TURNS: [usize; 18] = [0, 2, 2, 0, 3, 2, 0, 2, 1, 2, 0, 3, 2, 0, 4, 0, 3, 2];
 
 impl Episodes {
     pub fn new() -> Episodes {

@@ -3,12 +3,13 @@
 use crate::files;
 use crate::formulas::{formula, TEMPORAL};
 use crate::model::check::network_of;
-use crate::model::formula::{parse_slot, Formula};
+use crate::model::formula::{bytes_of, constant, parse_slot, Formula};
 use crate::model::state::{Board, Network, Slot};
 use crate::patterns;
 use crate::random::Random;
 use crate::rules::Rule;
 use crate::script::Script;
+use crate::spots::{spots, Spot};
 use crate::watches;
 
 // A watch of this rule some ticks on, in the middle of one; no state where the rule is refused.
@@ -28,55 +29,13 @@ pub fn moment(random: &mut Random) -> Network {
             2 => patterns::responses(random, false),
             3 => patterns::alternatives(random, false),
             4 => patterns::chain(random, false),
+            5 if random.percent(30) => patterns::constants(random, false),
             _ => patterns::small(random, false),
         };
         if let Some(network) = of_rule(random, &rule) {
             return network;
         }
     }
-}
-
-const NEXT: u8 = 5;
-
-// Where a node stands in its slot.
-#[derive(Clone, Copy)]
-pub struct Spot {
-    pub place: usize,
-    pub byte: u8,
-    pub inside_next: bool,
-    pub inside_temporal: bool,
-}
-
-impl Spot {
-    pub fn is_leaf(&self) -> bool {
-        !(2..=8).contains(&self.byte)
-    }
-
-    pub fn is_place_holder(&self) -> bool {
-        (128..192).contains(&self.byte)
-    }
-
-    pub fn is_outside(&self) -> bool {
-        !self.inside_next && !self.inside_temporal
-    }
-}
-
-// The spots of a formula, in their order.
-pub fn spots(formula: &[u8]) -> Vec<Spot> {
-    fn walk(bytes: &[u8], place: usize, (inside_next, inside_temporal): (bool, bool), spots: &mut Vec<Spot>) -> usize {
-        let byte = bytes[place];
-        spots.push(Spot { place, byte, inside_next, inside_temporal });
-        let below = (inside_next || byte == NEXT, inside_temporal || (6..=8).contains(&byte));
-        let operands = match byte {
-            2 | 5 | 7 | 8 => 1,
-            3 | 4 | 6 => 2,
-            _ => 0,
-        };
-        (0..operands).fold(place + 1, |place, _| walk(bytes, place, below, spots))
-    }
-    let mut spots = Vec::new();
-    walk(formula, 0, (false, false), &mut spots);
-    spots
 }
 
 // A state that someone might hand over: a few slots of any shape that the check lets pass, held by one another or by nobody.
@@ -102,6 +61,10 @@ fn any_network(random: &mut Random, large: bool) -> Network {
     let ticks = random.pick(&[0, 1, 1000, u32::MAX - 1, u32::MAX]);
     let count = random.within(1, if large { 20 } else { 6 });
     let mut slots: Vec<Slot> = (0..count).map(|_| any_slot(random, &boards, propositions)).collect();
+    if random.percent(20) {
+        // looks finished, and is where it is the only slot
+        (slots[0].stepped, slots[0].formula) = (false, constant(random.percent(50)));
+    }
     for number in 1..count {
         let holder = random.below(number + 1);
         if holder < number {
@@ -152,7 +115,6 @@ fn unfold_on(random: &mut Random, bytes: &mut [u8], mask: u64) {
 
 // Puts the place holder of a slot into a leaf of another, if it has one for it and the marks allow it.
 fn hold(random: &mut Random, slots: &mut [Slot], holder: usize, held: usize) {
-    use crate::model::formula::bytes_of;
     if slots[holder].stepped && (!slots[held].stepped || slots[held].formula.is_constant()) {
         return;
     }

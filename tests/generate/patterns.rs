@@ -1,6 +1,6 @@
 // Rules worth watching: small ones over several boards, the shapes that bench staff write, and shapes that grow to the limits.
 
-use crate::formulas::{formula, left_chain, nested, right_chain, unfolding_to, TEMPORAL};
+use crate::formulas::{formula, left_chain, nested, right_chain, unfolding_to, Mix, TEMPORAL};
 use crate::random::Random;
 use crate::rules::Rule;
 
@@ -30,7 +30,15 @@ pub fn small(random: &mut Random, _: bool) -> Rule {
     let propositions = random.within(boards, 7);
     let nodes = random.within(3, 16);
     let formula = formula(random, nodes, TEMPORAL.over(propositions));
-    shuffled(random, dealt(boards, propositions, formula))
+    let mut rule = dealt(boards, propositions, formula);
+    rule.masks.resize(boards + random.pick(&[0, 0, 1]), 0); // a board without propositions samples too
+    shuffled(random, rule)
+}
+
+// No propositions at all: everything stays on board 0.
+pub fn constants(random: &mut Random, _: bool) -> Rule {
+    let nodes = random.within(2, 9);
+    dealt(2, 2, formula(random, nodes, Mix { constants: 100, ..TEMPORAL }))
 }
 
 // Over 16 boards and 64 propositions, of some size.
@@ -96,6 +104,12 @@ pub fn untils(random: &mut Random, large: bool) -> Rule {
 pub fn nested_always(random: &mut Random, large: bool) -> Rule {
     let count = if large { random.within(86, 89) } else { random.within(1, 5) };
     dealt(random.within(1, 3), 3, nested(random.pick(&[7, 8]), count))
+}
+
+// Nested until the unfolding has half a million nodes.
+pub fn far_too_large(random: &mut Random, _: bool) -> Rule {
+    let count = random.pick(&[100, 255, 512, 1023]);
+    dealt(2, 2, nested(random.pick(&[7, 8]), count))
 }
 
 // A layout of about 4,096 nodes: the unfolding, and a place holder for each cut.

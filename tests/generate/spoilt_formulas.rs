@@ -4,8 +4,8 @@
 use crate::formulas::no_code;
 use crate::model::formula::{bytes_of, Formula};
 use crate::model::state::{nodes_at, slots_at, Network, Slot, SLOT};
-use crate::moments::{spots, Spot};
 use crate::random::Random;
+use crate::spots::{spots, Spot};
 
 // A node in its slot.
 #[derive(Clone, Copy)]

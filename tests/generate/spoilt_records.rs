@@ -135,8 +135,10 @@ fn no_flag(random: &mut Random) -> u8 {
 }
 
 pub fn sampled_mark(network: &Network, random: &mut Random) -> Option<Vec<u8>> {
+    let sampled = random.percent(50);
+    let board = any_board(network, random, |board| board.sampled == sampled)?;
     let mut state = network.bytes();
-    state[BOARDS_AT + BOARD * random.below(network.boards.len()) + 16] = no_flag(random);
+    state[BOARDS_AT + BOARD * board + 16] = no_flag(random);
     Some(state)
 }
 
@@ -168,13 +170,16 @@ pub fn slot_board(network: &Network, random: &mut Random) -> Option<Vec<u8>> {
     let mut state = network.bytes();
     let slot = random.below(network.slots.len());
     let boards = network.boards.len() as u8;
-    state[slot_at(network, slot)] = random.pick(&[boards, boards, boards + 1, 17, 128, 255]).max(boards);
+    state[slot_at(network, slot)] = random.pick(&[boards, boards, boards, boards + 1, 128, 255]);
     Some(state)
 }
 
+// Mostly of a slot that is stepped: any mark but 0 might be taken for that.
 pub fn stepped_mark(network: &Network, random: &mut Random) -> Option<Vec<u8>> {
+    let stepped = random.percent(75);
+    let slot = any_slot(network, random, |slot| network.slots[slot].stepped == stepped)?;
     let mut state = network.bytes();
-    state[slot_at(network, random.below(network.slots.len())) + 1] = no_flag(random);
+    state[slot_at(network, slot) + 1] = no_flag(random);
     Some(state)
 }
 

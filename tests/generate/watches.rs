@@ -24,8 +24,11 @@ pub fn go_on(script: &mut Script, random: &mut Random, enough: usize) {
             return;
         }
         let calls = left_of(&network);
+        let only_samples_left = !calls.is_empty() && network.slots.iter().all(|slot| slot.stepped);
         if script.waiting() >= enough {
             return;
+        } else if only_samples_left && random.percent(30) {
+            let _too_early = script.close();
         } else if random.percent(30) {
             refused(script, random, &network);
         } else if calls.is_empty() {

@@ -44,7 +44,7 @@ pub fn worked() -> Vec<(&'static str, Request)> {
 pub fn watched(script: &mut Script) {
     script.case = "worked value";
     script.ask(); // the kept state is all zero
-    script.poke(4760, &[7; 20]); // and then not, up to its end and past it
+    script.poke(4760, &[7; 20]); // and then not, up to its end and past it: what lies past it does not matter
     load(script, &over(TWO, &[6, 64, 65]));
     let _until = [
         script.sample(1, 1),
@@ -64,6 +64,7 @@ pub fn watched(script: &mut Script) {
     let _closed = script.close();
     script.ask();
     let _finished = script.sample(0, 0);
+    script.poke(4768, &[0; 12]); // so that a state lent too long is wrong in nothing else
     load(script, &over(&[1], &[4, 1, 64]));
     let _one_tick = [script.sample(0, 0), script.step(0), script.close()];
     script.ask();
@@ -77,6 +78,7 @@ pub fn watched(script: &mut Script) {
         over(TWO, &[6, 64, 7, 65]),
         over(TWO, &[3, 65, 3, 64, 65]),
         over(TWO, &[3, 64, 5, 65]),
+        over(TWO, &[8, 1]),
     ] {
         load(script, &rule);
     }
