@@ -46,6 +46,8 @@ mod spots;
 mod watches;
 #[path = "generate/worked.rs"]
 mod worked;
+#[path = "generate/worked_watches.rs"]
+mod worked_watches;
 #[path = "generate/write.rs"]
 mod write;
 
@@ -94,6 +96,7 @@ const CASES: &[(&str, &str, Case)] = &[
     ("read", "several", |random, large| files::several(random, large).read()),
     ("write", "masks", |random, large| write::of(&rules::bad_masks(random, large))),
     ("write", "formula", |random, large| write::of(&rules::bad_formula(random, large))),
+    ("read", "wrongly lent", |random, large| files::wrongly_lent(random, large).read()),
     ("read", "flipped", |random, large| files::flipped(random, large).read()),
     ("write", "several", write::several),
 ];
@@ -105,7 +108,7 @@ const LARGE_EVERY: usize = 6;
 fn opening(script: &mut Script) -> Vec<Made> {
     let worked = worked::worked().into_iter().map(|(call, request)| (call, "worked value", request));
     let borders = borders::borders().into_iter().map(|(call, request)| (call, "border", request));
-    worked::watched(script);
+    worked_watches::watched(script);
     borders::loaded(script);
     worked.chain(borders).chain(std::iter::from_fn(|| script.take())).collect()
 }

@@ -74,7 +74,7 @@ pub fn borders() -> Vec<(&'static str, Request)> {
 pub fn loaded(script: &mut Script) {
     script.case = "border";
     for rule in rules() {
-        let _answer = script.load(files::of(&rule));
+        script.load(files::of(&rule));
         script.ask();
     }
 }

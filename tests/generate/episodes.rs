@@ -9,7 +9,8 @@ use crate::{closes, moments, patterns, spoilt, watches};
 
 type Episode = Box<dyn Fn(&mut Script, &mut Random, bool)>;
 
-// Episodes of one kind, one after the other; one round of them in so many asks for large ones.
+// Episodes of one kind, one after the other; one in so many is asked to be large. That number has no divisor in common with how many
+// there are, so that each of them is asked in its time.
 struct Kind {
     episodes: Vec<(&'static str, Episode)>,
     large_every: usize,
@@ -23,7 +24,7 @@ impl Kind {
 
     fn play(&mut self, script: &mut Script, random: &mut Random) {
         let (case, episode) = &self.episodes[self.turn % self.episodes.len()];
-        let large = self.turn / self.episodes.len() % self.large_every == self.large_every - 1;
+        let large = self.turn % self.large_every == self.large_every - 1;
         script.case = case;
         episode(script, random, large);
         self.turn += 1;
@@ -32,22 +33,35 @@ impl Kind {
 
 fn load(make: fn(&mut Random, bool) -> Handed) -> Episode {
     Box::new(move |script, random, large| {
-        let _answer = script.load(make(random, large));
+        script.load(make(random, large));
     })
 }
 
 fn watch(pattern: fn(&mut Random, bool) -> Rule) -> Episode {
     Box::new(move |script, random, large| {
         let rule = pattern(random, large);
-        watches::watch(script, random, &rule);
+        watch_rule(script, random, &rule, large);
     })
 }
 
 fn watch_later(pattern: fn(&mut Random, bool) -> Rule) -> Episode {
     Box::new(move |script, random, large| {
         let rule = patterns::later(pattern(random, large));
-        watches::watch(script, random, &rule);
+        watch_rule(script, random, &rule, large);
     })
+}
+
+// A watch from its load on. A large one has many slots to step: it goes some way unseen.
+fn watch_rule(script: &mut Script, random: &mut Random, rule: &Rule, large: bool) {
+    if !script.load(files::of(rule)) {
+        return;
+    }
+    let unseen = if large { random.below(200) } else { 0 };
+    if let Some(network) = moments::of_rule(random, rule, unseen) {
+        script.become_state(&network.bytes());
+    }
+    let requests = random.within(12, 45);
+    watches::go_on(script, random, requests);
 }
 
 fn loads() -> Kind {
@@ -72,9 +86,10 @@ fn loads() -> Kind {
         ("formula", load(|random, large| files::of(&rules::bad_formula(random, large)))),
         ("far too large", load(|random, large| files::of(&patterns::far_too_large(random, large)))),
         ("several", load(files::several)),
+        ("wrongly lent", load(files::wrongly_lent)),
         ("flipped", load(files::flipped)),
     ];
-    Kind::new(6, episodes)
+    Kind::new(7, episodes)
 }
 
 fn whole_watches() -> Kind {
@@ -92,7 +107,7 @@ fn whole_watches() -> Kind {
         ("watch: constants", watch(patterns::constants)),
         ("watch: wide", watch(patterns::wide)),
     ];
-    Kind::new(4, episodes)
+    Kind::new(5, episodes)
 }
 
 fn spoilt_states() -> Kind {
@@ -109,7 +124,7 @@ fn closes_at_limits() -> Kind {
         ("close: last ticks", Box::new(closes::last_ticks)),
         ("close: handed", Box::new(closes::handed)),
     ];
-    Kind::new(6, episodes)
+    Kind::new(5, episodes)
 }
 
 // States that someone might hand over, valid or not.
@@ -117,20 +132,30 @@ fn strange_states() -> Kind {
     let handed: Episode = Box::new(|script, random, large| {
         let network = moments::handed(random, large);
         script.become_state(&network.bytes());
-        let enough = script.waiting() + random.within(6, 20);
-        watches::go_on(script, random, enough);
+        let requests = random.within(6, 20);
+        watches::go_on(script, random, requests);
     });
     let flipped: Episode = Box::new(|script, random, _| spoilt::flipped(script, random));
-    Kind::new(4, vec![("handed state", handed), ("flipped state", flipped)])
+    Kind::new(3, vec![("handed state", handed), ("flipped state", flipped)])
 }
+
+// The kinds by their places in Episodes.
+const LOAD: usize = 0;
+const WATCH: usize = 1;
+const SPOILT: usize = 2;
+const CLOSE: usize = 3;
+const STRANGE: usize = 4;
+
+// How they take turns: a load makes one request, a watch many.
+const TURNS: &[usize] = &[
+    SPOILT, LOAD, SPOILT, LOAD, SPOILT, LOAD, CLOSE, SPOILT, LOAD, SPOILT, WATCH, SPOILT, LOAD, SPOILT, CLOSE, LOAD, SPOILT, LOAD, STRANGE,
+    LOAD, WATCH, CLOSE, SPOILT,
+];
 
 pub struct Episodes {
     kinds: [Kind; 5],
     turn: usize,
 }
-
-// The kinds by their place in `kinds`: loads make one request, watches many.
-const TURNS: [usize; 18] = [0, 2, 2, 0, 3, 2, 0, 2, 1, 2, 0, 3, 2, 0, 4, 0, 3, 2];
 
 impl Episodes {
     pub fn new() -> Episodes {

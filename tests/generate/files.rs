@@ -200,6 +200,11 @@ pub fn several(random: &mut Random, _: bool) -> Handed {
     reading.handed()
 }
 
+// Whatever the file is, what is lent beside it is wrong.
+pub fn wrongly_lent(random: &mut Random, large: bool) -> Handed {
+    Handed { lent: Lent::wrong(random), ..several(random, large) }
+}
+
 pub fn flipped(random: &mut Random, _: bool) -> Handed {
     let mut file = Reading::of(&rule(random, false)).file();
     for _ in 0..random.within(1, 3) {

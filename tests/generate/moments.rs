@@ -12,11 +12,12 @@ use crate::script::Script;
 use crate::spots::{spots, Spot};
 use crate::watches;
 
-// A watch of this rule some ticks on, in the middle of one; no state where the rule is refused.
-pub fn of_rule(random: &mut Random, rule: &Rule) -> Option<Network> {
+// A watch of this rule after so many calls, mostly in the middle of a tick; no state where the rule is refused.
+pub fn of_rule(random: &mut Random, rule: &Rule, calls: usize) -> Option<Network> {
     let mut unseen = Script::new();
-    unseen.load(files::of(rule)).ok()?;
-    let calls = random.below(60);
+    if !unseen.load(files::of(rule)) {
+        return None;
+    }
     watches::go_on(&mut unseen, random, calls);
     unseen.network()
 }
@@ -32,7 +33,8 @@ pub fn moment(random: &mut Random) -> Network {
             5 if random.percent(30) => patterns::constants(random, false),
             _ => patterns::small(random, false),
         };
-        if let Some(network) = of_rule(random, &rule) {
+        let calls = random.below(60);
+        if let Some(network) = of_rule(random, &rule, calls) {
             return network;
         }
     }

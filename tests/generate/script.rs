@@ -1,9 +1,8 @@
 // The requests on the kept state, in the order they are made, and that state as the second program's model leaves it: a case is
-// written as calls whose answers it sees.
+// written as calls, and each says whether it is accepted.
 
 use crate::files::{self, Handed};
 use crate::model::check::network_of;
-use crate::model::refusal::Refusal;
 use crate::model::state::{Network, STATE};
 use crate::model::watch;
 use crate::request::Request;
@@ -49,52 +48,55 @@ impl Script {
         network_of(self.state())
     }
 
-    pub fn load(&mut self, handed: Handed) -> Result<(), Refusal> {
+    pub fn load(&mut self, handed: Handed) -> bool {
         let mut state = vec![0; handed.lent.state];
-        let answer = watch::load(&handed.file, &mut state);
-        if answer.is_ok() {
+        let accepted = watch::load(&handed.file, &mut state).is_ok();
+        if accepted {
             self.kept[..STATE].copy_from_slice(&state);
         }
         self.make("load", Request::load(handed.file, handed.lent.state));
-        answer
+        accepted
     }
 
-    pub fn sample(&mut self, board: u64, bits: u64) -> Result<(), Refusal> {
+    pub fn sample(&mut self, board: u64, bits: u64) -> bool {
         self.sample_lent(STATE, board, bits)
     }
 
-    pub fn sample_lent(&mut self, lent: usize, board: u64, bits: u64) -> Result<(), Refusal> {
+    pub fn sample_lent(&mut self, lent: usize, board: u64, bits: u64) -> bool {
         self.make("sample", Request::sample(lent, board, bits));
-        watch::sample(&mut self.kept[..lent], board, bits)
+        watch::sample(&mut self.kept[..lent], board, bits).is_ok()
     }
 
-    pub fn step(&mut self, slot: u64) -> Result<(), Refusal> {
+    pub fn step(&mut self, slot: u64) -> bool {
         self.step_lent(STATE, slot)
     }
 
-    pub fn step_lent(&mut self, lent: usize, slot: u64) -> Result<(), Refusal> {
+    pub fn step_lent(&mut self, lent: usize, slot: u64) -> bool {
         self.make("step", Request::step(lent, slot));
-        watch::step(&mut self.kept[..lent], slot)
+        watch::step(&mut self.kept[..lent], slot).is_ok()
     }
 
-    pub fn close(&mut self) -> Result<(), Refusal> {
+    pub fn close(&mut self) -> bool {
         self.close_lent(STATE, STATE)
     }
 
-    pub fn close_lent(&mut self, lent: usize, second_lent: usize) -> Result<(), Refusal> {
+    pub fn close_lent(&mut self, lent: usize, second_lent: usize) -> bool {
         self.make("close", Request::close(lent, second_lent));
         let mut second = vec![0; second_lent];
-        watch::close(&self.kept[..lent], &mut second)?;
-        self.kept[..STATE].copy_from_slice(&second);
-        Ok(())
+        let accepted = watch::close(&self.kept[..lent], &mut second).is_ok();
+        if accepted {
+            self.kept[..STATE].copy_from_slice(&second);
+        }
+        accepted
     }
 
-    pub fn ask(&mut self) {
-        self.ask_lent(STATE);
+    pub fn ask(&mut self) -> bool {
+        self.ask_lent(STATE)
     }
 
-    pub fn ask_lent(&mut self, lent: usize) {
+    pub fn ask_lent(&mut self, lent: usize) -> bool {
         self.make("ask", Request::ask(lent));
+        watch::ask(&self.kept[..lent]).is_ok()
     }
 
     pub fn poke(&mut self, offset: usize, bytes: &[u8]) {
@@ -108,7 +110,7 @@ impl Script {
         if self.differing(state).len() > used + 100 {
             // a larger state was left behind: loading a small rule clears it with fewer bytes
             let small = Rule { masks: vec![1], propositions: 1, formula: vec![64] };
-            self.load(files::of(&small)).expect("a good rule");
+            self.load(files::of(&small));
         }
         let places = self.differing(state);
         if !places.is_empty() {

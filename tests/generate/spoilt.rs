@@ -76,24 +76,20 @@ pub fn spoilt(script: &mut Script, random: &mut Random, spoil: Spoil) {
         any_call(script, random, &valid);
     }
     script.become_state(&valid);
-    let enough = script.waiting() + 1;
-    watches::go_on(script, random, enough);
+    watches::go_on(script, random, 1);
 }
 
 // A call that would mostly be good on the valid state.
-pub fn any_call(script: &mut Script, random: &mut Random, valid: &[u8]) {
+fn any_call(script: &mut Script, random: &mut Random, valid: &[u8]) {
     let network = network_of(valid).expect("a valid state");
     let board = random.below(network.boards.len());
     let ready: Vec<usize> = (0..network.slots.len()).filter(|&i| watches::is_ready(&network, i)).collect();
     let slot = if ready.is_empty() { 0 } else { random.pick(&ready) };
-    let _answer = match random.below(4) {
+    match random.below(4) {
         0 => script.sample(board as u64, random.event() & network.boards[board].mask),
         1 => script.step(slot as u64),
         2 => script.close_lent(STATE, if random.percent(90) { STATE } else { STATE - 1 }),
-        _ => {
-            script.ask();
-            Ok(())
-        }
+        _ => script.ask(),
     };
 }
 

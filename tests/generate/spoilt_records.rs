@@ -170,7 +170,7 @@ pub fn slot_board(network: &Network, random: &mut Random) -> Option<Vec<u8>> {
     let mut state = network.bytes();
     let slot = random.below(network.slots.len());
     let boards = network.boards.len() as u8;
-    state[slot_at(network, slot)] = random.pick(&[boards, boards, boards, boards + 1, 128, 255]);
+    state[slot_at(network, slot)] = if random.percent(70) { boards } else { random.pick(&[boards + 1, 128, 255]) };
     Some(state)
 }
 

@@ -1,23 +1,14 @@
-// Watches from their load through ticks in random orders, with calls in between that are refused.
+// Watches through ticks in random orders, with calls in between that are refused.
 
-use crate::files;
-use crate::model::refusal::Refusal;
+use crate::model::formula::Formula::PlaceHolder;
 use crate::model::state::{Network, STATE};
 use crate::model::watch::is_finished;
 use crate::random::Random;
-use crate::rules::Rule;
 use crate::script::{Script, KEPT};
 
-// A watch of this rule to its verdict, to a close that is refused, or until it has made requests enough.
-pub fn watch(script: &mut Script, random: &mut Random, rule: &Rule) {
-    if script.load(files::of(rule)).is_ok() {
-        let enough = script.waiting() + random.within(12, 45);
-        go_on(script, random, enough);
-    }
-}
-
-// Goes on with the watch at hand, from any moment of a tick, until so many requests are waiting.
-pub fn go_on(script: &mut Script, random: &mut Random, enough: usize) {
+// Goes on with the watch at hand, from any moment of a tick: to its verdict, to a close that is refused, or for so many requests.
+pub fn go_on(script: &mut Script, random: &mut Random, requests: usize) {
+    let enough = script.waiting() + requests;
     while let Some(network) = script.network() {
         if is_finished(&network) {
             afterwards(script, random, &network);
@@ -28,23 +19,26 @@ pub fn go_on(script: &mut Script, random: &mut Random, enough: usize) {
         if script.waiting() >= enough {
             return;
         } else if only_samples_left && random.percent(30) {
-            let _too_early = script.close();
-        } else if random.percent(30) {
+            script.close(); // too early
+        } else if random.percent(40) {
             refused(script, random, &network);
         } else if calls.is_empty() {
-            if script.close().is_err() {
-                script.ask();
+            let accepted = script.close();
+            script.ask();
+            if !accepted {
                 return;
             }
-            script.ask();
         } else {
             let call = random_call(random, &network, &calls);
             make(script, random, &network, call);
         }
     }
+    // a step has left a handed state that fails its check
+    script.ask();
+    script.close();
 }
 
-// A tick from any moment to its close, with no call that is refused for being early.
+// A tick from any moment up to its close, with no call that is refused for being early.
 pub fn finish_tick(script: &mut Script, random: &mut Random) {
     while let Some(network) = script.network() {
         let ready: Vec<Call> = left_of(&network).into_iter().filter(|call| call.is_ready(&network)).collect();
@@ -73,7 +67,6 @@ impl Call {
 
 // Whether a slot's board has sampled and all it holds is stepped.
 pub fn is_ready(network: &Network, slot: usize) -> bool {
-    use crate::model::formula::Formula::PlaceHolder;
     let slot = &network.slots[slot];
     let held_stepped = slot.formula.all(&|node| !matches!(node, PlaceHolder(other) if !network.slots[*other].stepped));
     network.boards[slot.board].sampled && held_stepped
@@ -96,7 +89,7 @@ fn random_call(random: &mut Random, network: &Network, calls: &[Call]) -> Call {
 }
 
 fn make(script: &mut Script, random: &mut Random, network: &Network, call: Call) {
-    let _answer = match call {
+    match call {
         Call::Sample(board) => script.sample(board as u64, random.event() & network.boards[board].mask),
         Call::Step(slot) => script.step(slot as u64),
     };
@@ -119,12 +112,12 @@ fn bits_outside(random: &mut Random, mask: u64) -> u64 {
     inside | if outside == 0 { lowest } else { outside }
 }
 
-pub fn wrong_length(random: &mut Random) -> usize {
+fn wrong_length(random: &mut Random) -> usize {
     random.pick(&[0, 1, 15, 16, STATE - 1, STATE - 1, STATE + 1, STATE + 1, KEPT])
 }
 
 // A call that is refused at this moment, or, where the moment has no such call, perhaps accepted.
-pub fn refused(script: &mut Script, random: &mut Random, network: &Network) {
+fn refused(script: &mut Script, random: &mut Random, network: &Network) {
     let board = random.below(network.boards.len());
     let slot = random.below(network.slots.len());
     let mask = network.boards[board].mask;
@@ -132,35 +125,29 @@ pub fn refused(script: &mut Script, random: &mut Random, network: &Network) {
     let sampled = (0..network.boards.len()).find(|&i| network.boards[i].sampled);
     let stepped = (0..network.slots.len()).find(|&i| network.slots[i].stepped);
     let unready = (0..network.slots.len()).find(|&i| !network.slots[i].stepped && !is_ready(network, i));
-    let _answer = match random.below(18) {
-        0 | 1 => script.sample(sampled.unwrap_or(board) as u64, 0),
-        2 | 3 => script.sample(board as u64, bits_outside(random, mask)),
-        4 => script.sample(none_of(random, network.boards.len()), inside),
-        5 => script.sample(none_of(random, network.boards.len()), u64::MAX),
-        6 | 7 => script.step(stepped.unwrap_or(slot) as u64),
-        8 | 9 => script.step(unready.unwrap_or(slot) as u64),
-        10 | 11 => script.step(none_of(random, network.slots.len())),
-        12..=14 if !left_of(network).is_empty() => script.close(),
-        12..=15 => script.close_lent(random.pick(&[STATE, STATE, STATE - 1]), wrong_length(random)),
+    match random.below(18) {
+        0..=2 => script.sample(sampled.unwrap_or(board) as u64, 0),
+        3 | 4 => script.sample(board as u64, bits_outside(random, mask)),
+        5 => script.sample(none_of(random, network.boards.len()), inside),
+        6 => script.sample(none_of(random, network.boards.len()), u64::MAX),
+        7..=9 => script.step(stepped.unwrap_or(slot) as u64),
+        10 => script.step(unready.unwrap_or(slot) as u64),
+        11 | 12 => script.step(none_of(random, network.slots.len())),
+        13 | 14 if !left_of(network).is_empty() => script.close(),
+        13..=15 => script.close_lent(random.pick(&[STATE, STATE, STATE - 1]), wrong_length(random)),
         16 => wrongly_lent(script, random, board, inside, slot),
-        _ => {
-            script.ask();
-            Ok(())
-        }
+        _ => script.ask(),
     };
 }
 
 // A call that would be good if it were not for the length of the state.
-fn wrongly_lent(script: &mut Script, random: &mut Random, board: usize, bits: u64, slot: usize) -> Result<(), Refusal> {
+fn wrongly_lent(script: &mut Script, random: &mut Random, board: usize, bits: u64, slot: usize) -> bool {
     let lent = wrong_length(random);
     match random.below(4) {
         0 => script.sample_lent(lent, board as u64, bits),
         1 => script.step_lent(lent, slot as u64),
         2 => script.close_lent(lent, STATE),
-        _ => {
-            script.ask_lent(lent);
-            Ok(())
-        }
+        _ => script.ask_lent(lent),
     }
 }
 
@@ -169,7 +156,7 @@ fn afterwards(script: &mut Script, random: &mut Random, network: &Network) {
     script.ask();
     for _ in 0..3 {
         let board = random.below(network.boards.len()) as u64;
-        let _answer = match random.below(7) {
+        match random.below(7) {
             0 => script.sample(board, 0),
             1 => script.sample(none_of(random, network.boards.len()), u64::MAX),
             2 => script.step(0),
