@@ -17,6 +17,8 @@ mod episodes;
 mod files;
 #[path = "generate/formulas.rs"]
 mod formulas;
+#[path = "generate/handed.rs"]
+mod handed;
 #[path = "generate/inputs.rs"]
 mod inputs;
 #[allow(dead_code)] // the generator needs the watch's calls and the check

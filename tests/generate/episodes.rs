@@ -5,7 +5,7 @@ use crate::random::Random;
 use crate::rules::{self, Rule};
 use crate::script::{Made, Script};
 use crate::spoilt::SPOILS;
-use crate::{closes, moments, patterns, spoilt, watches};
+use crate::{closes, handed, moments, patterns, spoilt, watches};
 
 type Episode = Box<dyn Fn(&mut Script, &mut Random, bool)>;
 
@@ -130,7 +130,7 @@ fn closes_at_limits() -> Kind {
 // States that someone might hand over, valid or not.
 fn strange_states() -> Kind {
     let handed: Episode = Box::new(|script, random, large| {
-        let network = moments::handed(random, large);
+        let network = handed::handed(random, large);
         script.become_state(&network.bytes());
         let requests = random.within(6, 20);
         watches::go_on(script, random, requests);

@@ -1,5 +1,6 @@
 // States that differ from a valid one in one clause of the state check: poked in, answered with 9, and mended again.
 
+use crate::handed;
 use crate::model::check::network_of;
 use crate::model::state::{Network, STATE};
 use crate::moments;
@@ -64,7 +65,7 @@ fn pair(random: &mut Random, at_hand: Option<Network>, spoil: Spoil) -> (Vec<u8>
         if let Some(spoilt) = spoilt {
             return (network.bytes(), spoilt);
         }
-        network = if random.percent(60) { moments::moment(random) } else { moments::handed(random, false) };
+        network = if random.percent(60) { moments::moment(random) } else { handed::handed(random, false) };
     }
 }
 
@@ -95,7 +96,7 @@ fn any_call(script: &mut Script, random: &mut Random, valid: &[u8]) {
 
 // A few bits changed anywhere in what the state uses, or a byte that is all its own.
 pub fn flipped(script: &mut Script, random: &mut Random) {
-    let network = if random.percent(50) { moments::moment(random) } else { moments::handed(random, false) };
+    let network = if random.percent(50) { moments::moment(random) } else { handed::handed(random, false) };
     let valid = network.bytes();
     let used = valid.iter().rposition(|&byte| byte != 0).unwrap_or(0) + 2;
     let mut state = valid.clone();
