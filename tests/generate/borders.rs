@@ -75,6 +75,5 @@ pub fn loaded(script: &mut Script) {
     script.case = "border";
     for rule in rules() {
         script.load(files::of(&rule));
-        script.ask();
     }
 }

@@ -12,14 +12,25 @@ use crate::watches::finish_tick;
 
 const TICKS_AT: usize = 12;
 
-// Rules that are small until their next is gone.
-pub fn room(script: &mut Script, random: &mut Random, large: bool) {
-    let rule = match random.below(5) {
-        0 | 1 => patterns::copies(random.within(63, 66)),
-        2 => patterns::nested_always(random, true),
-        3 => patterns::slots_and_nodes(random, large),
+pub fn slots(script: &mut Script, random: &mut Random, large: bool) {
+    let rule = match random.below(4) {
+        0 => patterns::slots_and_nodes(random, large),
+        _ => patterns::copies(random.within(63, 66)),
+    };
+    close_later(script, random, rule);
+}
+
+pub fn nodes(script: &mut Script, random: &mut Random, large: bool) {
+    let rule = match random.below(4) {
+        0 => patterns::nested_always(random, true),
+        1 => patterns::crowded(random, large),
         _ => patterns::node_limit(random, large),
     };
+    close_later(script, random, rule);
+}
+
+// Below next the rule is small; the close lays it out. Half of these ticks go unseen up to the close.
+fn close_later(script: &mut Script, random: &mut Random, rule: Rule) {
     let file = files::of(&patterns::later(rule));
     if random.percent(50) {
         script.load(file);

@@ -60,7 +60,7 @@ fn watch_rule(script: &mut Script, random: &mut Random, rule: &Rule, large: bool
     if let Some(network) = moments::of_rule(random, rule, unseen) {
         script.become_state(&network.bytes());
     }
-    let requests = random.within(12, 45);
+    let requests = random.within(12, 40);
     watches::go_on(script, random, requests);
 }
 
@@ -85,6 +85,7 @@ fn loads() -> Kind {
         ("nodes", load(at_limit)),
         ("formula", load(|random, large| files::of(&rules::bad_formula(random, large)))),
         ("far too large", load(|random, large| files::of(&patterns::far_too_large(random, large)))),
+        ("crowded", load(|random, large| files::of(&patterns::crowded(random, large)))),
         ("several", load(files::several)),
         ("wrongly lent", load(files::wrongly_lent)),
         ("flipped", load(files::flipped)),
@@ -117,12 +118,13 @@ fn spoilt_states() -> Kind {
 
 fn closes_at_limits() -> Kind {
     let episodes: Vec<(&'static str, Episode)> = vec![
-        ("close: room", Box::new(closes::room)),
+        ("close: slots", Box::new(closes::slots)),
         ("close: last ticks", Box::new(closes::last_ticks)),
-        ("close: room", Box::new(closes::room)),
+        ("close: nodes", Box::new(closes::nodes)),
         ("close: growing", Box::new(closes::growing)),
-        ("close: last ticks", Box::new(closes::last_ticks)),
         ("close: handed", Box::new(closes::handed)),
+        ("close: slots", Box::new(closes::slots)),
+        ("close: last ticks", Box::new(closes::last_ticks)),
     ];
     Kind::new(5, episodes)
 }
@@ -148,8 +150,8 @@ const STRANGE: usize = 4;
 
 // How they take turns: a load makes one request, a watch many.
 const TURNS: &[usize] = &[
-    SPOILT, LOAD, SPOILT, LOAD, SPOILT, LOAD, CLOSE, SPOILT, LOAD, SPOILT, WATCH, SPOILT, LOAD, SPOILT, CLOSE, LOAD, SPOILT, LOAD, STRANGE,
-    LOAD, WATCH, CLOSE, SPOILT,
+    SPOILT, LOAD, SPOILT, CLOSE, SPOILT, LOAD, SPOILT, WATCH, LOAD, SPOILT, LOAD, SPOILT, CLOSE, SPOILT, LOAD, SPOILT, STRANGE, LOAD,
+    SPOILT, LOAD, SPOILT, CLOSE, LOAD, SPOILT, LOAD, WATCH, LOAD, SPOILT, LOAD, CLOSE, SPOILT, LOAD,
 ];
 
 pub struct Episodes {

@@ -101,6 +101,16 @@ pub fn untils(random: &mut Random, large: bool) -> Rule {
     dealt(boards, boards, left_chain(&vec![UNTIL; count], &leaves))
 }
 
+// The longest of them, nearly all on board 0: few enough slots, but scores past 16 bits choose where they are cut.
+pub fn crowded(random: &mut Random, _: bool) -> Rule {
+    let count = 510;
+    let mut leaves = vec![vec![64]; count + 1];
+    for _ in 0..random.within(45, 60) {
+        leaves[random.below(count + 1)] = vec![65];
+    }
+    dealt(2, 2, left_chain(&vec![UNTIL; count], &leaves))
+}
+
 pub fn nested_always(random: &mut Random, large: bool) -> Rule {
     let count = if large { random.within(86, 89) } else { random.within(1, 5) };
     dealt(random.within(1, 3), 3, nested(random.pick(&[7, 8]), count))

@@ -6,6 +6,7 @@ use crate::model::formula::{bytes_of, Formula};
 use crate::model::state::{nodes_at, slots_at, Network, Slot, SLOT};
 use crate::random::Random;
 use crate::spots::{spots, Spot};
+use std::rc::Rc;
 
 // A node in its slot.
 #[derive(Clone, Copy)]
@@ -83,22 +84,37 @@ pub fn uncovered(network: &Network, random: &mut Random) -> Option<Vec<u8>> {
 
 // ---- Place holders
 
-// Moves a place holder to a leaf of its slot that is as wanted.
-fn moved(network: &Network, random: &mut Random, wanted: impl Fn(&Spot) -> bool) -> Option<Vec<u8>> {
-    let leaf = any_node(network, random, |slot, node| {
-        let holds = spots(&bytes_of(&slot.formula)).iter().any(Spot::is_place_holder);
-        holds && is_plain_leaf(&node.spot) && wanted(&node.spot)
-    })?;
+// Moves a place holder to a leaf of its slot below next.
+pub fn place_holder_inside_next(network: &Network, random: &mut Random) -> Option<Vec<u8>> {
+    let holds = |slot: &Slot| spots(&bytes_of(&slot.formula)).iter().any(Spot::is_place_holder);
+    let below_next = |spot: &Spot| is_plain_leaf(spot) && spot.inside_next && !spot.inside_temporal;
+    let leaf = any_node(network, random, |slot, node| holds(slot) && below_next(&node.spot))?;
     let holder = any_node(network, random, |_, node| node.slot == leaf.slot && node.spot.is_place_holder())?;
     with(network, &[(holder, 1), (leaf, holder.spot.byte)])
 }
 
-pub fn place_holder_inside_next(network: &Network, random: &mut Random) -> Option<Vec<u8>> {
-    moved(network, random, |spot| spot.inside_next && !spot.inside_temporal)
+// Makes a stepped slot that holds another something else that holds it, in no more nodes than it had.
+fn held_as(network: &Network, random: &mut Random, make: fn(Rc<Formula>) -> Formula) -> Option<Vec<u8>> {
+    let holder = any_node(network, random, |slot, node| slot.stepped && slot.formula.nodes() > 2 && node.spot.is_place_holder())?;
+    let mut network = network.clone();
+    network.slots[holder.slot].formula = make(Rc::new(Formula::PlaceHolder(usize::from(holder.spot.byte) - 128)));
+    Some(network.bytes())
 }
 
-pub fn place_holder_inside_temporal(network: &Network, random: &mut Random) -> Option<Vec<u8>> {
-    moved(network, random, |spot| spot.inside_temporal)
+pub fn place_holder_inside_until(network: &Network, random: &mut Random) -> Option<Vec<u8>> {
+    if random.percent(50) {
+        held_as(network, random, |held| Formula::Until(held, Rc::new(Formula::False)))
+    } else {
+        held_as(network, random, |held| Formula::Until(Rc::new(Formula::True), held))
+    }
+}
+
+pub fn place_holder_inside_eventually(network: &Network, random: &mut Random) -> Option<Vec<u8>> {
+    held_as(network, random, Formula::Eventually)
+}
+
+pub fn place_holder_inside_always(network: &Network, random: &mut Random) -> Option<Vec<u8>> {
+    held_as(network, random, Formula::Always)
 }
 
 // Puts a slot's place holder at a node, and a constant where it stood before.
@@ -126,19 +142,28 @@ pub fn number_past_the_slots(network: &Network, random: &mut Random) -> Option<V
     (held < 64).then(|| with(network, &[(node, 128 + held as u8)]))?
 }
 
-pub fn number_twice(network: &Network, random: &mut Random) -> Option<Vec<u8>> {
+// A second place holder of a held slot, in a slot that is wanted beside the first one's.
+fn twice(network: &Network, random: &mut Random, wanted: impl Fn(usize, usize) -> bool) -> Option<Vec<u8>> {
     let first = any_node(network, random, |_, node| node.spot.is_place_holder())?;
     let held = usize::from(first.spot.byte) - 128;
-    let second = any_node(network, random, |slot, node| node.slot < held && is_room(slot, node))?;
+    let second = any_node(network, random, |slot, node| node.slot < held && wanted(first.slot, node.slot) && is_room(slot, node))?;
     with(network, &[(second, first.spot.byte)])
+}
+
+pub fn number_twice_in_a_slot(network: &Network, random: &mut Random) -> Option<Vec<u8>> {
+    twice(network, random, |first, second| first == second)
+}
+
+pub fn number_twice_in_two_slots(network: &Network, random: &mut Random) -> Option<Vec<u8>> {
+    twice(network, random, |first, second| first != second)
 }
 
 // ---- Unstepped slots
 
-// An operator outside next becomes temporal, over nothing that is held or foreign.
-pub fn not_unfolded(network: &Network, random: &mut Random) -> Option<Vec<u8>> {
-    let node = any_node(network, random, |slot, node| !slot.stepped && !node.spot.is_leaf() && !node.spot.inside_next)?;
-    let temporal = if matches!(node.spot.byte, 3 | 4) { 6 } else { random.pick(&[7, 8]) };
+// An operator outside next that is one of these becomes temporal, over nothing that is held or foreign.
+fn made_temporal(network: &Network, random: &mut Random, operators: &[u8], temporal: u8) -> Option<Vec<u8>> {
+    let wanted = |slot: &Slot, node: &Node| !slot.stepped && !node.spot.inside_next && operators.contains(&node.spot.byte);
+    let node = any_node(network, random, wanted)?;
     let slot = &network.slots[node.slot];
     let mut bytes = bytes_of(&slot.formula);
     bytes[node.spot.place] = temporal;
@@ -146,6 +171,18 @@ pub fn not_unfolded(network: &Network, random: &mut Random) -> Option<Vec<u8>> {
     let is_foreign = |spot: &Spot| (64..128).contains(&spot.byte) && mask >> (spot.byte - 64) & 1 == 0;
     let otherwise_good = |spot: &Spot| !(spot.is_place_holder() && !spot.is_outside()) && (spot.inside_next || !is_foreign(spot));
     spots(&bytes).iter().all(otherwise_good).then(|| with(network, &[(node, temporal)]))?
+}
+
+pub fn until_not_unfolded(network: &Network, random: &mut Random) -> Option<Vec<u8>> {
+    made_temporal(network, random, &[3, 4], 6)
+}
+
+pub fn eventually_not_unfolded(network: &Network, random: &mut Random) -> Option<Vec<u8>> {
+    made_temporal(network, random, &[2, 5], 7)
+}
+
+pub fn always_not_unfolded(network: &Network, random: &mut Random) -> Option<Vec<u8>> {
+    made_temporal(network, random, &[2, 5], 8)
 }
 
 pub fn foreign_outside_next(network: &Network, random: &mut Random) -> Option<Vec<u8>> {

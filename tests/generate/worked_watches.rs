@@ -21,6 +21,7 @@ pub fn watched(script: &mut Script) {
     script.ask(); // the kept state is all zero
     script.poke(STATE - 8, &[7; 16]); // and then not, up to its end and past it: what lies past it does not matter
     until(script);
+    not_until(script);
     script.poke(STATE, &[0; 8]); // so that a state lent too long is wrong in nothing else
     lengths(script);
     verdicts(script);
@@ -55,6 +56,17 @@ fn until(script: &mut Script) {
     script.close();
     script.ask();
     script.sample(0, 0);
+}
+
+// A held slot's answer that is needed below not.
+fn not_until(script: &mut Script) {
+    load(script, &over(TWO, &[2, 6, 64, 65]));
+    script.sample(0, 1);
+    script.sample(1, 0);
+    script.step(1);
+    script.step(0);
+    script.close();
+    script.ask();
 }
 
 // A wrong length of a state already begun, and of a second buffer.
