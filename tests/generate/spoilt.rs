@@ -81,6 +81,9 @@ pub fn spoilt(script: &mut Script, random: &mut Random, spoil: Spoil) {
     for _ in 0..random.within(1, 2) {
         any_call(script, random, &valid);
     }
+    if random.percent(10) {
+        script.close_lent(STATE, STATE - 1); // 1 comes before 9
+    }
     script.become_state(&valid);
     watches::go_on(script, random, 1);
 }
@@ -94,7 +97,7 @@ fn any_call(script: &mut Script, random: &mut Random, valid: &[u8]) {
     match random.below(4) {
         0 => script.sample(board as u64, random.event() & network.boards[board].mask),
         1 => script.step(slot as u64),
-        2 => script.close_lent(STATE, if random.percent(90) { STATE } else { STATE - 1 }),
+        2 => script.close(),
         _ => script.ask(),
     };
 }

@@ -52,10 +52,6 @@ fn any_proposition(random: &mut Random, bits: u64) -> Option<u8> {
     (!propositions.is_empty()).then(|| random.pick(&propositions))
 }
 
-fn union(network: &Network) -> u64 {
-    network.boards.iter().fold(0, |union, board| union | board.mask)
-}
-
 // ---- One whole formula over covered propositions
 
 pub fn byte_without_code(network: &Network, random: &mut Random) -> Option<Vec<u8>> {
@@ -79,7 +75,7 @@ pub fn formula_too_long(network: &Network, random: &mut Random) -> Option<Vec<u8
 pub fn uncovered(network: &Network, random: &mut Random) -> Option<Vec<u8>> {
     let wanted = |slot: &Slot, node: &Node| is_plain_leaf(&node.spot) && (node.spot.inside_next || slot.stepped && node.spot.place > 0);
     let node = any_node(network, random, wanted)?;
-    with(network, &[(node, any_proposition(random, !union(network))?)])
+    with(network, &[(node, any_proposition(random, !network.union())?)])
 }
 
 // ---- Place holders
@@ -187,7 +183,7 @@ pub fn always_not_unfolded(network: &Network, random: &mut Random) -> Option<Vec
 
 pub fn foreign_outside_next(network: &Network, random: &mut Random) -> Option<Vec<u8>> {
     let node = any_node(network, random, is_room)?;
-    let foreign = union(network) & !mask_of(network, &network.slots[node.slot]);
+    let foreign = network.union() & !mask_of(network, &network.slots[node.slot]);
     with(network, &[(node, any_proposition(random, foreign)?)])
 }
 
@@ -242,7 +238,7 @@ pub fn lone_foreign_proposition(network: &Network, random: &mut Random) -> Optio
     }
     let mut network = network.clone();
     let slot = random.pick(&stepped);
-    let foreign = union(&network) & !mask_of(&network, &network.slots[slot]);
+    let foreign = network.union() & !mask_of(&network, &network.slots[slot]);
     network.slots[slot].formula = Formula::Proposition(any_proposition(random, foreign)? - 64);
     Some(network.bytes())
 }

@@ -87,20 +87,16 @@ fn any_bit(random: &mut Random, bits: u64) -> Option<u64> {
     pick(random, (0..64).map(|i| 1 << i).filter(|bit| bits & bit != 0).collect())
 }
 
-fn union(network: &Network) -> u64 {
-    network.boards.iter().fold(0, |union, board| union | board.mask)
-}
-
 pub fn masks_overlap(network: &Network, random: &mut Random) -> Option<Vec<u8>> {
-    let board = any_board(network, random, |board| board.mask != union(network))?;
-    let bit = any_bit(random, union(network) & !network.boards[board].mask)?;
+    let board = any_board(network, random, |board| board.mask != network.union())?;
+    let bit = any_bit(random, network.union() & !network.boards[board].mask)?;
     with_board(network, board, |board| board.mask |= bit)
 }
 
 // A proposition past the next one: that one is the hole.
 pub fn masks_with_a_hole(network: &Network, random: &mut Random) -> Option<Vec<u8>> {
     let board = any_board(network, random, |_| true)?;
-    let bit = any_bit(random, !(union(network) << 1 | 1))?;
+    let bit = any_bit(random, !(network.union() << 1 | 1))?;
     with_board(network, board, |board| board.mask |= bit)
 }
 

@@ -116,7 +116,7 @@ fn slots_hold(network: &Network) -> bool {
 fn slot_holds(network: &Network, number: usize) -> bool {
     let slot = &network.slots[number];
     let board = &network.boards[slot.board];
-    let union = network.boards.iter().fold(0, |union, board| union | board.mask);
+    let union = network.union();
     let held = held_by(&slot.formula);
     let covered = slot.formula.all(&|node| !matches!(node, Proposition(i) if union >> i & 1 == 0));
     let held_above = held.iter().all(|&other| other > number && other < network.slots.len());

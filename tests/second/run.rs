@@ -52,8 +52,7 @@ fn report(state: &[u8], lines: &mut String) -> Result<Verdict, Refusal> {
 // The state after a tick with this event: all boards sample, then the slots step, highest number first.
 fn tick(mut state: Vec<u8>, event: u64) -> Result<Vec<u8>, Refusal> {
     let network = network_of(&state).ok_or(Refusal::State)?;
-    let union = network.boards.iter().fold(0, |union, board| union | board.mask);
-    demand(event & !union == 0, Refusal::Bits)?;
+    demand(event & !network.union() == 0, Refusal::Bits)?;
     for (number, board) in (0..).zip(&network.boards) {
         sample(&mut state, number, event & board.mask)?;
     }

@@ -62,6 +62,11 @@ impl Network {
         Ok(Network { ticks, nodes: start, boards, slots })
     }
 
+    // The propositions that the masks cover.
+    pub fn union(&self) -> u64 {
+        self.boards.iter().fold(0, |union, board| union | board.mask)
+    }
+
     pub fn bytes(&self) -> Vec<u8> {
         let (b, s) = (self.boards.len(), self.slots.len());
         let mut bytes = Vec::new();
