@@ -130,12 +130,20 @@ fn no_flag(random: &mut Random) -> u8 {
     random.pick(&[2, 3, 128, 129, 254, 255])
 }
 
-pub fn sampled_mark(network: &Network, random: &mut Random) -> Option<Vec<u8>> {
-    let sampled = random.percent(50);
+fn with_sampled(network: &Network, random: &mut Random, sampled: bool) -> Option<Vec<u8>> {
     let board = any_board(network, random, |board| board.sampled == sampled)?;
     let mut state = network.bytes();
     state[BOARDS_AT + BOARD * board + 16] = no_flag(random);
     Some(state)
+}
+
+// On a board that has sampled any mark but 0 might be taken for 1, on another any but 1 for 0.
+pub fn mark_of_sampled(network: &Network, random: &mut Random) -> Option<Vec<u8>> {
+    with_sampled(network, random, true)
+}
+
+pub fn mark_of_unsampled(network: &Network, random: &mut Random) -> Option<Vec<u8>> {
+    with_sampled(network, random, false)
 }
 
 // ---- Slot records
@@ -170,13 +178,19 @@ pub fn slot_board(network: &Network, random: &mut Random) -> Option<Vec<u8>> {
     Some(state)
 }
 
-// Mostly of a slot that is stepped: any mark but 0 might be taken for that.
-pub fn stepped_mark(network: &Network, random: &mut Random) -> Option<Vec<u8>> {
-    let stepped = random.percent(75);
+fn with_stepped(network: &Network, random: &mut Random, stepped: bool) -> Option<Vec<u8>> {
     let slot = any_slot(network, random, |slot| network.slots[slot].stepped == stepped)?;
     let mut state = network.bytes();
     state[slot_at(network, slot) + 1] = no_flag(random);
     Some(state)
+}
+
+pub fn mark_of_stepped(network: &Network, random: &mut Random) -> Option<Vec<u8>> {
+    with_stepped(network, random, true)
+}
+
+pub fn mark_of_unstepped(network: &Network, random: &mut Random) -> Option<Vec<u8>> {
+    with_stepped(network, random, false)
 }
 
 // Slot 0 one byte further on, inside its own stretch.
