@@ -156,7 +156,7 @@ pub fn number_twice_in_two_slots(network: &Network, random: &mut Random) -> Opti
 
 // ---- Unstepped slots
 
-// An operator outside next that is one of these becomes temporal, over nothing that is held or foreign.
+// An operator outside next that is one of these becomes the only temporal one there, over nothing that is held or foreign.
 fn made_temporal(network: &Network, random: &mut Random, operators: &[u8], temporal: u8) -> Option<Vec<u8>> {
     let wanted = |slot: &Slot, node: &Node| !slot.stepped && !node.spot.inside_next && operators.contains(&node.spot.byte);
     let node = any_node(network, random, wanted)?;
@@ -164,8 +164,12 @@ fn made_temporal(network: &Network, random: &mut Random, operators: &[u8], tempo
     let mut bytes = bytes_of(&slot.formula);
     bytes[node.spot.place] = temporal;
     let mask = mask_of(network, slot);
-    let is_foreign = |spot: &Spot| (64..128).contains(&spot.byte) && mask >> (spot.byte - 64) & 1 == 0;
-    let otherwise_good = |spot: &Spot| !(spot.is_place_holder() && !spot.is_outside()) && (spot.inside_next || !is_foreign(spot));
+    let is_foreign = |spot: &Spot| mask >> (spot.byte - 64) & 1 == 0;
+    let otherwise_good = |spot: &Spot| match spot.byte {
+        6..=8 => spot.inside_next || spot.place == node.spot.place,
+        64..=127 => spot.inside_next || !is_foreign(spot),
+        _ => spot.is_outside() || !spot.is_place_holder(),
+    };
     spots(&bytes).iter().all(otherwise_good).then(|| with(network, &[(node, temporal)]))?
 }
 
