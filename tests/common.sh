@@ -1,11 +1,11 @@
 # What the scripts of tests/ and bench/ share; they source it from the project's root.
 
-# Compiles the generator and the second program into target/tests/, and runs the second program on 01's worked values.
+# Compiles the generator and the second program into target/tests/, and runs the second program's own tests.
 build_tests() {
     mkdir -p target/tests
     rustc -O --edition 2021 -o target/tests/generate tests/generate.rs
     rustc -O --edition 2021 -o target/tests/second tests/second.rs
-    rustc --test --edition 2021 -o target/tests/worked tests/second.rs
+    rustc -O --test --edition 2021 -o target/tests/worked tests/second.rs
     target/tests/worked -q >target/tests/worked.log || { cat target/tests/worked.log; return 1; }
 }
 

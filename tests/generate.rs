@@ -1,30 +1,62 @@
 // The generator: random and damaged requests of PROTOCOL.md for one seed, the same on every machine.
 //   generate SEED COUNT        writes the stream of COUNT requests
 //   generate SEED COUNT list   writes a line for each of them instead: its call, its offset in the stream, its length, its case
-// The worked values and the rules at the borders come first; then the cases below take turns, so that a stream of some hundreds
-// meets each of them often.
+//   generate SEED COUNT inputs ROOM   writes COUNT inputs of the run program into files ROOM/1, ROOM/2, .. and a line with the case of each
+// The worked values and the rules at the borders come first; then the cases below, for the calls without a state, and the episodes
+// on the kept state take turns, so that a stream of some hundreds meets each of them often.
 
 #[path = "generate/borders.rs"]
 mod borders;
 #[path = "generate/central.rs"]
 mod central;
+#[path = "generate/closes.rs"]
+mod closes;
+#[path = "generate/episodes.rs"]
+mod episodes;
+#[path = "generate/files.rs"]
+mod files;
 #[path = "generate/formulas.rs"]
 mod formulas;
+#[path = "generate/handed.rs"]
+mod handed;
+#[path = "generate/inputs.rs"]
+mod inputs;
+#[allow(dead_code)] // the generator needs the watch's calls and the check
+#[path = "second/model.rs"]
+mod model;
+#[path = "generate/moments.rs"]
+mod moments;
+#[path = "generate/patterns.rs"]
+mod patterns;
 #[path = "generate/random.rs"]
 mod random;
-#[path = "generate/read.rs"]
-mod read;
 #[path = "generate/request.rs"]
 mod request;
 #[path = "generate/rules.rs"]
 mod rules;
+#[path = "generate/script.rs"]
+mod script;
+#[path = "generate/spoilt.rs"]
+mod spoilt;
+#[path = "generate/spoilt_formulas.rs"]
+mod spoilt_formulas;
+#[path = "generate/spoilt_records.rs"]
+mod spoilt_records;
+#[path = "generate/spots.rs"]
+mod spots;
+#[path = "generate/watches.rs"]
+mod watches;
 #[path = "generate/worked.rs"]
 mod worked;
+#[path = "generate/worked_watches.rs"]
+mod worked_watches;
 #[path = "generate/write.rs"]
 mod write;
 
+use episodes::Episodes;
 use random::Random;
 use request::Request;
+use script::{Made, Script};
 use std::io::Write;
 
 // Makes a request of its kind; large ones, at the real limits, are asked for now and then.
@@ -32,74 +64,113 @@ type Case = fn(&mut Random, bool) -> Request;
 
 const CASES: &[(&str, &str, Case)] = &[
     ("central", "small", central::small),
-    ("read", "accepted", |random, large| read::of(&rules::rule(random, large))),
+    ("read", "accepted", |random, large| files::of(&rules::rule(random, large)).read()),
     ("write", "accepted", |random, large| write::of(&rules::rule(random, large))),
     ("central", "temporal", central::temporal),
     ("central", "plain", central::plain),
-    ("read", "smallest", |random, large| read::of(&rules::smallest(random, large))),
+    ("read", "smallest", |random, large| files::of(&rules::smallest(random, large)).read()),
     ("central", "left leaning", central::left_chain_of),
     ("central", "right leaning", central::right_chain_of),
-    ("read", "length", read::length),
+    ("read", "length", |random, large| files::length(random, large).read()),
     ("central", "constants", central::constants),
     ("central", "member", central::member),
-    ("read", "cut or extended", read::cut_or_extended),
+    ("read", "cut or extended", |random, large| files::cut_or_extended(random, large).read()),
     ("central", "no member", central::no_member),
     ("central", "members", central::members),
-    ("read", "version", read::version),
+    ("read", "version", |random, large| files::version(random, large).read()),
     ("central", "negations", central::negations),
     ("central", "unfold limit", central::unfold_limit),
-    ("read", "range", read::range),
+    ("read", "range", |random, large| files::range(random, large).read()),
     ("central", "nested limit", central::nested_limit),
     ("central", "far too large", central::far_too_large),
-    ("read", "offset", read::offset),
+    ("read", "offset", |random, large| files::offset(random, large).read()),
     ("central", "wrong size", central::wrong_size),
     ("central", "wrong lent", central::wrong_lent),
-    ("read", "oversized", read::oversized),
+    ("read", "oversized", |random, large| files::oversized(random, large).read()),
     ("central", "damaged", central::damaged),
     ("central", "damaged and large", central::damaged_and_large),
-    ("read", "masks", |random, large| read::of(&rules::bad_masks(random, large))),
+    ("read", "masks", |random, large| files::of(&rules::bad_masks(random, large)).read()),
     ("central", "any bytes", central::any_bytes),
     ("write", "smallest", |random, large| write::of(&rules::smallest(random, large))),
-    ("read", "formula", |random, large| read::of(&rules::bad_formula(random, large))),
+    ("read", "formula", |random, large| files::of(&rules::bad_formula(random, large)).read()),
     ("write", "length", write::length),
     ("write", "range", write::range),
-    ("read", "several", read::several),
+    ("read", "several", |random, large| files::several(random, large).read()),
     ("write", "masks", |random, large| write::of(&rules::bad_masks(random, large))),
     ("write", "formula", |random, large| write::of(&rules::bad_formula(random, large))),
-    ("read", "flipped", read::flipped),
+    ("read", "wrongly lent", |random, large| files::wrongly_lent(random, large).read()),
+    ("read", "flipped", |random, large| files::flipped(random, large).read()),
     ("write", "several", write::several),
 ];
 
 // One round of the cases in so many asks for large requests.
 const LARGE_EVERY: usize = 6;
 
-fn main() {
-    let words: Vec<String> = std::env::args().collect();
-    let number = |i: usize| words.get(i).and_then(|word| word.parse::<u64>().ok());
-    let (Some(seed), Some(count)) = (number(1), number(2)) else {
-        eprintln!("usage: generate SEED COUNT [list]");
-        std::process::exit(2);
-    };
-    let list = words.get(3).is_some_and(|word| word == "list");
+// What opens every stream.
+fn opening(script: &mut Script) -> Vec<Made> {
+    let worked = worked::worked().into_iter().map(|(call, request)| (call, "worked value", request));
+    let borders = borders::borders().into_iter().map(|(call, request)| (call, "border", request));
+    worked_watches::watched(script);
+    borders::loaded(script);
+    worked.chain(borders).chain(std::iter::from_fn(|| script.take())).collect()
+}
+
+// Hands on the requests of a stream, one after the other.
+fn stream(seed: u64, count: usize, mut emit: impl FnMut(Made)) {
+    let mut script = Script::new();
+    let opening = opening(&mut script);
+    let left = count.saturating_sub(opening.len());
+    opening.into_iter().take(count).for_each(&mut emit);
+    let (mut random, mut episodes_random) = (Random::new(seed), Random::new(!seed));
+    let mut episodes = Episodes::new();
+    for i in 0..left {
+        if i % 2 == 0 {
+            let (call, case, make) = CASES[i / 2 % CASES.len()];
+            let large = i / 2 / CASES.len() % LARGE_EVERY == LARGE_EVERY - 1;
+            emit((call, case, make(&mut random, large)));
+        } else {
+            emit(episodes.next(&mut script, &mut episodes_random));
+        }
+    }
+}
+
+fn write_stream(seed: u64, count: usize, list: bool) {
     let mut output = std::io::BufWriter::new(std::io::stdout().lock());
     let mut offset = 0;
-    let mut emit = |call: &str, case: &str, request: &Request| {
+    stream(seed, count, |(call, case, request)| {
         let bytes = request.bytes();
         let done = if list { writeln!(output, "{call} {offset} {} {case}", bytes.len()) } else { output.write_all(&bytes) };
         done.expect("standard output can be written");
         offset += bytes.len();
-    };
-    let mut left = count as usize;
-    for (name, requests) in [("worked value", worked::worked()), ("border", borders::borders())] {
-        for (call, request) in requests.iter().take(left) {
-            emit(call, name, request);
-            left -= 1;
+    });
+}
+
+fn write_inputs(seed: u64, count: usize, room: &str) {
+    let mut random = Random::new(seed);
+    for i in 0..count {
+        let (case, make) = inputs::CASES[i % inputs::CASES.len()];
+        std::fs::write(format!("{room}/{}", i + 1), make(&mut random)).expect("an input can be written");
+        println!("{case}");
+    }
+}
+
+fn generate() {
+    let words: Vec<String> = std::env::args().skip(1).collect();
+    let number = |i: usize| words.get(i).and_then(|word| word.parse::<u64>().ok());
+    let rest: Vec<&str> = words.iter().skip(2).map(String::as_str).collect();
+    match (number(0), number(1), &rest[..]) {
+        (Some(seed), Some(count), []) => write_stream(seed, count as usize, false),
+        (Some(seed), Some(count), ["list"]) => write_stream(seed, count as usize, true),
+        (Some(seed), Some(count), ["inputs", room]) => write_inputs(seed, count as usize, room),
+        _ => {
+            eprintln!("usage: generate SEED COUNT [list | inputs ROOM]");
+            std::process::exit(2);
         }
     }
-    let mut random = Random::new(seed);
-    for i in 0..left {
-        let (call, case, make) = CASES[i % CASES.len()];
-        let large = i / CASES.len() % LARGE_EVERY == LARGE_EVERY - 1;
-        emit(call, case, &make(&mut random, large));
-    }
+}
+
+// The model calls itself once for each level of a formula, and there may be thousands.
+fn main() {
+    let thread = std::thread::Builder::new().stack_size(256 << 20).spawn(generate);
+    thread.expect("a thread can be started").join().expect("the stream ends");
 }

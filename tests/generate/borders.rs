@@ -1,9 +1,10 @@
-// Rules right at and right past each border, one request to read and one to write for each, and the codes at the borders of
+// Rules right at and right past each border, one request to read, write and load for each, and the codes at the borders of
 // their ranges, each alone to central. They come after the worked values in every stream, since chance meets some too seldom.
 
-use crate::read;
+use crate::files;
 use crate::request::Request;
 use crate::rules::Rule;
+use crate::script::Script;
 use crate::write;
 
 // A rule with these counts that is good wherever they are: propositions dealt out in turn, nots before the highest of them.
@@ -27,10 +28,10 @@ fn lone(propositions: u64, code: u8) -> Rule {
     Rule { formula: vec![code], ..counted(2, propositions, 1) }
 }
 
-pub fn borders() -> Vec<(&'static str, Request)> {
+fn rules() -> Vec<Rule> {
     let all = u64::MAX;
     let top = 1 << 63;
-    let rules = [
+    vec![
         counted(1, 1, 1),
         counted(1, 64, 1),
         counted(16, 1, 1),
@@ -60,9 +61,19 @@ pub fn borders() -> Vec<(&'static str, Request)> {
         lone(63, 127),
         lone(64, 127),
         lone(64, 128),
-    ];
+    ]
+}
+
+pub fn borders() -> Vec<(&'static str, Request)> {
     let codes = [0, 1, 2, 8, 9, 10, 62, 63, 64, 65, 126, 127, 128, 129, 190, 191, 192, 193, 254, 255];
-    let to_rules = rules.iter().flat_map(|rule| [("read", read::of(rule)), ("write", write::of(rule))]);
+    let to_rules = rules().into_iter().flat_map(|rule| [("read", files::of(&rule).read()), ("write", write::of(&rule))]);
     let to_central = codes.iter().map(|code| ("central", Request::central(vec![*code], 1, 4096)));
     to_rules.chain(to_central).collect()
+}
+
+pub fn loaded(script: &mut Script) {
+    script.case = "border";
+    for rule in rules() {
+        script.load(files::of(&rule));
+    }
 }

@@ -24,6 +24,30 @@ impl Request {
         Request { call: 3, a: formula.len(), b: 0, c: output_lent, v: event, payload: formula }
     }
 
+    pub fn load(file: Vec<u8>, state_lent: usize) -> Request {
+        Request { call: 4, a: file.len(), b: 0, c: state_lent, v: 0, payload: file }
+    }
+
+    pub fn sample(state_lent: usize, board: u64, bits: u64) -> Request {
+        Request { call: 5, a: 0, b: state_lent, c: 0, v: bits, payload: board.to_le_bytes().to_vec() }
+    }
+
+    pub fn step(state_lent: usize, slot: u64) -> Request {
+        Request { call: 6, a: 0, b: state_lent, c: 0, v: slot, payload: Vec::new() }
+    }
+
+    pub fn close(state_lent: usize, second_lent: usize) -> Request {
+        Request { call: 7, a: 0, b: state_lent, c: second_lent, v: 0, payload: Vec::new() }
+    }
+
+    pub fn ask(state_lent: usize) -> Request {
+        Request { call: 8, a: 0, b: state_lent, c: 0, v: 0, payload: Vec::new() }
+    }
+
+    pub fn poke(offset: usize, bytes: &[u8]) -> Request {
+        Request { call: 9, a: bytes.len(), b: offset, c: 0, v: 0, payload: bytes.to_vec() }
+    }
+
     pub fn bytes(&self) -> Vec<u8> {
         let mut bytes = vec![self.call, 0, 0, 0];
         for number in [self.a, self.b, self.c] {

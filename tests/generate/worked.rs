@@ -1,7 +1,7 @@
-// The worked values of document 01 that concern these calls. They open every stream.
+// The worked values of document 01 for the calls without a state. They open every stream.
 
+use crate::files;
 use crate::formulas::nested;
-use crate::read;
 use crate::request::Request;
 use crate::rules::Rule;
 use crate::write;
@@ -24,7 +24,7 @@ pub fn worked() -> Vec<(&'static str, Request)> {
         central(&[4, 5, 64, 4, 5, 64, 5, 65], 0),
         central(&nested(8, 87), 1),
         central(&nested(8, 88), 1),
-        ("read", read::of(&rule)),
+        ("read", files::of(&rule).read()),
         ("write", write::of(&rule)),
     ]
 }

@@ -1,6 +1,7 @@
-// Requests for read: rule files as they should be, and files with one thing or several things wrong.
+// Rule files as they should be, and files with one thing or several things wrong, for the calls that take a file.
 
 use crate::formulas::{formula, TEMPORAL};
+use crate::model::state::STATE;
 use crate::random::Random;
 use crate::request::Request;
 use crate::rules::{doubtful, rule, Rule};
@@ -13,14 +14,45 @@ const NODES: usize = 3;
 const MASKS_AT: usize = 4;
 const FORMULA_AT: usize = 5;
 
+// What is lent beside a file: masks and formula to read, a state to load.
+#[derive(Clone, Copy)]
+pub struct Lent {
+    masks: usize,
+    formula: usize,
+    pub state: usize,
+}
+
+const RIGHT: Lent = Lent { masks: 16, formula: 1024, state: STATE };
+
+impl Lent {
+    fn wrong(random: &mut Random) -> Lent {
+        let state = random.pick(&[0, 1, 16, STATE - 1, STATE + 1, 8192]);
+        if random.percent(50) {
+            Lent { masks: random.pick(&[0, 15, 17, 32]), state, ..RIGHT }
+        } else {
+            Lent { formula: random.pick(&[0, 1023, 1025, 8192]), state, ..RIGHT }
+        }
+    }
+}
+
+pub struct Handed {
+    pub file: Vec<u8>,
+    pub lent: Lent,
+}
+
+impl Handed {
+    pub fn read(self) -> Request {
+        Request::read(self.file, self.lent.masks, self.lent.formula)
+    }
+}
+
 // A rule file in its parts, which need not agree, and what is lent beside it.
 struct Reading {
     fields: [u16; 6],
     total: u32,
     masks: Vec<u64>,
     formula: Vec<u8>,
-    masks_lent: usize,
-    formula_lent: usize,
+    lent: Lent,
 }
 
 impl Reading {
@@ -30,8 +62,7 @@ impl Reading {
             total: 0,
             masks: rule.masks.clone(),
             formula: rule.formula.clone(),
-            masks_lent: 16,
-            formula_lent: 1024,
+            lent: RIGHT,
         };
         reading.agree();
         reading
@@ -57,14 +88,13 @@ impl Reading {
         bytes
     }
 
-    fn request(&self) -> Request {
-        Request::read(self.file(), self.masks_lent, self.formula_lent)
+    fn handed(&self) -> Handed {
+        Handed { file: self.file(), lent: self.lent }
     }
 
     fn break_length(&mut self, random: &mut Random) {
         match random.below(4) {
-            0 => self.masks_lent = random.pick(&[0, 15, 17, 32]),
-            1 => self.formula_lent = random.pick(&[0, 1023, 1025, 8192]),
+            0 | 1 => self.lent = Lent::wrong(random),
             _ => {
                 let wrong = [0, self.total - 1, self.total + 1, self.total + (1 << 16), self.total | 1 << 31];
                 self.total = random.pick(&wrong);
@@ -108,23 +138,23 @@ impl Reading {
     }
 }
 
-// The rule's file, with what read is to be lent.
-pub fn of(rule: &Rule) -> Request {
-    Reading::of(rule).request()
+// The rule's file, with what is to be lent.
+pub fn of(rule: &Rule) -> Handed {
+    Reading::of(rule).handed()
 }
 
-fn broken(random: &mut Random, large: bool, one: fn(&mut Reading, &mut Random)) -> Request {
+fn broken(random: &mut Random, large: bool, one: fn(&mut Reading, &mut Random)) -> Handed {
     let mut reading = Reading::of(&rule(random, large));
     one(&mut reading, random);
-    reading.request()
+    reading.handed()
 }
 
-pub fn length(random: &mut Random, large: bool) -> Request {
+pub fn length(random: &mut Random, large: bool) -> Handed {
     broken(random, large, Reading::break_length)
 }
 
 // A good file that lost its end or was given one.
-pub fn cut_or_extended(random: &mut Random, _: bool) -> Request {
+pub fn cut_or_extended(random: &mut Random, _: bool) -> Handed {
     let mut file = Reading::of(&rule(random, false)).file();
     match random.below(4) {
         0 => file.truncate(file.len() - 1),
@@ -132,34 +162,34 @@ pub fn cut_or_extended(random: &mut Random, _: bool) -> Request {
         2 => file.truncate(16),
         _ => file.push(0),
     }
-    Request::read(file, 16, 1024)
+    Handed { file, lent: RIGHT }
 }
 
-pub fn version(random: &mut Random, large: bool) -> Request {
+pub fn version(random: &mut Random, large: bool) -> Handed {
     broken(random, large, Reading::break_version)
 }
 
-pub fn range(random: &mut Random, large: bool) -> Request {
+pub fn range(random: &mut Random, large: bool) -> Handed {
     broken(random, large, Reading::break_range)
 }
 
-pub fn offset(random: &mut Random, large: bool) -> Request {
+pub fn offset(random: &mut Random, large: bool) -> Handed {
     broken(random, large, Reading::break_offset)
 }
 
 // Longer than any rule file, with a total that agrees.
-pub fn oversized(random: &mut Random, large: bool) -> Request {
+pub fn oversized(random: &mut Random, large: bool) -> Handed {
     let mut reading = Reading::of(&rule(random, large));
     reading.formula.resize(if large { 1200 } else { 200 }, 64);
     reading.total = reading.length();
     if random.percent(50) {
         reading.fields[NODES] = reading.formula.len() as u16;
     }
-    reading.request()
+    reading.handed()
 }
 
 // Several things wrong at once: the first in the order of the checks decides.
-pub fn several(random: &mut Random, _: bool) -> Request {
+pub fn several(random: &mut Random, _: bool) -> Handed {
     let mut reading = Reading::of(&doubtful(random));
     let breaks = [Reading::break_offset, Reading::break_range, Reading::break_version, Reading::break_length];
     for one in breaks {
@@ -167,14 +197,19 @@ pub fn several(random: &mut Random, _: bool) -> Request {
             one(&mut reading, random);
         }
     }
-    reading.request()
+    reading.handed()
 }
 
-pub fn flipped(random: &mut Random, _: bool) -> Request {
+// Whatever the file is, what is lent beside it is wrong.
+pub fn wrongly_lent(random: &mut Random, large: bool) -> Handed {
+    Handed { lent: Lent::wrong(random), ..several(random, large) }
+}
+
+pub fn flipped(random: &mut Random, _: bool) -> Handed {
     let mut file = Reading::of(&rule(random, false)).file();
     for _ in 0..random.within(1, 3) {
         let place = if random.percent(50) { random.below(16) } else { random.below(file.len()) };
         file[place] ^= 1 << random.below(8);
     }
-    Request::read(file, 16, 1024)
+    Handed { file, lent: RIGHT }
 }

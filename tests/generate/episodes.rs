@@ -1,0 +1,177 @@
+// The cases on the kept state, by kind, and how the kinds take turns. An episode makes as many requests as it needs.
+
+use crate::files::{self, Handed};
+use crate::random::Random;
+use crate::rules::{self, Rule};
+use crate::script::{Made, Script};
+use crate::spoilt::SPOILS;
+use crate::{closes, handed, moments, patterns, spoilt, watches};
+
+type Episode = Box<dyn Fn(&mut Script, &mut Random, bool)>;
+
+// Episodes of one kind, one after the other; one in so many is asked to be large. That number has no divisor in common with how many
+// there are, so that each of them is asked in its time.
+struct Kind {
+    episodes: Vec<(&'static str, Episode)>,
+    large_every: usize,
+    turn: usize,
+}
+
+impl Kind {
+    fn new(large_every: usize, episodes: Vec<(&'static str, Episode)>) -> Kind {
+        Kind { episodes, large_every, turn: 0 }
+    }
+
+    fn play(&mut self, script: &mut Script, random: &mut Random) {
+        let (case, episode) = &self.episodes[self.turn % self.episodes.len()];
+        let large = self.turn % self.large_every == self.large_every - 1;
+        script.case = case;
+        episode(script, random, large);
+        self.turn += 1;
+    }
+}
+
+fn load(make: fn(&mut Random, bool) -> Handed) -> Episode {
+    Box::new(move |script, random, large| {
+        script.load(make(random, large));
+    })
+}
+
+fn watch(pattern: fn(&mut Random, bool) -> Rule) -> Episode {
+    Box::new(move |script, random, large| {
+        let rule = pattern(random, large);
+        watch_rule(script, random, &rule, large);
+    })
+}
+
+fn watch_later(pattern: fn(&mut Random, bool) -> Rule) -> Episode {
+    Box::new(move |script, random, large| {
+        let rule = patterns::later(pattern(random, large));
+        watch_rule(script, random, &rule, large);
+    })
+}
+
+// A watch from its load on. A large one has many slots to step: it goes some way unseen.
+fn watch_rule(script: &mut Script, random: &mut Random, rule: &Rule, large: bool) {
+    if !script.load(files::of(rule)) {
+        return;
+    }
+    let unseen = if large { random.below(200) } else { 0 };
+    if let Some(network) = moments::of_rule(random, rule, unseen) {
+        script.become_state(&network.bytes());
+    }
+    let requests = random.within(12, 40);
+    watches::go_on(script, random, requests);
+}
+
+fn loads() -> Kind {
+    let at_limit = |random: &mut Random, large: bool| {
+        let limits = [patterns::node_limit, patterns::node_limit, patterns::nested_always, patterns::untils];
+        let (limit, large) = (random.pick(&limits), large || random.percent(50));
+        files::of(&limit(random, large))
+    };
+    let episodes = vec![
+        ("accepted", load(|random, large| files::of(&rules::rule(random, large)))),
+        ("length", load(files::length)),
+        ("slots", load(|random, _| files::of(&patterns::copies(random.within(62, 66))))),
+        ("cut or extended", load(files::cut_or_extended)),
+        ("version", load(files::version)),
+        ("nodes", load(at_limit)),
+        ("range", load(files::range)),
+        ("offset", load(files::offset)),
+        ("slots and nodes", load(|random, large| files::of(&patterns::slots_and_nodes(random, large)))),
+        ("oversized", load(files::oversized)),
+        ("masks", load(|random, large| files::of(&rules::bad_masks(random, large)))),
+        ("nodes", load(at_limit)),
+        ("formula", load(|random, large| files::of(&rules::bad_formula(random, large)))),
+        ("far too large", load(|random, large| files::of(&patterns::far_too_large(random, large)))),
+        ("crowded", load(|random, large| files::of(&patterns::crowded(random, large)))),
+        ("several", load(files::several)),
+        ("wrongly lent", load(files::wrongly_lent)),
+        ("flipped", load(files::flipped)),
+    ];
+    Kind::new(7, episodes)
+}
+
+fn whole_watches() -> Kind {
+    let episodes = vec![
+        ("watch: small", watch(patterns::small)),
+        ("watch: until", watch(patterns::until)),
+        ("watch: small, later", watch_later(patterns::small)),
+        ("watch: responses", watch(patterns::responses)),
+        ("watch: small", watch(patterns::small)),
+        ("watch: alternatives", watch(patterns::alternatives)),
+        ("watch: untils", watch(patterns::untils)),
+        ("watch: responses", watch(patterns::responses)),
+        ("watch: chain", watch(patterns::chain)),
+        ("watch: nested", watch(patterns::nested_always)),
+        ("watch: constants", watch(patterns::constants)),
+        ("watch: wide", watch(patterns::wide)),
+    ];
+    Kind::new(5, episodes)
+}
+
+fn spoilt_states() -> Kind {
+    let episode = |spoil: spoilt::Spoil| -> Episode { Box::new(move |script, random, _| spoilt::spoilt(script, random, spoil)) };
+    Kind::new(1, SPOILS.iter().map(|&(name, spoil)| (name, episode(spoil))).collect())
+}
+
+fn closes_at_limits() -> Kind {
+    let episodes: Vec<(&'static str, Episode)> = vec![
+        ("close: slots", Box::new(closes::slots)),
+        ("close: last ticks", Box::new(closes::last_ticks)),
+        ("close: nodes", Box::new(closes::nodes)),
+        ("close: growing", Box::new(closes::growing)),
+        ("close: handed", Box::new(closes::handed)),
+        ("close: slots", Box::new(closes::slots)),
+        ("close: last ticks", Box::new(closes::last_ticks)),
+    ];
+    Kind::new(5, episodes)
+}
+
+// States that someone might hand over, valid or not.
+fn strange_states() -> Kind {
+    let handed: Episode = Box::new(|script, random, large| {
+        let network = handed::handed(random, large);
+        script.become_state(&network.bytes());
+        let requests = random.within(6, 20);
+        watches::go_on(script, random, requests);
+    });
+    let flipped: Episode = Box::new(|script, random, _| spoilt::flipped(script, random));
+    Kind::new(3, vec![("handed state", handed), ("flipped state", flipped)])
+}
+
+// The kinds by their places in Episodes.
+const LOAD: usize = 0;
+const WATCH: usize = 1;
+const SPOILT: usize = 2;
+const CLOSE: usize = 3;
+const STRANGE: usize = 4;
+
+// How they take turns: a load makes one request, a watch many.
+const TURNS: &[usize] = &[
+    SPOILT, LOAD, SPOILT, CLOSE, SPOILT, LOAD, SPOILT, WATCH, LOAD, SPOILT, LOAD, SPOILT, CLOSE, SPOILT, LOAD, SPOILT, STRANGE, LOAD,
+    SPOILT, LOAD, SPOILT, CLOSE, LOAD, SPOILT, LOAD, WATCH, LOAD, SPOILT, LOAD, CLOSE, SPOILT, LOAD,
+];
+
+pub struct Episodes {
+    kinds: [Kind; 5],
+    turn: usize,
+}
+
+impl Episodes {
+    pub fn new() -> Episodes {
+        Episodes { kinds: [loads(), whole_watches(), spoilt_states(), closes_at_limits(), strange_states()], turn: 0 }
+    }
+
+    // The next request; where none is waiting, the next episode makes its own.
+    pub fn next(&mut self, script: &mut Script, random: &mut Random) -> Made {
+        loop {
+            if let Some(made) = script.take() {
+                return made;
+            }
+            self.kinds[TURNS[self.turn % TURNS.len()]].play(script, random);
+            self.turn += 1;
+        }
+    }
+}

@@ -1,0 +1,157 @@
+// What must hold of every watch, tried on small random rules: the order within a tick does not matter, no tick gets stuck, every
+// state passes its check, refusals write nothing, and each close gives central progression's verdict, which the meaning bears out.
+
+use crate::formulas::{formula, TEMPORAL};
+use crate::model::central::{verdict_of, Verdict};
+use crate::model::formula::Formula::{self, *};
+use crate::model::formula::{constant, parse_rule};
+use crate::model::progression::{resolve, unfold};
+use crate::model::refusal::Refusal;
+use crate::model::watch::{ask, sample, step};
+use crate::random::Random;
+use crate::trying::{closed, loaded, network};
+
+struct Rule {
+    masks: Vec<u64>,
+    union: u64,
+    formula: Vec<u8>,
+}
+
+fn rule(random: &mut Random) -> Rule {
+    let (boards, propositions) = (random.within(1, 4), random.within(1, 5));
+    let mut masks = vec![0; boards];
+    for i in 0..propositions {
+        masks[random.below(boards)] |= 1 << i;
+    }
+    let nodes = random.within(1, 14);
+    Rule { masks, union: (1 << propositions) - 1, formula: formula(random, nodes, TEMPORAL.over(propositions)) }
+}
+
+#[derive(Clone, Copy)]
+enum Call {
+    Sample(usize),
+    Step(usize),
+}
+
+// One tick up to its close, its calls in some order: of those left each is tried until one is accepted.
+fn tick(mut state: Vec<u8>, event: u64, random: &mut Random) -> Vec<u8> {
+    let old = network(&state);
+    let samples = (0..old.boards.len()).map(Call::Sample);
+    let mut left: Vec<Call> = samples.chain((0..old.slots.len()).map(Call::Step)).collect();
+    while !left.is_empty() {
+        assert_eq!(closed(&state), Err(Refusal::NotReady));
+        let first = random.below(left.len());
+        left.rotate_left(first);
+        let place = left.iter().position(|&call| accepted(&mut state, call, event)).expect("no tick gets stuck");
+        assert!(!accepted(&mut state, left.remove(place), event));
+        assert_eq!(network(&state).bytes(), state);
+        assert_eq!(ask(&state).map(|standing| standing.verdict), Ok(Verdict::Pending));
+    }
+    state
+}
+
+// Makes a call; a refusal must leave the state as it was.
+fn accepted(state: &mut Vec<u8>, call: Call, event: u64) -> bool {
+    let before = state.clone();
+    let result = match call {
+        Call::Sample(board) => {
+            let mask = network(state).boards[board].mask;
+            sample(state, board as u64, event & mask)
+        }
+        Call::Step(slot) => step(state, slot as u64),
+    };
+    assert!(result.is_ok() || *state == before);
+    result.is_ok()
+}
+
+#[test]
+fn watches_agree_with_central_progression_in_any_order() {
+    let mut random = Random::new(1);
+    let mut verdicts = [0; 3];
+    for _ in 0..2000 {
+        let rule = rule(&mut random);
+        let mut whole = parse_rule(&rule.formula).unwrap();
+        let mut state = loaded(&rule.masks, &rule.formula).expect("small rules have room");
+        let mut verdict = verdict_of(&whole);
+        for ticks in 0..6 {
+            let standing = ask(&state).expect("every state passes its check");
+            assert_eq!((standing.verdict, standing.ticks), (verdict, ticks));
+            if verdict != Verdict::Pending {
+                break;
+            }
+            let event = random.word() & rule.union;
+            let (one, other) = (tick(state.clone(), event, &mut random), tick(state, event, &mut random));
+            assert_eq!(one, other);
+            state = match closed(&one) {
+                Ok(state) => state,
+                Err(refusal) => {
+                    assert!(matches!(refusal, Refusal::Slots | Refusal::Nodes));
+                    break;
+                }
+            };
+            whole = resolve(&unfold(&whole), event);
+            verdict = verdict_of(&whole);
+        }
+        verdicts[verdict as usize] += 1;
+    }
+    assert!(verdicts.iter().all(|&count| count > 200), "{verdicts:?}");
+}
+
+// Whether the endless trace that goes through these events and then from the last back to `again` meets a formula, at each of them.
+fn meets(f: &Formula, events: &[u64], again: usize) -> Vec<bool> {
+    let after = |i: usize| if i + 1 < events.len() { i + 1 } else { again };
+    let all = 0..events.len();
+    match f {
+        False | True => vec![*f == True; events.len()],
+        Proposition(p) => events.iter().map(|event| event >> p & 1 == 1).collect(),
+        Not(f) => meets(f, events, again).iter().map(|met| !met).collect(),
+        And(f, g) => meets(f, events, again).iter().zip(meets(g, events, again)).map(|(l, r)| *l && r).collect(),
+        Or(f, g) => meets(f, events, again).iter().zip(meets(g, events, again)).map(|(l, r)| *l || r).collect(),
+        Next(f) => {
+            let f = meets(f, events, again);
+            all.map(|i| f[after(i)]).collect()
+        }
+        // from i on come the events from i to the last and those from `again` to the last
+        Eventually(f) => {
+            let f = meets(f, events, again);
+            all.map(|i| f[i.min(again)..].contains(&true)).collect()
+        }
+        Always(f) => {
+            let f = meets(f, events, again);
+            all.map(|i| !f[i.min(again)..].contains(&false)).collect()
+        }
+        Until(f, g) => {
+            let (f, g) = (meets(f, events, again), meets(g, events, again));
+            let met = |i: usize| {
+                let mut here = i;
+                // as many ticks as there are events go through all that can come
+                for _ in &g {
+                    if g[here] || !f[here] {
+                        break;
+                    }
+                    here = after(here);
+                }
+                g[here]
+            };
+            all.map(met).collect()
+        }
+        PlaceHolder(_) => unreachable!("a rule has none"),
+    }
+}
+
+#[test]
+fn verdicts_hold_on_every_continuation_tried() {
+    let mut random = Random::new(2);
+    for _ in 0..4000 {
+        let rule = rule(&mut random);
+        let f = parse_rule(&rule.formula).unwrap();
+        let events: Vec<u64> = (0..random.within(2, 9)).map(|_| random.word() & rule.union).collect();
+        let again = random.below(events.len());
+        let met = meets(&f, &events, again)[0];
+        let mut whole = f;
+        for &event in &events {
+            whole = resolve(&unfold(&whole), event);
+        }
+        assert!(whole == constant(met) || !whole.is_constant());
+    }
+}

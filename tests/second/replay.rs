@@ -1,0 +1,183 @@
+// The requests of PROTOCOL.md and their answer lines.
+
+use crate::model::bytes::little_endian;
+use crate::model::central::central;
+use crate::model::refusal::Refusal;
+use crate::model::rule_file::{read, write};
+use crate::model::watch::{ask, close, load, sample, step};
+
+const READ: u64 = 1;
+const WRITE: u64 = 2;
+const CENTRAL: u64 = 3;
+const LOAD: u64 = 4;
+const SAMPLE: u64 = 5;
+const STEP: u64 = 6;
+const CLOSE: u64 = 7;
+const ASK: u64 = 8;
+const POKE: u64 = 9;
+
+const KEPT: u64 = 8192;
+const MOST_LENT: u64 = 8192;
+const ANY: u64 = u64::MAX;
+
+// All that the replay prints for a stream of requests.
+pub fn replay(stream: &[u8]) -> String {
+    let mut lines = String::new();
+    let mut kept = vec![0; KEPT as usize];
+    let mut left = stream;
+    while !left.is_empty() {
+        let Some((request, rest)) = Request::take(left) else {
+            return lines + "bad request\n";
+        };
+        lines += &request.answer(&mut kept).line();
+        left = rest;
+    }
+    lines
+}
+
+struct Request<'a> {
+    call: u64,
+    a: u64,
+    b: u64,
+    c: u64,
+    v: u64,
+    payload: &'a [u8],
+}
+
+impl<'a> Request<'a> {
+    // The request at the front of the stream, and what follows it; nothing where it is no good request.
+    fn take(stream: &'a [u8]) -> Option<(Request<'a>, &'a [u8])> {
+        let (header, rest) = stream.split_at_checked(24)?;
+        let word = |at: usize| little_endian(&header[at..at + 4]);
+        let (call, a, b, c) = (word(0), word(4), word(8), word(12));
+        let v = little_endian(&header[16..24]);
+        let within = |most: [u64; 3]| a <= most[0] && b <= most[1] && c <= most[2];
+        let (good, length) = match call {
+            READ => (within([4096, 32, MOST_LENT]), a),
+            WRITE => (within([32, 8192, MOST_LENT]), 8 * a + b),
+            CENTRAL => (within([8192, ANY, MOST_LENT]), a),
+            LOAD => (within([4096, ANY, MOST_LENT]), a),
+            SAMPLE => (within([ANY, KEPT, ANY]), 8),
+            STEP | ASK => (within([ANY, KEPT, ANY]), 0),
+            CLOSE => (within([ANY, KEPT, MOST_LENT]), 0),
+            POKE => (a + b <= KEPT, a),
+            _ => (false, 0),
+        };
+        if !good {
+            return None;
+        }
+        let (payload, rest) = rest.split_at_checked(length as usize)?;
+        Some((Request { call, a, b, c, v, payload }, rest))
+    }
+
+    fn answer(&self, kept: &mut [u8]) -> Answer {
+        match self.call {
+            READ => self.answer_read(),
+            WRITE => self.answer_write(),
+            CENTRAL => self.answer_central(),
+            LOAD => self.answer_load(kept),
+            SAMPLE => self.answer_sample(&mut kept[..self.b as usize]),
+            STEP => self.answer_step(&mut kept[..self.b as usize]),
+            CLOSE => self.answer_close(kept),
+            ASK => self.answer_ask(&kept[..self.b as usize]),
+            _ => self.answer_poke(kept),
+        }
+    }
+
+    fn answer_read(&self) -> Answer {
+        let (mut masks, mut formula) = (lent_masks(self.b), lent_bytes(self.c));
+        let result = read(self.payload, &mut masks, &mut formula);
+        let values = result.map(|counts| vec![counts.boards, counts.propositions, counts.nodes]);
+        Answer { values, hashes: vec![hash(&bytes_of_masks(&masks)), hash(&formula)] }
+    }
+
+    fn answer_write(&self) -> Answer {
+        let (masks, formula) = self.payload.split_at(8 * self.a as usize);
+        let masks: Vec<u64> = masks.chunks(8).map(little_endian).collect();
+        let mut file = lent_bytes(self.c);
+        let result = write(&masks, self.v, formula, &mut file);
+        Answer { values: result.map(|length| vec![length]), hashes: vec![hash(&file)] }
+    }
+
+    fn answer_central(&self) -> Answer {
+        let mut output = lent_bytes(self.c);
+        let result = central(self.payload, self.v, &mut output);
+        let values = result.map(|(verdict, length)| vec![verdict as u64, length]);
+        Answer { values, hashes: vec![hash(&output)] }
+    }
+
+    fn answer_load(&self, kept: &mut [u8]) -> Answer {
+        let mut state = lent_bytes(self.c);
+        let result = load(self.payload, &mut state);
+        if result.is_ok() {
+            kept[..state.len()].copy_from_slice(&state);
+        }
+        Answer { values: result.map(|()| vec![]), hashes: vec![hash(&state)] }
+    }
+
+    fn answer_sample(&self, state: &mut [u8]) -> Answer {
+        let result = sample(state, little_endian(self.payload), self.v);
+        Answer { values: result.map(|()| vec![]), hashes: vec![hash(state)] }
+    }
+
+    fn answer_step(&self, state: &mut [u8]) -> Answer {
+        let result = step(state, self.v);
+        Answer { values: result.map(|()| vec![]), hashes: vec![hash(state)] }
+    }
+
+    fn answer_close(&self, kept: &mut [u8]) -> Answer {
+        let state = &kept[..self.b as usize];
+        let mut second = lent_bytes(self.c);
+        let result = close(state, &mut second);
+        let hashes = vec![hash(state), hash(&second)];
+        if result.is_ok() {
+            kept[..second.len()].copy_from_slice(&second);
+        }
+        Answer { values: result.map(|()| vec![]), hashes }
+    }
+
+    fn answer_ask(&self, state: &[u8]) -> Answer {
+        let values = ask(state).map(|standing| vec![standing.verdict as u64, standing.ticks, standing.slots, standing.nodes]);
+        Answer { values, hashes: vec![hash(state)] }
+    }
+
+    fn answer_poke(&self, kept: &mut [u8]) -> Answer {
+        let offset = self.b as usize;
+        kept[offset..offset + self.payload.len()].copy_from_slice(self.payload);
+        Answer { values: Ok(vec![]), hashes: vec![] }
+    }
+}
+
+// Lent outputs start with a pattern, so that a byte missed or written by a refusal shows in the hash.
+pub fn lent_bytes(count: u64) -> Vec<u8> {
+    (0..count).map(|i| (i % 251 + 1) as u8).collect()
+}
+
+pub fn lent_masks(count: u64) -> Vec<u64> {
+    (0..count).map(|i| (i + 1) * 0x0101_0101_0101_0101).collect()
+}
+
+fn bytes_of_masks(masks: &[u64]) -> Vec<u8> {
+    masks.iter().flat_map(|mask| mask.to_le_bytes()).collect()
+}
+
+fn hash(bytes: &[u8]) -> u64 {
+    bytes.iter().fold(1, |h, &byte| (h * 257 + u64::from(byte) + 1) % 4_294_967_291)
+}
+
+struct Answer {
+    values: Result<Vec<u64>, Refusal>,
+    hashes: Vec<u64>,
+}
+
+impl Answer {
+    fn line(&self) -> String {
+        let mut fields = match &self.values {
+            Ok(values) => [&[0], &values[..]].concat(),
+            Err(refusal) => vec![*refusal as u64],
+        };
+        fields.extend(&self.hashes);
+        let words: Vec<String> = fields.iter().map(u64::to_string).collect();
+        words.join(" ") + "\n"
+    }
+}
