@@ -1,4 +1,5 @@
-// The plain C version of read, write and central: the library's C interface under other names, as a yardstick for its speed.
+// The plain C version of the calls, by hand and for speed: the library's C interface under other names, as a yardstick for its
+// speed. Bytes in place, nothing allocated.
 // Each answers 0 or the refusal's number; what the pointers lead to is written only where the answer is 0.
 
 #ifndef PLAIN_H
@@ -15,5 +16,15 @@ uint32_t plain_write(const uint64_t *masks, size_t masks_len, uint64_t propositi
 
 uint32_t plain_central(const uint8_t *formula, size_t formula_len, uint64_t event, uint8_t *output, size_t output_len,
                        uint32_t *verdict, uint64_t *length);
+
+uint32_t plain_load(const uint8_t *file, size_t file_len, uint8_t *state, size_t state_len);
+
+uint32_t plain_sample(uint8_t *state, size_t state_len, uint64_t board, uint64_t bits);
+
+uint32_t plain_step(uint8_t *state, size_t state_len, uint64_t slot);
+
+uint32_t plain_close(const uint8_t *state, size_t state_len, uint8_t *second, size_t second_len);
+
+uint32_t plain_ask(const uint8_t *state, size_t state_len, uint32_t *verdict, uint32_t *ticks, uint64_t *slots, uint64_t *nodes);
 
 #endif

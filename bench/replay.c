@@ -4,8 +4,9 @@
 
 #include <inttypes.h>
 #include <stdio.h>
+#include <string.h>
 
-enum { READ = 1, WRITE, CENTRAL };
+enum { READ = 1, WRITE, CENTRAL, LOAD, SAMPLE, STEP, CLOSE, ASK, POKE };
 enum { MOST_FILE = 4096, MOST_MASKS = 32, MOST_BYTES = 8192 };
 
 struct request {
@@ -13,7 +14,7 @@ struct request {
     uint64_t v;
 };
 
-static uint8_t given[MOST_BYTES], lent[MOST_BYTES];
+static uint8_t given[MOST_BYTES], lent[MOST_BYTES], kept[MOST_BYTES];
 static uint64_t masks[MOST_MASKS];
 
 static uint64_t little_endian(const uint8_t *bytes, int count)
@@ -41,12 +42,12 @@ static uint64_t hashed(uint64_t hash, uint8_t byte)
     return (hash * 257 + byte + 1) % UINT64_C(4294967291);
 }
 
-static void print_lent(uint32_t count)
+static void print_bytes(const uint8_t *bytes, uint32_t count)
 {
     uint64_t hash = 1;
     for (uint32_t i = 0; i < count; i++)
-        hash = hashed(hash, lent[i]);
-    printf(" %" PRIu64 "\n", hash);
+        hash = hashed(hash, bytes[i]);
+    printf(" %" PRIu64, hash);
 }
 
 static void print_masks(uint32_t count)
@@ -74,7 +75,7 @@ static int answer_read(struct request r)
     if (number == 0)
         printf(" %" PRIu64 " %" PRIu64 " %" PRIu64, boards, propositions, nodes);
     print_masks(r.b);
-    print_lent(r.c);
+    print_bytes(lent, r.c);
     return 1;
 }
 
@@ -96,7 +97,7 @@ static int answer_write(struct request r)
     printf("%" PRIu32, number);
     if (number == 0)
         printf(" %" PRIu64, length);
-    print_lent(r.c);
+    print_bytes(lent, r.c);
     return 1;
 }
 
@@ -111,7 +112,80 @@ static int answer_central(struct request r)
     printf("%" PRIu32, number);
     if (number == 0)
         printf(" %" PRIu32 " %" PRIu64, verdict, length);
-    print_lent(r.c);
+    print_bytes(lent, r.c);
+    return 1;
+}
+
+// What an accepted load or close left becomes the kept state.
+static void keep(uint32_t number, uint32_t count)
+{
+    if (number == 0)
+        memcpy(kept, lent, count);
+}
+
+static int answer_load(struct request r)
+{
+    if (r.a > MOST_FILE || r.c > MOST_BYTES || !take(given, r.a))
+        return 0;
+    fill_lent(r.c);
+    uint32_t number = plain_load(given, r.a, lent, r.c);
+    printf("%" PRIu32, number);
+    print_bytes(lent, r.c);
+    keep(number, r.c);
+    return 1;
+}
+
+static int answer_sample(struct request r)
+{
+    uint8_t board[8];
+    if (r.b > MOST_BYTES || !take(board, 8))
+        return 0;
+    printf("%" PRIu32, plain_sample(kept, r.b, little_endian(board, 8), r.v));
+    print_bytes(kept, r.b);
+    return 1;
+}
+
+static int answer_step(struct request r)
+{
+    if (r.b > MOST_BYTES)
+        return 0;
+    printf("%" PRIu32, plain_step(kept, r.b, r.v));
+    print_bytes(kept, r.b);
+    return 1;
+}
+
+static int answer_close(struct request r)
+{
+    if (r.b > MOST_BYTES || r.c > MOST_BYTES)
+        return 0;
+    fill_lent(r.c);
+    uint32_t number = plain_close(kept, r.b, lent, r.c);
+    printf("%" PRIu32, number);
+    print_bytes(kept, r.b);
+    print_bytes(lent, r.c);
+    keep(number, r.c);
+    return 1;
+}
+
+static int answer_ask(struct request r)
+{
+    uint32_t verdict, ticks;
+    uint64_t slots, nodes;
+    if (r.b > MOST_BYTES)
+        return 0;
+    uint32_t number = plain_ask(kept, r.b, &verdict, &ticks, &slots, &nodes);
+    printf("%" PRIu32, number);
+    if (number == 0)
+        printf(" %" PRIu32 " %" PRIu32 " %" PRIu64 " %" PRIu64, verdict, ticks, slots, nodes);
+    print_bytes(kept, r.b);
+    return 1;
+}
+
+static int answer_poke(struct request r)
+{
+    if (r.b > MOST_BYTES || r.a > MOST_BYTES - r.b || !take(kept + r.b, r.a))
+        return 0;
+    printf("0");
     return 1;
 }
 
@@ -126,6 +200,18 @@ static int answer(const uint8_t *header)
         return answer_write(r);
     case CENTRAL:
         return answer_central(r);
+    case LOAD:
+        return answer_load(r);
+    case SAMPLE:
+        return answer_sample(r);
+    case STEP:
+        return answer_step(r);
+    case CLOSE:
+        return answer_close(r);
+    case ASK:
+        return answer_ask(r);
+    case POKE:
+        return answer_poke(r);
     default:
         return 0;
     }
@@ -135,10 +221,12 @@ int main(void)
 {
     uint8_t header[24];
     size_t got;
-    while ((got = fread(header, 1, sizeof header, stdin)) != 0)
+    while ((got = fread(header, 1, sizeof header, stdin)) != 0) {
         if (got != sizeof header || !answer(header)) {
             puts("bad request");
             return 0;
         }
+        putchar('\n');
+    }
     return 0;
 }

@@ -1,0 +1,144 @@
+// The calls of a watch: load, sample, step, close, ask. Each looks at the whole state first, in one pass, and writes when nothing
+// is left to be refused.
+
+#include "../plain.h"
+#include "layout.h"
+#include "progress.h"
+#include "rules.h"
+
+static void write_state(uint8_t *state, const uint64_t *masks, size_t boards, uint32_t ticks, const struct layout *l)
+{
+    size_t nodes = nodes_at(boards, l->slots);
+    const uint64_t fields[6] = {boards, l->slots, l->nodes, HEADER, slots_at(boards), nodes};
+    for (size_t i = 0; i < 6; i++)
+        put_little_endian(state + 2 * i, 2, fields[i]);
+    put_little_endian(state + 12, 4, ticks);
+    for (size_t i = 0; i < boards; i++) {
+        uint8_t *record = state + HEADER + BOARD * i;
+        put_little_endian(record, 8, masks[i]);
+        put_little_endian(record + 8, 8, 0);
+        record[16] = 0;
+    }
+    for (size_t i = 0; i < l->slots; i++) {
+        uint8_t *record = state + slots_at(boards) + SLOT * i;
+        record[0] = l->slot[i].board;
+        record[1] = 0;
+        put_little_endian(record + 2, 2, l->slot[i].start);
+        put_little_endian(record + 4, 2, l->slot[i].length);
+    }
+    copy_bytes(state + nodes, l->node, l->nodes);
+    clear_bytes(state + nodes + l->nodes, STATE_BYTES - nodes - l->nodes);
+}
+
+uint32_t plain_load(const uint8_t *file, size_t file_len, uint8_t *state, size_t state_len)
+{
+    struct rule rule;
+    struct layout layout;
+    if (state_len != STATE_BYTES)
+        return LENGTH;
+    uint32_t refusal = rule_of(file, file_len, &rule);
+    if (refusal == 0)
+        refusal = lay_rule(rule.formula, rule.nodes, rule.masks, rule.boards, &layout);
+    if (refusal == 0)
+        write_state(state, rule.masks, rule.boards, 0, &layout);
+    return refusal;
+}
+
+// 0 where the state passes the check and is not finished.
+static uint32_t begun(const uint8_t *state, size_t state_len, struct network *n)
+{
+    if (network_of(state, state_len, n) != 0)
+        return STATE;
+    return is_finished(n) ? FINISHED : 0;
+}
+
+uint32_t plain_sample(uint8_t *state, size_t state_len, uint64_t board, uint64_t bits)
+{
+    struct network n;
+    uint32_t refusal = begun(state, state_len, &n);
+    if (refusal != 0)
+        return refusal;
+    if (board >= n.boards)
+        return NO_SUCH;
+    if (bits & ~n.masks[board])
+        return BITS;
+    if (n.sampled >> board & 1)
+        return ALREADY;
+    uint8_t *record = state + HEADER + BOARD * board;
+    put_little_endian(record + 8, 8, bits);
+    record[16] = 1;
+    return 0;
+}
+
+// The nodes of the operand that begins at each place of a whole formula.
+static void measure(const uint8_t *formula, size_t count, uint16_t *nodes)
+{
+    for (size_t i = count; i-- > 0;) {
+        uint8_t code = formula[i];
+        size_t size = 1;
+        if (code >= NOT && code < CODES)
+            size += nodes[i + 1];
+        if (code == AND || code == OR || code == UNTIL)
+            size += nodes[i + size];
+        nodes[i] = (uint16_t)size;
+    }
+}
+
+uint32_t plain_step(uint8_t *state, size_t state_len, uint64_t slot)
+{
+    struct network n;
+    uint32_t refusal = begun(state, state_len, &n);
+    if (refusal != 0)
+        return refusal;
+    if (slot >= n.slots)
+        return NO_SUCH;
+    if (n.stepped >> slot & 1)
+        return ALREADY;
+    size_t board = n.slot[slot].board, length = n.slot[slot].length;
+    if (!(n.sampled >> board & 1) || n.holds[slot] & ~n.stepped)
+        return NOT_READY;
+    uint8_t *formula = state + nodes_at(n.boards, n.slots) + n.slot[slot].start;
+    uint8_t output[MOST];
+    uint16_t nodes[MOST], laid[MOST];
+    measure(formula, length, nodes);
+    struct work w = {formula, nodes, n.samples[board], n.constant, n.value, output, laid, length};
+    progress(&w);
+    size_t count = length - w.front;
+    copy_bytes(formula, output + w.front, count);
+    clear_bytes(formula + count, length - count);
+    uint8_t *record = state + slots_at(n.boards) + SLOT * slot;
+    record[1] = 1;
+    put_little_endian(record + 4, 2, count);
+    return 0;
+}
+
+uint32_t plain_close(const uint8_t *state, size_t state_len, uint8_t *second, size_t second_len)
+{
+    struct network n;
+    struct layout layout;
+    if (second_len != STATE_BYTES)
+        return LENGTH;
+    uint32_t refusal = begun(state, state_len, &n);
+    if (refusal != 0)
+        return refusal;
+    if (n.sampled != UINT64_MAX >> (64 - n.boards) || n.stepped != UINT64_MAX >> (64 - n.slots))
+        return NOT_READY;
+    if (n.ticks == UINT32_MAX)
+        return TICKS;
+    refusal = lay_again(&n, &layout);
+    if (refusal == 0)
+        write_state(second, n.masks, n.boards, n.ticks + 1, &layout);
+    return refusal;
+}
+
+uint32_t plain_ask(const uint8_t *state, size_t state_len, uint32_t *verdict, uint32_t *ticks, uint64_t *slots, uint64_t *nodes)
+{
+    struct network n;
+    if (network_of(state, state_len, &n) != 0)
+        return STATE;
+    *verdict = is_finished(&n) ? (uint32_t)n.value : PENDING;
+    *ticks = n.ticks;
+    *slots = n.slots;
+    *nodes = n.nodes;
+    return 0;
+}
