@@ -1,17 +1,15 @@
 -- Unfolding into the output, resolving there, moving the result to the front and clearing the rest is progression:
 -- `progress-done`. `verdict-first`: the first byte of a formula says its verdict. Assumes nothing.
-use mathlib.Core.Path.{_≡_, refl, sym, ap, ap₂, _∙_, subst}
+use mathlib.Core.Path.{_≡_, refl, ap, ap₂, _∙_, subst}
 use mathlib.Core.Bool.{true, false}
 use mathlib.Core.List.{List, _++_}
-use Prim.Native.Nat.{ℕ, _+_, _-_, _^_, _<_, _≤_}
+use Prim.Native.Nat.{ℕ, _+_, _-_, _^_}
 use native.Mathlib.Nat.{zero-div}
 use native.Mathlib.Omega.{arith}
-use lib.ListN.{length, getD, take, drop, replicate, length-drop}
-use lib.Seq.{take-at, drop-at}
+use lib.ListN.{length, getD, take, drop, replicate}
 use borrow.Author.Tests.{ne-eqb}
 use Rattle.lists.specs.Tests.{pick, bit}
 use Rattle.lists.specs.Runs.{tail, padded}
-use Rattle.lists.proofs.Parts.{tail-is, handed-tail}
 use Rattle.kinds.specs.declared.Leaf.the-variants.{Const, Prop, Hold}
 use Rattle.kinds.specs.declared.Unary.the-variants.{Not, Next, Eventually, Always}
 use Rattle.kinds.specs.declared.Binary.the-variants.{Joined, Until}
@@ -20,13 +18,14 @@ use Rattle.answers.specs.declared.Verdict.the-variants.{Pending}
 use Rattle.ltl.specs.Formula.{Formula, leaf, one, two, join, size, encode, Within}
 use Rattle.ltl.specs.Meaning.{Event}
 use Rattle.ltl.specs.Progression.{unfolded, resolved, progressed, verdictOf, filled, filledBy}
-use Rattle.ltl.proofs.Texts.{unfolded-coded, size-some, length-encode}
+use Rattle.ltl.proofs.Texts.{unfolded-coded}
 use Rattle.nodes.specs.Begins.{Front}
 use Rattle.resolving.specs.declared.Seen.{Seen}
 use Rattle.resolving.specs.declared.Settled.{Settled}
 use Rattle.resolving.specs.Settles.{heldBy, settled, Stands, Makes}
 use Rattle.resolving.proofs.Firsts.{first, first-is, unary-high, binary-high}
-use Rattle.resolving.proofs.Places.{stands-length, stands-bounds}
+use Rattle.resolving.proofs.Results.{Result, result-done}
+use Rattle.resolving.proofs.Results as standing
 use Rattle.unfolding.specs.Unfolds.{UnfoldedTo}
 use Rattle.central.specs.Central.{verdictByte}
 
@@ -79,39 +78,8 @@ module _ (event : Event) (f : Formula) (out out₁ out₂ : List ℕ) (at : Sett
   stood : Stands (progressed event f) out₂ rest at
   stood = subst (λ (g : Formula). Stands g out₂ rest at) (settled-alone event (unfolded f)) (m (unfolded f) rest unfolded-front .stands)
 
-  pub record Result : Type 0 where
-    pub order : at .start ≤ at .end
-    pub length-is : at .end - at .start ≡ size (progressed event f)
-    pub within : at .end ≤ length out₂
-    pub some : 0 < at .end - at .start
-
-  pub result : Result
-  result =
-      let b = stands-bounds (progressed event f) out₂ rest at stood in
-      let l = stands-length (progressed event f) out₂ rest at stood in
-      let e = stood .end-is in
-      let z = size-some (progressed event f) in
-      record { order = omega arith; length-is = omega arith; within = omega arith; some = omega arith }
-
-  pub moved : (n : ℕ) (out₃ : List ℕ) → n ≡ at .end - at .start → out₃ ≡ take n (drop (at .start) out₂) ++ drop n out₂
-      → out₃ ≡ encode (progressed event f) ++ drop (size (progressed event f)) out₂
-  moved n out₃ k e =
-      let g = progressed event f in
-      let r = result in
-      let q : n ≡ size g = k ∙ r .length-is in
-      e ∙ ap (λ (i : ℕ). take i (drop (at .start) out₂) ++ drop i out₂) q
-      ∙ ap (_++ drop (size g) out₂)
-      (ap (take (size g)) (ap (drop (at .start)) (stood .bytes) ∙ drop-at (stood .low) (encode g ++ (stood .high ++ rest)) (at .start) (sym (stood .start-is)))
-      ∙ take-at (encode g) (stood .high ++ rest) (size g) (length-encode g))
-
--- the rest cleared
-pub cleared : (g : Formula) (out₃ z more : List ℕ) (n : ℕ) → out₃ ≡ encode g ++ more → n ≡ size g → z ≡ replicate (length (tail n out₃)) 0
-    → take n out₃ ++ (z ++ drop (length out₃ - n) (drop n out₃)) ≡ padded (length out₃) (encode g)
-cleared g out₃ z more n e k q =
-    let l = length-encode g in
-    let a = handed-tail out₃ (encode g) more n e (l ∙ sym k) z in
-    let t : length (tail n out₃) ≡ length out₃ - length (encode g) = ap length (tail-is n out₃) ∙ length-drop n out₃ ∙ ap (length out₃ -_) (k ∙ sym l) in
-    a ∙ ap (encode g ++_) (q ∙ ap (λ (i : ℕ). replicate i 0) t)
+  pub result : Result (progressed event f) out₂ at
+  result = standing.result (progressed event f) out₂ rest at stood
 
 -- all of it: the result at the front, and zeros up to the output's end
 pub progress-done : (event : Event) (f : Formula) (out out₁ out₂ out₃ z : List ℕ) (at : Settled) (n read written : ℕ) → Within 64 64 f
@@ -120,7 +88,5 @@ pub progress-done : (event : Event) (f : Formula) (out out₁ out₂ out₃ z : 
     → (take n out₃ ++ (z ++ drop (length out₃ - n) (drop n out₃)) ≡ padded (length out) (encode (progressed event f))) × (n ≡ size (progressed event f))
 progress-done event f out out₁ out₂ out₃ z at n read written c u m k e q l =
     let g = progressed event f in
-    let r = result event f out out₁ out₂ at c read written u m in
-    let b = moved event f out out₁ out₂ at c read written u m n out₃ k e in
-    let i : n ≡ size g = k ∙ r .length-is in
-    (cleared g out₃ z (drop (size g) out₂) n b i q ∙ ap (λ (j : ℕ). padded j (encode g)) l, i)
+    let d = result-done g out₂ out₃ z (drop (size (unfolded f)) out) at n (stood event f out out₁ out₂ at c read written u m) k e q in
+    (d .0 ∙ ap (λ (j : ℕ). padded j (encode g)) l, d .1)

@@ -36,7 +36,7 @@ fn lengths_ok(formula: usize, output: usize) -> bool
 }
 
 // The verdict of the formula whose first byte is b.
-fn verdict(b: u8) -> Verdict
+pub fn verdict(b: u8) -> Verdict
     ensures { λ r. ⌜ r ≡ verdictByte b ⌝ }
 {
     if b == 0 {

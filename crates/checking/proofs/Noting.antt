@@ -22,7 +22,7 @@ use Rattle.scanning.specs.OnePass.{noted}
 use Rattle.checking.proofs.Each.{both-false, both-last}
 use Rattle.checking.proofs.Allowing.{no-bits}
 
-either-false : (b : Bool) → either b false ≡ b
+pub either-false : (b : Bool) → either b false ≡ b
 unfolding either
 either-false true = refl
 either-false false = refl

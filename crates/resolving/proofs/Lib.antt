@@ -5,3 +5,4 @@ pub mod Places
 pub mod Members
 pub mod Sides
 pub mod Walks
+pub mod Results

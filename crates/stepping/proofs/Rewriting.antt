@@ -1,0 +1,161 @@
+-- What the writers leave: a formula rewritten at the front of its bytes (`rewrite-done`), and a slot marked, rewritten and its length
+-- put (`put-done`). Assumes nothing.
+use mathlib.Core.Path.{_≡_, sym, ap, ap₂, _∙_}
+use mathlib.Core.List.{List, [], _++_, append-assoc, append-nil}
+use Prim.Native.Nat.{ℕ, _+_, _-_, _*_, _<_, _≤_}
+use native.Mathlib.Omega.{arith}
+use native.Mathlib.Nat.{zero-add}
+use lib.ListN.{length, take, drop, set, replicate, length-append, length-replicate, length-set}
+use lib.Seq.{drop-at, drop-drop, drop-set-lt, length-take-le, take-take, take-append-le, drop-append-le, take-append-add, drop-append-add}
+use Rattle.lists.specs.Runs.{tail, padded}
+use Rattle.lists.proofs.Stretches.{take-two}
+use Rattle.le.specs.Le.{le}
+use Rattle.le.proofs.Laws.{le-length}
+use Rattle.ltl.specs.Formula.{Formula, size, encode}
+use Rattle.ltl.proofs.Texts.{length-encode}
+use Rattle.nodes.specs.Begins.{Front, Begins}
+use Rattle.state.specs.Fields.{boardsIn, slotsIn, nodesAt, slotRecordAt, startIn, lengthIn}
+use Rattle.state.specs.Bytes.{formulaAt}
+use Rattle.state.specs.Calls.{putAt}
+use Rattle.checking.proofs.Records.{bytes-at}
+use Rattle.passing.proofs.Stepping.{resolved-no-longer}
+use Rattle.resolving.specs.declared.Seen.{Seen}
+use Rattle.resolving.specs.declared.Settled.{Settled}
+use Rattle.resolving.specs.Settles.{heldBy, settled, Makes}
+use Rattle.resolving.proofs.Results.{Result, result-done}
+use Rattle.resolving.proofs.Results as standing
+use Rattle.stepping.specs.Seeing.{Counted}
+use Rattle.stepping.specs.Step.{Rewritten, steppedAs}
+use Rattle.stepping.proofs.Counting.{placed, slot-passing, lying}
+
+-- ---- a formula's bytes
+module _ (seen : Seen) (p p₁ : List ℕ) (at : Settled) (m : Makes (settled seen) 0 p p₁ at) where
+  -- where the result stands
+  pub rewrite-result : (b : Begins p) → Result (settled seen (b .formula)) p₁ at
+  rewrite-result b = standing.result (settled seen (b .formula)) p₁ (b .rest) at (m (b .formula) (b .rest) (b .front) .stands)
+
+  pub rewrite-done : (n : ℕ) (p₂ z : List ℕ) → n ≡ at .end - at .start → p₂ ≡ take n (drop (at .start) p₁) ++ drop n p₁
+      → z ≡ replicate (length (tail n p₂)) 0 → length p₂ ≡ length p → Rewritten seen p (take n p₂ ++ (z ++ drop (length p₂ - n) (drop n p₂))) n
+  rewrite-done n p₂ z k e q l =
+      record {
+        bytes = λ f rest x.
+            (let d = result-done (settled seen f) p₁ p₂ z rest at n (m f rest x .stands) k e q in
+            d .0 ∙ ap (λ (i : ℕ). padded i (encode (settled seen f))) l);
+        count = λ f rest x. result-done (settled seen f) p₁ p₂ z rest at n (m f rest x .stands) k e q .1;
+      }
+
+-- ---- bytes put in two places, in either order
+module _ (s xs ys : List ℕ) (a b : ℕ) (apart : a + length xs ≤ b) (room : b + length ys ≤ length s) where
+  abbrev low : List ℕ
+  low = take a s ++ xs
+
+  abbrev behind : List ℕ
+  behind = drop (a + length xs) s
+
+  abbrev back : List ℕ
+  back = ys ++ drop (b + length ys) s
+
+  abbrev between : ℕ
+  between = b - (a + length xs)
+
+  low-length : length low ≡ a + length xs
+  low-length = omega (arith, length-append (take a s) xs, length-take-le a s (omega arith))
+
+  middle : drop (a + length xs) (take b s) ≡ take between behind
+  middle =
+      let c = a + length xs in
+      let e : b ≡ c + between = omega arith in
+      ap (drop c) (ap (λ (i : ℕ). take i s) e ∙ take-two s 0 c between)
+      ∙ drop-at (take c s) (take between (drop (0 + c) s)) c (length-take-le c s (omega arith))
+      ∙ ap (λ (i : ℕ). take between (drop i s)) (zero-add c)
+
+  put-swap : putAt a xs (putAt b ys s) ≡ putAt b ys (putAt a xs s)
+  put-swap =
+      let front = length-take-le b s (omega arith) in
+      let l = low-length in
+      let start : b ≡ length low + between = omega arith in
+      let end : b + length ys ≡ length low + (between + length ys) = omega arith in
+      let last : a + length xs + (between + length ys) ≡ b + length ys = omega arith in
+      let whole : putAt a xs s ≡ low ++ behind = sym (append-assoc (take a s) xs behind) in
+      ap₂ (λ (x y : List ℕ). x ++ (xs ++ y))
+      (take-append-le a (take b s) back (omega arith) ∙ take-take a b s (omega arith))
+      (drop-append-le (a + length xs) (take b s) back (omega arith) ∙ ap (_++ back) middle)
+      ∙ sym (append-assoc (take a s) xs (take between behind ++ back))
+      ∙ sym (append-assoc low (take between behind) back)
+      ∙ sym
+      (ap₂ (λ (x y : List ℕ). x ++ (ys ++ y))
+      (ap₂ take start whole ∙ take-append-add low behind between)
+      (ap₂ drop end whole ∙ drop-append-add low behind (between + length ys) ∙ drop-drop (between + length ys) (a + length xs) s ∙ ap (λ (i : ℕ). drop i s) last))
+
+-- ---- a slot
+module _ (s : List ℕ) (b n m k : ℕ) (c : Counted s b n m) (l : k < n) (seen : Seen) where
+  abbrev nodes : ℕ
+  nodes = 16 + 17 * b + 6 * n
+
+  -- the state with the slot's mark set
+  abbrev marked : List ℕ
+  marked = set s (16 + 17 * b + 6 * k + 1) 1
+
+  abbrev result : Formula
+  result = settled seen (formulaAt s k)
+
+  pub result-fits : size result ≤ lengthIn s k
+  result-fits = omega (arith, resolved-no-longer (seen .event) (heldBy seen) (formulaAt s k), slot-passing s b n m k c l .length-is)
+
+  module _ (start end : ℕ) (es : start ≡ startIn s k) (ee : end ≡ startIn s k + lengthIn s k) where
+    abbrev lent : List ℕ
+    lent = take (nodes + end - (nodes + start)) (drop (nodes + start) marked)
+
+    lent-is : lent ≡ encode (formulaAt s k)
+    lent-is =
+        ap (take (nodes + end - (nodes + start))) (drop-set-lt (nodes + start) s (16 + 17 * b + 6 * k + 1) 1 (omega arith))
+        ∙ bytes-at s b n m k (placed s b n m k c l) start end es ee ∙ slot-passing s b n m k c l .bytes
+
+    lent-front : Front lent (formulaAt s k) []
+    lent-front = record { coded = slot-passing s b n m k c l .coded; bytes = lent-is ∙ sym (append-nil (encode (formulaAt s k))) }
+
+    pub lent-begins : Begins lent
+    lent-begins = record { formula = formulaAt s k; rest = []; front = lent-front }
+
+    module _ (y : List ℕ) (w : ℕ) (r : Rewritten seen lent y w) where
+      count-is : w ≡ size result
+      count-is = r .count (formulaAt s k) [] lent-front
+
+      pub count-few : w ≤ 4096
+      count-few = let x = lying s b n m k c l in omega (arith, count-is, result-fits)
+
+      bytes-are : y ≡ padded (lengthIn s k) (encode result)
+      bytes-are =
+          r .bytes (formulaAt s k) [] lent-front
+          ∙ ap (λ (i : ℕ). padded i (encode result)) (ap length lent-is ∙ length-encode (formulaAt s k) ∙ sym (slot-passing s b n m k c l .length-is))
+
+      bytes-many : length (padded (lengthIn s k) (encode result)) ≡ lengthIn s k
+      bytes-many =
+          let z = lengthIn s k - length (encode result) in
+          omega (arith, result-fits, length-encode result, length-append (encode result) (replicate z 0), length-replicate {A = ℕ} z 0)
+
+      pub put-done : (s₁ : List ℕ) → s₁ ≡ take (nodes + start) marked ++ (y ++ drop (nodes + end - (nodes + start)) (drop (nodes + start) marked))
+          → take (16 + 17 * b + 6 * k + 4) s₁ ++ (le 2 w ++ drop (16 + 17 * b + 6 * k + 4 + 2) s₁) ≡ steppedAs result s k
+      put-done s₁ e =
+          let q = c .header .boards-are in
+          let t = c .header .slots-are in
+          let x = lying s b n m k c l in
+          let at = slotRecordAt s k in
+          let node = nodesAt (boardsIn s) (slotsIn s) + startIn s k in
+          let bytes = padded (lengthIn s k) (encode result) in
+          let number = le 2 (size result) in
+          let mark = set s (at + 1) 1 in
+          let width = nodes + end - (nodes + start) in
+          let at-is : 16 + 17 * b + 6 * k ≡ at = omega arith in
+          let node-is : nodes + start ≡ node = omega arith in
+          let end-is : node + width ≡ node + length bytes = omega (arith, bytes-many) in
+          let two = le-length 2 (size result) in
+          let put : s₁ ≡ putAt node bytes mark =
+          e ∙ ap (λ (z : List ℕ). take (nodes + start) z ++ (y ++ drop width (drop (nodes + start) z))) (ap (λ (i : ℕ). set s (i + 1) 1) at-is)
+          ∙ ap₂ (λ (i : ℕ) (z : List ℕ). take i mark ++ (z ++ drop width (drop i mark))) node-is bytes-are
+          ∙ ap (λ (z : List ℕ). take node mark ++ (bytes ++ z)) (drop-drop width node mark ∙ ap (λ (i : ℕ). drop i mark) end-is) in
+          let after : at + 4 + 2 ≡ at + 4 + length number = omega arith in
+          ap₂ (λ (i v : ℕ). take (i + 4) s₁ ++ (le 2 v ++ drop (i + 4 + 2) s₁)) at-is count-is
+          ∙ ap (λ (i : ℕ). take (at + 4) s₁ ++ (number ++ drop i s₁)) after
+          ∙ ap (putAt (at + 4) number) put
+          ∙ put-swap mark number bytes (at + 4) node (omega arith) (omega (arith, bytes-many, length-set s (at + 1) 1))

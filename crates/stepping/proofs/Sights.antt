@@ -1,0 +1,171 @@
+-- The pass over a slot's bytes sees what the slot sees: one turn (`sight-next`, `sight-wait`, `sight-end`), and a whole slot
+-- (`sight-unsampled`, `sight-sampled`). Place holders are of slots that are there: `slot-holds`. Assumes nothing.
+use mathlib.Core.Path.{_≡_, refl, sym, ap, _∙_}
+use mathlib.Core.Bool.{Bool, true, false}
+use mathlib.Core.List.{List, [], _∷_, _++_, append-assoc, append-nil}
+use Prim.Native.Nat.{ℕ, zero, suc, _+_, _-_, _<_, _≤_}
+use native.Mathlib.Numerals.{add-one}
+use native.Mathlib.Omega.{arith}
+use lib.ListN.{length, getD, drop, drop-of-length-le}
+use lib.Seq.{drop-cons}
+use lib.Dec.{eqb}
+use borrow.Author.Tests.{lt-ltb, le-ltb, eq-eqb, ne-eqb}
+use Rattle.lists.specs.Tests.{pick, both}
+use Rattle.kinds.specs.declared.Leaf.the-variants.{Const, Prop, Hold}
+use Rattle.kinds.specs.declared.Unary.{Unary}
+use Rattle.kinds.specs.declared.Unary.the-variants.{Not, Next, Eventually, Always}
+use Rattle.kinds.specs.declared.Join.the-variants.{And, Or}
+use Rattle.kinds.specs.declared.Binary.{Binary}
+use Rattle.kinds.specs.declared.Binary.the-variants.{Joined, Until}
+use Rattle.kinds.specs.Kinds.{unaryCode, binaryCode}
+use Rattle.ltl.specs.Formula.{Formula, leaf, one, two, encode, Within}
+use Rattle.network.specs.Tick.{holdsOnly}
+use Rattle.masks.specs.Masks.{sumOnes}
+use Rattle.state.specs.Fields.{slotsIn, sampleIn, sampledIn, masksIn, boardOfIn, steppedIn, slotBytes}
+use Rattle.state.specs.Clauses.{heldBy}
+use Rattle.state.specs.Bytes.{formulaAt}
+use Rattle.state.specs.Calls.{readyIn}
+use Rattle.passing.proofs.Passing.{SlotPassing}
+use Rattle.resolving.specs.declared.Seen.{Seen}
+use Rattle.stepping.specs.declared.seeing.Sight.{Sight}
+use Rattle.stepping.specs.declared.seeing.Sight.the-variants.{Waits, Sees}
+use Rattle.stepping.specs.Seeing.{Holds, answerIn, told, toldEach, sampleAlone, seenBy, sightIn, sightAfter, goOn, sightOver}
+use Rattle.stepping.proofs.Telling.{each-append}
+
+-- ---- the bytes of operators are below those of place holders
+unary-low : (o : Unary) → unaryCode o < 128
+unary-low Not = omega arith
+unary-low Next = omega arith
+unary-low Eventually = omega arith
+unary-low Always = omega arith
+
+binary-low : (o : Binary) → binaryCode o < 128
+binary-low (Joined And) = omega arith
+binary-low (Joined Or) = omega arith
+binary-low Until = omega arith
+
+module _ (s : List ℕ) where
+  -- a slot is stepped
+  abbrev stepped : ℕ → Bool
+  stepped m = eqb (steppedIn s m) 1
+
+  over-cons : (b : ℕ) (l : List ℕ) (x : Seen) → sightOver s (b ∷ l) x ≡ goOn (sightAfter s b x) (λ y. sightOver s l y)
+  unfolding sightOver
+  over-cons b l x = refl
+
+  -- ---- one turn of the pass
+  module _ (p : List ℕ) (i : ℕ) (x : Seen) where
+    turn : i < length p → sightOver s (drop i p) x ≡ goOn (sightAfter s (getD p i 0) x) (λ y. sightOver s (drop (i + 1) p) y)
+    turn h =
+        ap (λ (l : List ℕ). sightOver s l x) (drop-cons p i 0 h) ∙ over-cons (getD p i 0) (drop (suc i) p) x
+        ∙ ap (λ (j : ℕ). goOn (sightAfter s (getD p i 0) x) (λ y. sightOver s (drop j p) y)) (sym (add-one i))
+
+    pub sight-next : i < length p → (y : Seen) → sightAfter s (getD p i 0) x ≡ Sees y → sightOver s (drop i p) x ≡ sightOver s (drop (i + 1) p) y
+    sight-next h y e = turn h ∙ ap (λ (z : Sight). goOn z (λ y. sightOver s (drop (i + 1) p) y)) e
+
+    pub sight-wait : i < length p → sightAfter s (getD p i 0) x ≡ Waits → sightOver s (drop i p) x ≡ Waits
+    sight-wait h e = turn h ∙ ap (λ (z : Sight). goOn z (λ y. sightOver s (drop (i + 1) p) y)) e
+
+    pub sight-end : length p ≤ i → sightOver s (drop i p) x ≡ Sees x
+    unfolding sightOver
+    sight-end h = ap (λ (l : List ℕ). sightOver s l x) (drop-of-length-le p h)
+
+  -- ---- behind one node
+  pub after-low : (b : ℕ) (x : Seen) → b < 128 → sightAfter s b x ≡ Sees x
+  unfolding sightAfter pick
+  after-low b x h = rw (lt-ltb b 128 h)
+
+  after-held : (b : ℕ) (x : Seen) → 128 ≤ b → sightAfter s b x ≡ pick (stepped (b - 128)) (Sees (told x (b - 128) (answerIn s (b - 128)))) Waits
+  unfolding sightAfter pick
+  after-held b x h = rw (le-ltb b 128 h)
+
+  pub after-waits : (b : ℕ) (x : Seen) → 128 ≤ b → (steppedIn s (b - 128) ≡ 1 → ⊥) → sightAfter s b x ≡ Waits
+  unfolding pick
+  after-waits b x h n = after-held b x h ∙ rw (ne-eqb (steppedIn s (b - 128)) 1 n)
+
+  pub after-sees : (b : ℕ) (x : Seen) → 128 ≤ b → steppedIn s (b - 128) ≡ 1 → sightAfter s b x ≡ Sees (told x (b - 128) (answerIn s (b - 128)))
+  unfolding pick
+  after-sees b x h e = after-held b x h ∙ rw (eq-eqb (steppedIn s (b - 128)) 1 e)
+
+  over-low : (b : ℕ) (l : List ℕ) (x : Seen) → b < 128 → sightOver s (b ∷ l) x ≡ sightOver s l x
+  over-low b l x h = over-cons b l x ∙ ap (λ (z : Sight). goOn z (λ y. sightOver s l y)) (after-low b x h)
+
+  over-held : (m : ℕ) (l : List ℕ) (x : Seen) → sightOver s ((128 + m) ∷ l) x ≡ pick (stepped m) (sightOver s l (told x m (answerIn s m))) Waits
+  unfolding pick
+  over-held m l x =
+      let e : 128 + m - 128 ≡ m = omega arith in
+      over-cons (128 + m) l x ∙ ap (λ (z : Sight). goOn z (λ y. sightOver s l y)) (after-held (128 + m) x (omega arith)
+      ∙ ap (λ (n : ℕ). pick (stepped n) (Sees (told x n (answerIn s n))) Waits) e)
+      ∙ go (stepped m)
+    where
+      go : (b : Bool) → goOn (pick b (Sees (told x m (answerIn s m))) Waits) (λ y. sightOver s l y) ≡ pick b (sightOver s l (told x m (answerIn s m))) Waits
+      go true = refl
+      go false = refl
+
+  -- ---- a formula's bytes
+  pick-both : (a b : Bool) (y z : Sight) → pick a (pick b y z) z ≡ pick (both a b) y z
+  unfolding pick both
+  pick-both true b y z = refl
+  pick-both false b y z = refl
+
+  over-formula : (f : Formula) (l : List ℕ) (x : Seen) → Within 64 64 f
+      → sightOver s (encode f ++ l) x ≡ pick (holdsOnly stepped f) (sightOver s l (toldEach (answerIn s) (heldBy f) x)) Waits
+  unfolding holdsOnly heldBy pick
+  over-formula (leaf (Const true)) l x w = over-low 1 l x (omega arith)
+  over-formula (leaf (Const false)) l x w = over-low 0 l x (omega arith)
+  over-formula (leaf (Prop i)) l x w = over-low (64 + i) l x (omega arith)
+  over-formula (leaf (Hold m)) l x w = over-held m l x
+  over-formula (one o f) l x w = over-low (unaryCode o) (encode f ++ l) x (unary-low o) ∙ over-formula f l x w
+  over-formula (two o f g) l x w =
+      let y = toldEach (answerIn s) (heldBy f) x in
+      over-low (binaryCode o) ((encode f ++ encode g) ++ l) x (binary-low o)
+      ∙ ap (λ (k : List ℕ). sightOver s k x) (append-assoc (encode f) (encode g) l)
+      ∙ over-formula f (encode g ++ l) x (w .0)
+      ∙ ap (λ (z : Sight). pick (holdsOnly stepped f) z Waits) (over-formula g l y (w .1))
+      ∙ pick-both (holdsOnly stepped f) (holdsOnly stepped g) (sightOver s l (toldEach (answerIn s) (heldBy g) y)) Waits
+      ∙ ap (λ (z : Seen). pick (both (holdsOnly stepped f) (holdsOnly stepped g)) (sightOver s l z) Waits) (each-append (answerIn s) (heldBy f) (heldBy g) x)
+
+  -- ---- a whole slot
+  module _ (k : ℕ) where
+    pub sight-unsampled : (sampledIn s (boardOfIn s k) ≡ 1 → ⊥) → Waits ≡ sightIn s k
+    unfolding sightIn readyIn pick both
+    sight-unsampled h = rw (ne-eqb (sampledIn s (boardOfIn s k)) 1 h)
+
+    pub sight-sampled : SlotPassing s k → sampledIn s (boardOfIn s k) ≡ 1 → sightOver s (slotBytes s k) (sampleAlone (sampleIn s (boardOfIn s k))) ≡ sightIn s k
+    unfolding sightIn readyIn sightOver both
+    sight-sampled q e =
+        let f = formulaAt s k in
+        let x = sampleAlone (sampleIn s (boardOfIn s k)) in
+        ap (λ (l : List ℕ). sightOver s l x) (q .bytes ∙ sym (append-nil (encode f)))
+        ∙ over-formula f [] x (q .coded)
+        ∙ ap (λ (b : Bool). pick (both b (holdsOnly stepped f)) (Sees (seenBy s k)) Waits) (sym (eq-eqb (sampledIn s (boardOfIn s k)) 1 e))
+
+-- ---- place holders of slots that are there
+holds-cons : (n b : ℕ) (l : List ℕ) → b < 128 + n → Holds n l → Holds n (b ∷ l)
+holds-cons n b l h t zero = h
+holds-cons n b l h t (suc i) = t i
+
+holds-append : (n : ℕ) (l r : List ℕ) → Holds n l → Holds n r → Holds n (l ++ r)
+holds-append n [] r h t i = t i
+holds-append n (b ∷ l) r h t zero = h 0
+holds-append n (b ∷ l) r h t (suc i) = holds-append n l r (λ j. h (suc j)) t i
+
+holds-none : (n : ℕ) → Holds n []
+holds-none n i = omega arith
+
+holds-formula : (p n : ℕ) (f : Formula) → p ≤ 64 → Within p n f → Holds n (encode f)
+holds-formula p n (leaf (Const true)) l w = holds-cons n 1 [] (omega arith) (holds-none n)
+holds-formula p n (leaf (Const false)) l w = holds-cons n 0 [] (omega arith) (holds-none n)
+holds-formula p n (leaf (Prop i)) l w = holds-cons n (64 + i) [] (omega arith) (holds-none n)
+holds-formula p n (leaf (Hold m)) l w = holds-cons n (128 + m) [] (omega arith) (holds-none n)
+holds-formula p n (one o f) l w = let u = unary-low o in holds-cons n (unaryCode o) (encode f) (omega arith) (holds-formula p n f l w)
+holds-formula p n (two o f g) l w =
+    let u = binary-low o in
+    holds-cons n (binaryCode o) (encode f ++ encode g) (omega arith)
+    (holds-append n (encode f) (encode g) (holds-formula p n f l (w .0)) (holds-formula p n g l (w .1)))
+
+pub slot-holds : (s : List ℕ) (k : ℕ) → SlotPassing s k → sumOnes (masksIn s) ≤ 64 → Holds (slotsIn s) (slotBytes s k)
+slot-holds s k q l i =
+    let h = holds-formula (sumOnes (masksIn s)) (slotsIn s) (formulaAt s k) l (q .within) i in
+    let e = ap (λ (b : List ℕ). getD b i 0) (q .bytes) in
+    omega arith

@@ -1,0 +1,72 @@
+-- What a slot sees when it is stepped: its board's sample, and which of the slots that it holds are true and which are false. Assumes
+-- nothing: these are definitions.
+use mathlib.Core.Path.{_≡_}
+use mathlib.Core.Bool.{true}
+use mathlib.Core.List.{List, [], _∷_}
+use Prim.Native.Nat.{ℕ, _+_, _-_, _^_, _<_}
+use lib.ListN.{getD}
+use lib.Dec.{ltb, eqb}
+use lib.Bits.{bitOr}
+use Rattle.lists.specs.Tests.{pick}
+use Rattle.answers.specs.declared.Verdict.{Verdict}
+use Rattle.answers.specs.declared.Verdict.the-variants.{False, True, Pending}
+use Rattle.ltl.specs.Progression.{verdictOf}
+use Rattle.state.specs.Fields.{sampleIn, boardOfIn, steppedIn}
+use Rattle.state.specs.Clauses.{heldBy, stateOk}
+use Rattle.state.specs.Bytes.{formulaAt}
+use Rattle.state.specs.Calls.{readyIn}
+use Rattle.checking.specs.Header.{Header}
+use Rattle.resolving.specs.declared.Seen.{Seen}
+use Rattle.stepping.specs.declared.seeing.Sight.{Sight}
+use Rattle.stepping.specs.declared.seeing.Sight.the-variants.{Waits, Sees}
+
+-- a state that passes its check, and its counts
+pub record Counted (s : List ℕ) (boards slots nodes : ℕ) : Type 0 where
+  pub passes : stateOk s ≡ true
+  pub header : Header s boards slots nodes
+
+-- the place holders among some bytes are of slots below n
+abbrev pub Holds : ℕ → List ℕ → Type 0
+Holds n p = (i : ℕ) → getD p i 0 < 128 + n
+
+-- slot m is true, false or neither
+abbrev pub answerIn : List ℕ → ℕ → Verdict
+answerIn s m = verdictOf (formulaAt s m)
+
+-- what is seen once slot m is seen to be so
+abbrev pub told : Seen → ℕ → Verdict → Seen
+told x m True = record { event = x .event; yes = bitOr (x .yes) (2 ^ m); no = x .no }
+told x m False = record { event = x .event; yes = x .yes; no = bitOr (x .no) (2 ^ m) }
+told x m Pending = x
+
+-- the same of some slots, one after the other
+abbrev pub toldEach : (ℕ → Verdict) → List ℕ → Seen → Seen
+toldEach answer [] x = x
+toldEach answer (m ∷ ms) x = toldEach answer ms (told x m (answer m))
+
+-- a sample, with nothing seen of any slot yet
+abbrev pub sampleAlone : ℕ → Seen
+sampleAlone event = record { event = event; yes = 0; no = 0 }
+
+-- what slot k sees: its board's sample and each slot that it holds
+abbrev pub seenBy : List ℕ → ℕ → Seen
+seenBy s k = toldEach (answerIn s) (heldBy (formulaAt s k)) (sampleAlone (sampleIn s (boardOfIn s k)))
+
+-- where it is ready
+unfoldable pub sightIn : List ℕ → ℕ → Sight
+sightIn s k = pick (readyIn s k) (Sees (seenBy s k)) Waits
+
+-- ---- the pass over its bytes
+-- behind a node: a place holder's slot is looked at
+unfoldable pub sightAfter : List ℕ → ℕ → Seen → Sight
+sightAfter s b x =
+    pick (ltb b 128) (Sees x)
+    (pick (eqb (steppedIn s (b - 128)) 1) (Sees (told x (b - 128) (answerIn s (b - 128)))) Waits)
+
+abbrev pub goOn : Sight → (Seen → Sight) → Sight
+goOn (Sees x) rest = rest x
+goOn Waits rest = Waits
+
+unfoldable pub sightOver : List ℕ → List ℕ → Seen → Sight
+sightOver s [] x = Sees x
+sightOver s (b ∷ l) x = goOn (sightAfter s b x) (λ y. sightOver s l y)

@@ -1,0 +1,96 @@
+// What a slot sees when it is stepped, found in one pass over its bytes: whether it is ready, and what the slots are that it holds.
+ghost use mathlib.Core.Path.{_≡_};
+ghost use Prim.Native.Nat.{_+_, _<_};
+ghost use Rattle.stepping.specs.Seeing.{Counted, Holds, answerIn, told, sightAfter, sightOver, sightIn};
+use answers::Verdict;
+use checking::Counts;
+use kinds::Kind;
+use resolving::Seen;
+
+// A slot that is not ready waits; another sees its board's sample and what the slots are that it holds.
+pub enum Sight {
+    Waits,
+    Sees(Seen),
+}
+
+// Whether slot m is true, false or neither. No other formula's bytes begin as a constant does.
+fn answer_of(s: &[u8], c: Counts, m: usize) -> Verdict
+    requires { ⌜ Counted (now s) (c .boards) (c .slots) (c .nodes) × (m < c .slots) ⌝ }
+    ensures { λ r. ⌜ r ≡ answerIn (now (s .entry)) m ⌝ }
+{
+    let start = le::u16_at(s, 16 + 17 * c.boards + 6 * m + 2) as usize;
+    central::verdict(s[16 + 17 * c.boards + 6 * c.slots + start])
+}
+
+// What is seen once slot m is seen to be v.
+fn with_answer(seen: Seen, m: u8, v: Verdict) -> Seen
+    requires { ⌜ m < 64 ⌝ }
+    ensures { λ r. ⌜ r ≡ told seen m v ⌝ }
+{
+    match v {
+        Verdict::True => Seen {
+            event: seen.event,
+            yes: seen.yes | (1u64 << m),
+            no: seen.no,
+        },
+        Verdict::False => Seen {
+            event: seen.event,
+            yes: seen.yes,
+            no: seen.no | (1u64 << m),
+        },
+        Verdict::Pending => seen,
+    }
+}
+
+// One node further.
+fn sight_after(b: u8, s: &[u8], c: Counts, seen: Seen) -> Sight
+    requires { ⌜ Counted (now s) (c .boards) (c .slots) (c .nodes) × (b < 128 + c .slots) ⌝ }
+    ensures { λ r. ⌜ r ≡ sightAfter (now (s .entry)) b seen ⌝ }
+{
+    if b < Kind::HOLD {
+        return Sight::Sees(seen);
+    }
+    let m = b - Kind::HOLD;
+    if s[16 + 17 * c.boards + 6 * (m as usize) + 1] != 1 {
+        return Sight::Waits;
+    }
+    Sight::Sees(with_answer(seen, m, answer_of(s, c, m as usize)))
+}
+
+// The pass over a slot's bytes p in the state s.
+fn sight_over(p: &[u8], s: &[u8], c: Counts, event: u64) -> Sight
+    requires { ⌜ Counted (now s) (c .boards) (c .slots) (c .nodes) × Holds (c .slots) (now p) ⌝ }
+    ensures { λ r. ⌜ r ≡ sightOver (now (s .entry)) (now (p .entry)) (record { event = event; yes = 0; no = 0 }) ⌝ }
+{
+    let mut seen = Seen {
+        event: event,
+        yes: 0,
+        no: 0,
+    };
+    let mut i: usize = 0;
+    while i < p.len() {
+        let next = sight_after(p[i], s, c, seen);
+        let Sight::Sees(x) = next else {
+            return Sight::Waits;
+        };
+        seen = x;
+        i += 1;
+    }
+    Sight::Sees(seen)
+}
+
+// What slot k sees.
+pub fn sight_of(s: &[u8], c: Counts, k: usize) -> Sight
+    requires { ⌜ Counted (now s) (c .boards) (c .slots) (c .nodes) × (k < c .slots) ⌝ }
+    ensures { λ r. ⌜ r ≡ sightIn (now (s .entry)) k ⌝ }
+{
+    let at = 16 + 17 * c.boards + 6 * k;
+    let board = 16 + 17 * (s[at] as usize);
+    if s[board + 16] != 1 {
+        return Sight::Waits;
+    }
+    let nodes = 16 + 17 * c.boards + 6 * c.slots;
+    let from = nodes + le::u16_at(s, at + 2) as usize;
+    let to = nodes + checking::slot_end(s, c, k);
+    sight_over(&s[from..to], s, c, le::u64_at(s, board + 8))
+}
