@@ -16,4 +16,16 @@ uint32_t vydrulka_write(const uint64_t *masks, size_t masks_len, uint64_t propos
 uint32_t vydrulka_central(const uint8_t *formula, size_t formula_len, uint64_t event, uint8_t *output, size_t output_len,
                           uint32_t *verdict, uint64_t *length);
 
+// Begins a watch: the state of the rule's layout. A state has 4,768 bytes.
+uint32_t vydrulka_load(const uint8_t *file, size_t file_len, uint8_t *state, size_t state_len);
+
+// A board gives its sample.
+uint32_t vydrulka_sample(uint8_t *state, size_t state_len, uint64_t board, uint64_t bits);
+
+// A slot is stepped, once its board has sampled and every slot that it holds is stepped.
+uint32_t vydrulka_step(uint8_t *state, size_t state_len, uint64_t slot);
+
+// How the watch stands: the verdict (0 false, 1 true, 2 pending), ticks, slots and nodes.
+uint32_t vydrulka_ask(const uint8_t *state, size_t state_len, uint32_t *verdict, uint32_t *ticks, uint64_t *slots, uint64_t *nodes);
+
 #endif

@@ -15,6 +15,8 @@ use Rattle.rules.specs.RuleFile.{fileMost, masksIn, formulaIn, fileOf}
 use Rattle.rules.specs.Read.{readSays}
 use Rattle.rules.specs.Write.{writeSays}
 use Rattle.central.specs.Central.{formulaOf, centralSays}
+use Rattle.state.specs.Calls.{loadedState, askSays, sampleSays, sampleLeaves, stepSays, stepLeaves}
+use Rattle.loading.specs.Load.{ruleIn, loadSays}
 
 -- what stands behind a reference afterwards: an accepted call's value, and what stood there before a refusal
 unfoldable pub valueAt : Said → ℕ → ℕ → ℕ
@@ -38,3 +40,22 @@ pub record CentralExported (formula : List ℕ) (event : ℕ) (output output′ 
   pub leaves : output′ ≡ left (centralSays formula event (length output)) (padded nodesMost (encode (progressed event (formulaOf formula)))) output
   pub gives-verdict : verdict′ ≡ valueAt (centralSays formula event (length output)) 0 verdict
   pub gives-length : nodes′ ≡ valueAt (centralSays formula event (length output)) 1 nodes
+
+pub record LoadExported (file state state′ : List ℕ) (answer : ℕ) : Type 0 where
+  pub says : answer ≡ loadSays file (length state) .number
+  pub leaves : state′ ≡ left (loadSays file (length state)) (loadedState (masksIn file) (ruleIn file)) state
+
+pub record SampleExported (state : List ℕ) (board bits : ℕ) (state′ : List ℕ) (answer : ℕ) : Type 0 where
+  pub says : answer ≡ sampleSays state board bits .number
+  pub leaves : state′ ≡ sampleLeaves state board bits
+
+pub record StepExported (state : List ℕ) (slot : ℕ) (state′ : List ℕ) (answer : ℕ) : Type 0 where
+  pub says : answer ≡ stepSays state slot .number
+  pub leaves : state′ ≡ stepLeaves state slot
+
+pub record AskExported (state : List ℕ) (verdict ticks slots nodes verdict′ ticks′ slots′ nodes′ answer : ℕ) : Type 0 where
+  pub says : answer ≡ askSays state .number
+  pub gives-verdict : verdict′ ≡ valueAt (askSays state) 0 verdict
+  pub gives-ticks : ticks′ ≡ valueAt (askSays state) 1 ticks
+  pub gives-slots : slots′ ≡ valueAt (askSays state) 2 slots
+  pub gives-nodes : nodes′ ≡ valueAt (askSays state) 3 nodes

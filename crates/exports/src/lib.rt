@@ -1,6 +1,10 @@
 // The calls for programs in C and other languages: numbers and slices alone. Each answers 0 or the refusal's number, and writes
 // the values behind the references only where it answers 0.
-ghost use Rattle.exports.specs.Exported.{ReadExported, WriteExported, CentralExported};
+ghost use mathlib.Core.Path.{_≡_};
+ghost use Rattle.answers.specs.Said.{saidOutcome};
+ghost use Rattle.exports.specs.Exported.{ReadExported, WriteExported, CentralExported, LoadExported, SampleExported, StepExported, AskExported};
+use answers::Outcome;
+use asking::AskAnswer;
 use central::CentralAnswer;
 use rules::ReadAnswer;
 use rules::WriteAnswer;
@@ -65,6 +69,61 @@ pub extern "C" fn vydrulka_central(
             let v = p.verdict;
             *verdict = v.number();
             *nodes = p.length as u64;
+            0
+        }
+    }
+}
+
+// The number of an answer without values.
+fn number_of(outcome: Outcome) -> u32
+    ensures { λ r. ⌜ r ≡ saidOutcome outcome .number ⌝ }
+{
+    match outcome {
+        Outcome::Refused(why) => why.number(),
+        Outcome::Done => 0,
+    }
+}
+
+#[no_mangle]
+pub extern "C" fn vydrulka_load(file: &[u8], state: &mut [u8]) -> u32
+    ensures { λ r. ⌜ LoadExported (now (file .entry)) (now (state .entry)) (now (state .exit)) r ⌝ }
+{
+    number_of(loading::load(file, state))
+}
+
+#[no_mangle]
+pub extern "C" fn vydrulka_sample(state: &mut [u8], board: u64, bits: u64) -> u32
+    ensures { λ r. ⌜ SampleExported (now (state .entry)) board bits (now (state .exit)) r ⌝ }
+{
+    number_of(sampling::sample(state, board, bits))
+}
+
+#[no_mangle]
+pub extern "C" fn vydrulka_step(state: &mut [u8], slot: u64) -> u32
+    ensures { λ r. ⌜ StepExported (now (state .entry)) slot (now (state .exit)) r ⌝ }
+{
+    number_of(stepping::step(state, slot))
+}
+
+#[no_mangle]
+pub extern "C" fn vydrulka_ask(
+    state: &[u8],
+    verdict: &mut u32,
+    ticks: &mut u32,
+    slots: &mut u64,
+    nodes: &mut u64,
+) -> u32
+    ensures { λ r. ⌜ AskExported (now (state .entry)) (now (verdict .entry)) (now (ticks .entry)) (now (slots .entry)) (now (nodes .entry)) (now (verdict .exit)) (now (ticks .exit)) (now (slots .exit)) (now (nodes .exit)) r ⌝ }
+{
+    let answer = asking::ask(state);
+    match answer {
+        AskAnswer::Refused(why) => why.number(),
+        AskAnswer::Told(t) => {
+            let v = t.verdict;
+            *verdict = v.number();
+            *ticks = t.ticks;
+            *slots = t.slots as u64;
+            *nodes = t.nodes as u64;
             0
         }
     }
