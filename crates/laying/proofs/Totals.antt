@@ -17,7 +17,7 @@ use Rattle.cutting.specs.Cuts.{cutsOn}
 use Rattle.laying.proofs.Counting.{held, laid-slots, laid-nodes}
 
 -- what holds of every number holds of every place holder
-holds-any : (Q : ℕ → Type 0) → ((m : ℕ) → Q m) → (f : Formula) → HoldsIn Q f
+pub holds-any : (Q : ℕ → Type 0) → ((m : ℕ) → Q m) → (f : Formula) → HoldsIn Q f
 holds-any Q h (leaf (Const v)) = tt
 holds-any Q h (leaf (Prop i)) = tt
 holds-any Q h (leaf (Hold m)) = h m
@@ -40,7 +40,7 @@ module _ (choose : Formula → Option ℕ) (slots : List Slot) where
   nodesUnder (suc a) m =
       let s = slotAt slots m in cutsOn choose (unfolded (s .formula)) (s .board) + (size (unfolded (s .formula)) + held (nodesUnder a) (unfolded (s .formula)))
 
-  relaid-single : (a m k : ℕ) → size (relaid choose slots a m k .here) ≡ 1
+  pub relaid-single : (a m k : ℕ) → size (relaid choose slots a m k .here) ≡ 1
   unfolding relaid
   relaid-single zero m k = refl
   relaid-single (suc a) m k = refl

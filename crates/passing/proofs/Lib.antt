@@ -2,6 +2,8 @@
 pub mod Checked
 pub mod Passing
 pub mod Held
+pub mod Bytes
+pub mod Lying
 pub mod Stepping
 pub mod Fitting
 pub mod Holders

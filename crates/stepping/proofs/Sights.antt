@@ -1,9 +1,9 @@
 -- The pass over a slot's bytes sees what the slot sees: one turn (`sight-next`, `sight-wait`, `sight-end`), and a whole slot
--- (`sight-unsampled`, `sight-sampled`). Place holders are of slots that are there: `slot-holds`. Assumes nothing.
+-- (`sight-unsampled`, `sight-sampled`). Assumes nothing.
 use mathlib.Core.Path.{_≡_, refl, sym, ap, _∙_}
 use mathlib.Core.Bool.{Bool, true, false}
 use mathlib.Core.List.{List, [], _∷_, _++_, append-assoc, append-nil}
-use Prim.Native.Nat.{ℕ, zero, suc, _+_, _-_, _<_, _≤_}
+use Prim.Native.Nat.{ℕ, suc, _+_, _-_, _<_, _≤_}
 use native.Mathlib.Numerals.{add-one}
 use native.Mathlib.Omega.{arith}
 use lib.ListN.{length, getD, drop, drop-of-length-le}
@@ -12,37 +12,20 @@ use lib.Dec.{eqb}
 use borrow.Author.Tests.{lt-ltb, le-ltb, eq-eqb, ne-eqb}
 use Rattle.lists.specs.Tests.{pick, both}
 use Rattle.kinds.specs.declared.Leaf.the-variants.{Const, Prop, Hold}
-use Rattle.kinds.specs.declared.Unary.{Unary}
-use Rattle.kinds.specs.declared.Unary.the-variants.{Not, Next, Eventually, Always}
-use Rattle.kinds.specs.declared.Join.the-variants.{And, Or}
-use Rattle.kinds.specs.declared.Binary.{Binary}
-use Rattle.kinds.specs.declared.Binary.the-variants.{Joined, Until}
 use Rattle.kinds.specs.Kinds.{unaryCode, binaryCode}
 use Rattle.ltl.specs.Formula.{Formula, leaf, one, two, encode, Within}
 use Rattle.network.specs.Tick.{holdsOnly}
-use Rattle.masks.specs.Masks.{sumOnes}
-use Rattle.state.specs.Fields.{slotsIn, sampleIn, sampledIn, masksIn, boardOfIn, steppedIn, slotBytes}
+use Rattle.state.specs.Fields.{sampleIn, sampledIn, boardOfIn, steppedIn, slotBytes}
 use Rattle.state.specs.Clauses.{heldBy}
 use Rattle.state.specs.Bytes.{formulaAt}
 use Rattle.state.specs.Calls.{readyIn}
 use Rattle.passing.proofs.Passing.{SlotPassing}
+use Rattle.passing.proofs.Bytes.{unary-low, binary-low}
 use Rattle.resolving.specs.declared.Seen.{Seen}
 use Rattle.stepping.specs.declared.seeing.Sight.{Sight}
 use Rattle.stepping.specs.declared.seeing.Sight.the-variants.{Waits, Sees}
-use Rattle.stepping.specs.Seeing.{Holds, answerIn, told, toldEach, sampleAlone, seenBy, sightIn, sightAfter, goOn, sightOver}
+use Rattle.stepping.specs.Seeing.{answerIn, told, toldEach, sampleAlone, seenBy, sightIn, sightAfter, goOn, sightOver}
 use Rattle.stepping.proofs.Telling.{each-append}
-
--- ---- the bytes of operators are below those of place holders
-unary-low : (o : Unary) → unaryCode o < 128
-unary-low Not = omega arith
-unary-low Next = omega arith
-unary-low Eventually = omega arith
-unary-low Always = omega arith
-
-binary-low : (o : Binary) → binaryCode o < 128
-binary-low (Joined And) = omega arith
-binary-low (Joined Or) = omega arith
-binary-low Until = omega arith
 
 module _ (s : List ℕ) where
   -- a slot is stepped
@@ -139,33 +122,3 @@ module _ (s : List ℕ) where
         ap (λ (l : List ℕ). sightOver s l x) (q .bytes ∙ sym (append-nil (encode f)))
         ∙ over-formula f [] x (q .coded)
         ∙ ap (λ (b : Bool). pick (both b (holdsOnly stepped f)) (Sees (seenBy s k)) Waits) (sym (eq-eqb (sampledIn s (boardOfIn s k)) 1 e))
-
--- ---- place holders of slots that are there
-holds-cons : (n b : ℕ) (l : List ℕ) → b < 128 + n → Holds n l → Holds n (b ∷ l)
-holds-cons n b l h t zero = h
-holds-cons n b l h t (suc i) = t i
-
-holds-append : (n : ℕ) (l r : List ℕ) → Holds n l → Holds n r → Holds n (l ++ r)
-holds-append n [] r h t i = t i
-holds-append n (b ∷ l) r h t zero = h 0
-holds-append n (b ∷ l) r h t (suc i) = holds-append n l r (λ j. h (suc j)) t i
-
-holds-none : (n : ℕ) → Holds n []
-holds-none n i = omega arith
-
-holds-formula : (p n : ℕ) (f : Formula) → p ≤ 64 → Within p n f → Holds n (encode f)
-holds-formula p n (leaf (Const true)) l w = holds-cons n 1 [] (omega arith) (holds-none n)
-holds-formula p n (leaf (Const false)) l w = holds-cons n 0 [] (omega arith) (holds-none n)
-holds-formula p n (leaf (Prop i)) l w = holds-cons n (64 + i) [] (omega arith) (holds-none n)
-holds-formula p n (leaf (Hold m)) l w = holds-cons n (128 + m) [] (omega arith) (holds-none n)
-holds-formula p n (one o f) l w = let u = unary-low o in holds-cons n (unaryCode o) (encode f) (omega arith) (holds-formula p n f l w)
-holds-formula p n (two o f g) l w =
-    let u = binary-low o in
-    holds-cons n (binaryCode o) (encode f ++ encode g) (omega arith)
-    (holds-append n (encode f) (encode g) (holds-formula p n f l (w .0)) (holds-formula p n g l (w .1)))
-
-pub slot-holds : (s : List ℕ) (k : ℕ) → SlotPassing s k → sumOnes (masksIn s) ≤ 64 → Holds (slotsIn s) (slotBytes s k)
-slot-holds s k q l i =
-    let h = holds-formula (sumOnes (masksIn s)) (slotsIn s) (formulaAt s k) l (q .within) i in
-    let e = ap (λ (b : List ℕ). getD b i 0) (q .bytes) in
-    omega arith

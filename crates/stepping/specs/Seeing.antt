@@ -3,8 +3,7 @@
 use mathlib.Core.Path.{_≡_}
 use mathlib.Core.Bool.{true}
 use mathlib.Core.List.{List, [], _∷_}
-use Prim.Native.Nat.{ℕ, _+_, _-_, _^_, _<_}
-use lib.ListN.{getD}
+use Prim.Native.Nat.{ℕ, _-_, _^_}
 use lib.Dec.{ltb, eqb}
 use lib.Bits.{bitOr}
 use Rattle.lists.specs.Tests.{pick}
@@ -24,10 +23,6 @@ use Rattle.stepping.specs.declared.seeing.Sight.the-variants.{Waits, See
 pub record Counted (s : List ℕ) (boards slots nodes : ℕ) : Type 0 where
   pub passes : stateOk s ≡ true
   pub header : Header s boards slots nodes
-
--- the place holders among some bytes are of slots below n
-abbrev pub Holds : ℕ → List ℕ → Type 0
-Holds n p = (i : ℕ) → getD p i 0 < 128 + n
 
 -- slot m is true, false or neither
 abbrev pub answerIn : List ℕ → ℕ → Verdict

@@ -1,0 +1,99 @@
+-- The tables filled from the last slot down: none yet (`filled-none`), one slot more (`filled-more`), and all (`filled-all`). A state has
+-- at most 64 slots (`known-few`). Assumes nothing.
+use mathlib.Core.Path.{_≡_, sym, ap, _∙_}
+use mathlib.Core.Bool.{true}
+use mathlib.Core.List.{List}
+use mathlib.Core.Logic.{⊎-elim}
+use Prim.Native.Nat.{ℕ, _+_, _<_, _≤_}
+use native.Mathlib.Nat.{eq-or-lt-of-le}
+use native.Mathlib.Omega.{arith}
+use lib.ListN.{length, getD, set, length-set}
+use lib.Seq.{getD-set-same, getD-set-other}
+use Rattle.ltl.specs.Limits.{nodesMost}
+use Rattle.ltl.specs.Formula.{encode}
+use Rattle.ltl.specs.Progression.{unfolded}
+use Rattle.network.specs.Scores.{chosen}
+use Rattle.network.proofs.Holding.{holds-map}
+use Rattle.state.specs.Fields.{slotsIn, masksIn, boardOfIn}
+use Rattle.state.specs.Clauses.{slotsMost, stateOk}
+use Rattle.state.specs.Bytes.{formulaAt}
+use Rattle.state.specs.Calls.{nextIn}
+use Rattle.laying.proofs.Counting.{held}
+use Rattle.passing.proofs.Passing.{passing}
+use Rattle.counting.specs.declared.Totals.{Totals}
+use Rattle.counting.specs.Known.{Known}
+use Rattle.counting.specs.Totals.{capped, Totalled}
+use Rattle.counting.specs.Tables.{Tables, heldOver, CountedOn}
+use Rattle.counting.proofs.Summing.{clean-held, held-capped}
+use Rattle.counting.proofs.Networks.{slotsOfSlot, nodesOfSlot, slot-clean, slot-higher, slots-at, nodes-at, next-slots, next-nodes}
+
+pub known-few : {s : List ℕ} {boards slots nodes : ℕ} {owner : List ℕ} → Known s boards slots nodes owner → slots ≤ 64
+known-few {s} known = let h = passing s (known .passes) .header .few-slots in let e = known .header .slots-are in omega arith
+
+-- the entries from k on are capped counts, of the first n slots
+abbrev pub From : (most n k : ℕ) → (ℕ → ℕ) → List ℕ → Type 0
+From most n k count entries = (m : ℕ) → k ≤ m → m < n → getD entries m 0 ≡ capped most (count m)
+
+-- one entry more
+from-more : (most n k : ℕ) (count : ℕ → ℕ) (entries : List ℕ) (j x : ℕ) → k ≤ j + 1 → j < length entries → From most n k count entries → x ≡ capped most (count j)
+    → From most n j count (set entries j x)
+from-more most n k count entries j x l short from e m a b =
+    ⊎-elim
+    (λ q. ap (λ (i : ℕ). getD (set entries j x) i 0) (sym q) ∙ getD-set-same entries j x 0 short ∙ e ∙ ap (λ (i : ℕ). capped most (count i)) q)
+    (λ q. getD-set-other entries j m x 0 (λ z. omega arith) ∙ from m (omega arith) b)
+    (eq-or-lt-of-le a)
+
+-- the tables have what the slots from k on count
+pub record Filled (s : List ℕ) (k : ℕ) (slots nodes : List ℕ) : Type 0 where
+  pub tables : Tables slots nodes
+  pub slots-are : From slotsMost (slotsIn s) k (slotsOfSlot s) slots
+  pub nodes-are : From nodesMost (slotsIn s) k (nodesOfSlot s) nodes
+
+pub filled-none : (s : List ℕ) (k : ℕ) (slots nodes : List ℕ) → k ≡ slotsIn s → Tables slots nodes → Filled s k slots nodes
+filled-none s k slots nodes e t = record { tables = t; slots-are = λ m a b. absurd (omega arith); nodes-are = λ m a b. absurd (omega arith) }
+
+module _ (s : List ℕ) (ok : stateOk s ≡ true) where
+  -- what slot j holds, by the entries above it
+  held-is : (most j k : ℕ) (count : ℕ → ℕ) (entries : List ℕ) → j < slotsIn s → k ≤ j + 1 → From most (slotsIn s) k count entries
+      → capped most (heldOver entries (encode (formulaAt s j))) ≡ capped most (held count (unfolded (formulaAt s j)))
+  held-is most j k count entries l a from =
+      let f = formulaAt s j in
+      ap (capped most) (clean-held (chosen (masksIn s)) entries f (passing s ok .slots j l .coded) (slot-clean s ok j l))
+      ∙ held-capped most (λ m. getD entries m 0) count (unfolded f)
+      (holds-map (λ m. (j < m) × (m < slotsIn s)) (λ m. getD entries m 0 ≡ capped most (count m)) (λ m h. (let lo = h .0 in from m (omega arith) (h .1))) (unfolded f) (slot-higher s ok j l))
+
+  module _ (j k : ℕ) (slots nodes : List ℕ) (l : j < slotsIn s) (a : k ≤ j + 1) (filled : Filled s k slots nodes) (r : Totals)
+      (counted : CountedOn (masksIn s) slots nodes (formulaAt s j) (boardOfIn s j) r) where
+    slots-entry : r .slots ≡ capped slotsMost (slotsOfSlot s j)
+    slots-entry =
+        let e = counted .slots-are in
+        let h = held-is slotsMost j k (slotsOfSlot s) slots l a (filled .slots-are) in
+        let n = slots-at s ok j l in
+        omega arith
+
+    nodes-entry : r .nodes ≡ capped nodesMost (nodesOfSlot s j)
+    nodes-entry =
+        let e = counted .nodes-are in
+        let h = held-is nodesMost j k (nodesOfSlot s) nodes l a (filled .nodes-are) in
+        let n = nodes-at s ok j l in
+        omega arith
+
+    pub filled-more : Filled s j (set slots j (r .slots)) (set nodes j (r .nodes))
+    filled-more =
+        let t = filled .tables in
+        let ls = t .slots-long in
+        let ln = t .nodes-long in
+        let few = passing s ok .header .few-slots in
+        record {
+          tables = record { slots-long = length-set slots j (r .slots) ∙ ls; nodes-long = length-set nodes j (r .nodes) ∙ ln };
+          slots-are = from-more slotsMost (slotsIn s) k (slotsOfSlot s) slots j (r .slots) a (omega arith) (filled .slots-are) slots-entry;
+          nodes-are = from-more nodesMost (slotsIn s) k (nodesOfSlot s) nodes j (r .nodes) a (omega arith) (filled .nodes-are) nodes-entry;
+        }
+
+  pub filled-all : (k : ℕ) (slots nodes : List ℕ) → k ≤ 0 → Filled s k slots nodes → Totalled (nextIn s) (record { slots = getD slots 0 0; nodes = getD nodes 0 0 })
+  filled-all k slots nodes l filled =
+      let some = passing s ok .header .some-slots in
+      record {
+        slots-are = filled .slots-are 0 (omega arith) (omega arith) ∙ ap (capped slotsMost) (sym (next-slots s ok));
+        nodes-are = filled .nodes-are 0 (omega arith) (omega arith) ∙ ap (capped nodesMost) (sym (next-nodes s ok));
+      }

@@ -1,0 +1,4 @@
+-- What the contracts of `counting` cite.
+pub mod Known
+pub mod Totals
+pub mod Tables
