@@ -3,6 +3,7 @@ mod formulas;
 mod whole;
 
 pub use whole::finished;
+pub use whole::masks_of;
 pub use whole::state_ok;
 ghost use mathlib.Core.Path.{_≡_};
 ghost use mathlib.Core.Bool.{true};

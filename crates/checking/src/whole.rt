@@ -18,7 +18,7 @@ use crate::records_ok;
 use crate::rest_ok;
 
 // The boards' masks, at the front of `masks`.
-fn masks_of(s: &[u8], masks: &mut [u64], b: usize)
+pub fn masks_of(s: &[u8], masks: &mut [u64], b: usize)
     requires { ⌜ (length (now s) ≡ stateLength) × (b ≤ 16) × (b ≤ length (now masks)) ⌝ }
     ensures { λ _. ⌜ now (masks .exit) ≡ masksFrom (now (s .entry)) 0 b ++ drop b (now (masks .entry)) ⌝ }
 {

@@ -30,7 +30,7 @@ alike-same mark mark′ e = record { board-is = ap boardIn e; here-is = ap hereI
 pub marks-alike : {choose : Formula → Option ℕ} {f : Formula} {on mark mark′ : ℕ} → Alike mark mark′ → Marks choose f on mark → Marks choose f on mark′
 marks-alike a m = record { board-is = sym (a .board-is) ∙ m .board-is; here-is = λ b l. sym (a .here-is) ∙ m .here-is b l }
 
-agree-drop : (a n m : ℕ) (xs ys : List ℕ) → a + n ≤ m → Agree m xs ys → Agree n (drop a xs) (drop a ys)
+pub agree-drop : (a n m : ℕ) (xs ys : List ℕ) → a + n ≤ m → Agree m xs ys → Agree n (drop a xs) (drop a ys)
 agree-drop a n m xs ys l h i k =
     subst (λ (x : ℕ). Alike x (getD (drop a ys) i 0)) (sym (getD-drop a xs i 0))
     (subst (λ (y : ℕ). Alike (getD xs (a + i) 0) y) (sym (getD-drop a ys i 0)) (h (a + i) (omega arith)))

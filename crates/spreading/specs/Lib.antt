@@ -1,0 +1,2 @@
+-- What the contracts of `spreading` cite.
+pub mod Spreads
