@@ -15,7 +15,7 @@ use Rattle.rules.specs.RuleFile.{fileMost, masksIn, formulaIn, fileOf}
 use Rattle.rules.specs.Read.{readSays}
 use Rattle.rules.specs.Write.{writeSays}
 use Rattle.central.specs.Central.{formulaOf, centralSays}
-use Rattle.state.specs.Calls.{loadedState, askSays, sampleSays, sampleLeaves, stepSays, stepLeaves}
+use Rattle.state.specs.Calls.{loadedState, askSays, sampleSays, sampleLeaves, stepSays, stepLeaves, closeSays, closeLeaves}
 use Rattle.loading.specs.Load.{ruleIn, loadSays}
 
 -- what stands behind a reference afterwards: an accepted call's value, and what stood there before a refusal
@@ -52,6 +52,10 @@ pub record SampleExported (state : List ℕ) (board bits : ℕ) (state′ : List
 pub record StepExported (state : List ℕ) (slot : ℕ) (state′ : List ℕ) (answer : ℕ) : Type 0 where
   pub says : answer ≡ stepSays state slot .number
   pub leaves : state′ ≡ stepLeaves state slot
+
+pub record CloseExported (state second second′ : List ℕ) (answer : ℕ) : Type 0 where
+  pub says : answer ≡ closeSays state (length second) .number
+  pub leaves : second′ ≡ closeLeaves state second
 
 pub record AskExported (state : List ℕ) (verdict ticks slots nodes verdict′ ticks′ slots′ nodes′ answer : ℕ) : Type 0 where
   pub says : answer ≡ askSays state .number

@@ -2,7 +2,7 @@
 // the values behind the references only where it answers 0.
 ghost use mathlib.Core.Path.{_≡_};
 ghost use Rattle.answers.specs.Said.{saidOutcome};
-ghost use Rattle.exports.specs.Exported.{ReadExported, WriteExported, CentralExported, LoadExported, SampleExported, StepExported, AskExported};
+ghost use Rattle.exports.specs.Exported.{ReadExported, WriteExported, CentralExported, LoadExported, SampleExported, StepExported, CloseExported, AskExported};
 use answers::Outcome;
 use asking::AskAnswer;
 use central::CentralAnswer;
@@ -103,6 +103,13 @@ pub extern "C" fn vydrulka_step(state: &mut [u8], slot: u64) -> u32
     ensures { λ r. ⌜ StepExported (now (state .entry)) slot (now (state .exit)) r ⌝ }
 {
     number_of(stepping::step(state, slot))
+}
+
+#[no_mangle]
+pub extern "C" fn vydrulka_close(state: &[u8], second: &mut [u8]) -> u32
+    ensures { λ r. ⌜ CloseExported (now (state .entry)) (now (second .entry)) (now (second .exit)) r ⌝ }
+{
+    number_of(closing::close(state, second))
 }
 
 #[no_mangle]
