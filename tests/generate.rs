@@ -1,7 +1,6 @@
 // The generator: random and damaged requests of PROTOCOL.md for one seed, the same on every machine.
 //   generate SEED COUNT        writes the stream of COUNT requests
 //   generate SEED COUNT list   writes a line for each of them instead: its call, its offset in the stream, its length, its case
-//   generate SEED COUNT stateless [list]   the same with the calls that have no state alone
 //   generate SEED COUNT inputs ROOM   writes COUNT inputs of the run program into files ROOM/1, ROOM/2, .. and a line with the case of each
 // The worked values and the rules at the borders come first; then the cases below, for the calls without a state, and the episodes
 // on the kept state take turns, so that a stream of some hundreds meets each of them often.
@@ -108,29 +107,26 @@ const CASES: &[(&str, &str, Case)] = &[
 const LARGE_EVERY: usize = 6;
 
 // What opens every stream.
-fn opening(script: &mut Script, stateless: bool) -> Vec<Made> {
+fn opening(script: &mut Script) -> Vec<Made> {
     let worked = worked::worked().into_iter().map(|(call, request)| (call, "worked value", request));
     let borders = borders::borders().into_iter().map(|(call, request)| (call, "border", request));
-    if !stateless {
-        worked_watches::watched(script);
-        borders::loaded(script);
-    }
+    worked_watches::watched(script);
+    borders::loaded(script);
     worked.chain(borders).chain(std::iter::from_fn(|| script.take())).collect()
 }
 
 // Hands on the requests of a stream, one after the other.
-fn stream(seed: u64, count: usize, stateless: bool, mut emit: impl FnMut(Made)) {
+fn stream(seed: u64, count: usize, mut emit: impl FnMut(Made)) {
     let mut script = Script::new();
-    let opening = opening(&mut script, stateless);
+    let opening = opening(&mut script);
     let left = count.saturating_sub(opening.len());
     opening.into_iter().take(count).for_each(&mut emit);
     let (mut random, mut episodes_random) = (Random::new(seed), Random::new(!seed));
     let mut episodes = Episodes::new();
-    let every = if stateless { 1 } else { 2 };
     for i in 0..left {
-        if i % every == 0 {
-            let (call, case, make) = CASES[i / every % CASES.len()];
-            let large = i / every / CASES.len() % LARGE_EVERY == LARGE_EVERY - 1;
+        if i % 2 == 0 {
+            let (call, case, make) = CASES[i / 2 % CASES.len()];
+            let large = i / 2 / CASES.len() % LARGE_EVERY == LARGE_EVERY - 1;
             emit((call, case, make(&mut random, large)));
         } else {
             emit(episodes.next(&mut script, &mut episodes_random));
@@ -138,10 +134,10 @@ fn stream(seed: u64, count: usize, stateless: bool, mut emit: impl FnMut(Made)) 
     }
 }
 
-fn write_stream(seed: u64, count: usize, stateless: bool, list: bool) {
+fn write_stream(seed: u64, count: usize, list: bool) {
     let mut output = std::io::BufWriter::new(std::io::stdout().lock());
     let mut offset = 0;
-    stream(seed, count, stateless, |(call, case, request)| {
+    stream(seed, count, |(call, case, request)| {
         let bytes = request.bytes();
         let done = if list { writeln!(output, "{call} {offset} {} {case}", bytes.len()) } else { output.write_all(&bytes) };
         done.expect("standard output can be written");
@@ -163,13 +159,11 @@ fn generate() {
     let number = |i: usize| words.get(i).and_then(|word| word.parse::<u64>().ok());
     let rest: Vec<&str> = words.iter().skip(2).map(String::as_str).collect();
     match (number(0), number(1), &rest[..]) {
-        (Some(seed), Some(count), []) => write_stream(seed, count as usize, false, false),
-        (Some(seed), Some(count), ["list"]) => write_stream(seed, count as usize, false, true),
-        (Some(seed), Some(count), ["stateless"]) => write_stream(seed, count as usize, true, false),
-        (Some(seed), Some(count), ["stateless", "list"]) => write_stream(seed, count as usize, true, true),
+        (Some(seed), Some(count), []) => write_stream(seed, count as usize, false),
+        (Some(seed), Some(count), ["list"]) => write_stream(seed, count as usize, true),
         (Some(seed), Some(count), ["inputs", room]) => write_inputs(seed, count as usize, room),
         _ => {
-            eprintln!("usage: generate SEED COUNT [stateless] [list] | inputs ROOM");
+            eprintln!("usage: generate SEED COUNT [list | inputs ROOM]");
             std::process::exit(2);
         }
     }

@@ -2,20 +2,14 @@
 // `TICKS VERDICT NODES` for the rule as read and for each event, until a verdict or the input's end.
 // A refusal, of a call or of the input, is a last line `refused N`. Bits that are no proposition of the rule are ignored.
 ghost use mathlib.Core.Path.{_≡_};
-
-mod lines;
-
 use answers::Refusal;
 use answers::Verdict;
 use central::CentralAnswer;
+use programs::input;
+use programs::input::FILE_MOST;
+use programs::input::Next;
+use programs::lines;
 use rules::ReadAnswer;
-
-// The length of a rule file's header, in which the file's own length stands at TOTAL_AT.
-const HEADER: usize = 16;
-
-const TOTAL_AT: usize = 12;
-
-const FILE_MOST: usize = 1168;
 
 const BOARDS_MOST: usize = 16;
 
@@ -24,31 +18,16 @@ const RULE_ROOM: usize = 1024;
 
 const ROOM: usize = 4096;
 
-const EVENT: usize = 8;
-
 // Below this number two more ticks can be counted.
 const TICKS_MOST: u64 = 18446744073709551614;
 
-// Takes a rule file from the input and reads it. Only the header says where the file ends, so the rest is taken after it;
-// an end that cannot be, or that the input does not reach, is a wrong length.
+// Takes a rule file from the input and reads it.
 fn load(file: &mut [u8], formula: &mut [u8]) -> ReadAnswer
     requires { do ⌜ (← ⟦file.len()⟧) ≡ (← ⟦FILE_MOST⟧) ⌝ }
 {
     let mut masks = [0u64; BOARDS_MOST];
-    if io::read_full(0, &mut file[0..HEADER]) != HEADER {
-        return ReadAnswer::Refused(Refusal::Length);
-    }
-    let total = le::u32_at(file, TOTAL_AT) as usize;
-    if total < HEADER {
-        return ReadAnswer::Refused(Refusal::Length);
-    }
-    if FILE_MOST < total {
-        return ReadAnswer::Refused(Refusal::Length);
-    }
-    if io::read_full(0, &mut file[HEADER..total]) != total - HEADER {
-        return ReadAnswer::Refused(Refusal::Length);
-    }
-    rules::read(&file[0..total], &mut masks, formula)
+    let length = input::take_file(file);
+    rules::read(&file[0..length], &mut masks, formula)
 }
 
 // The verdict before any event: only a rule that is a constant has one.
@@ -65,7 +44,10 @@ fn verdict_before(first: u8, nodes: usize) -> Verdict {
 
 // Writes a tick's line. Answers how many nodes wait for the next event: none after a verdict.
 fn report(ticks: u64, verdict: Verdict, nodes: usize) -> usize {
-    lines::tick(ticks, verdict, nodes as u64);
+    lines::first(ticks);
+    lines::verdict(verdict);
+    lines::field(nodes as u64);
+    lines::end();
     match verdict {
         Verdict::False => 0,
         Verdict::True => 0,
@@ -82,18 +64,9 @@ fn progressed(held: &[u8], nodes: usize, event: u64, output: &mut [u8]) -> Centr
     central::central(&held[0..nodes], event, output)
 }
 
-// One tick, from one buffer to the other. Answers as `report` does, and none at the input's end and after a refusal.
-fn tick(held: &[u8], nodes: usize, output: &mut [u8], ticks: u64) -> usize {
-    let mut event = [0u8; EVENT];
-    let got = io::read_full(0, &mut event);
-    if got == 0 {
-        return 0;
-    }
-    if got != EVENT {
-        lines::refused(Refusal::Length);
-        return 0;
-    }
-    let answer = progressed(held, nodes, le::u64_at(&event, 0), output);
+// One tick, from one buffer to the other. Answers as `report` does, and none after a refusal.
+fn tick(held: &[u8], nodes: usize, event: u64, output: &mut [u8], ticks: u64) -> usize {
+    let answer = progressed(held, nodes, event, output);
     match answer {
         CentralAnswer::Refused(refusal) => {
             lines::refused(refusal);
@@ -106,6 +79,19 @@ fn tick(held: &[u8], nodes: usize, output: &mut [u8], ticks: u64) -> usize {
     }
 }
 
+// Takes an event and ticks. Answers as `tick` does, and none at the input's end.
+fn turn(held: &[u8], nodes: usize, output: &mut [u8], ticks: u64) -> usize {
+    let next = input::take_event();
+    match next {
+        Next::End => 0,
+        Next::Leftover => {
+            lines::refused(Refusal::Length);
+            0
+        }
+        Next::Event(event) => tick(held, nodes, event, output, ticks),
+    }
+}
+
 // The buffers change places from tick to tick, so that no formula is copied: two ticks a turn.
 // Nothing says that the input ends, so the loop does where no more ticks can be counted.
 fn run(held: &mut [u8], nodes: usize, output: &mut [u8]) {
@@ -115,11 +101,11 @@ fn run(held: &mut [u8], nodes: usize, output: &mut [u8]) {
         if waiting == 0 {
             return;
         }
-        waiting = tick(held, waiting, output, ticks + 1);
+        waiting = turn(held, waiting, output, ticks + 1);
         if waiting == 0 {
             return;
         }
-        waiting = tick(output, waiting, held, ticks + 2);
+        waiting = turn(output, waiting, held, ticks + 2);
         ticks += 2;
     }
 }

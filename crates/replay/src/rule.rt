@@ -1,29 +1,14 @@
-// One function for each call: takes the payload from standard input, makes the call and writes its answer line.
+// The calls on a rule: each takes the payload from standard input, makes the call and writes its answer line.
 // Each answers whether the request was good: within the buffers, which are the limits, and not cut short.
+use crate::answer;
 use crate::lent;
-use crate::lines;
+use crate::payload;
 use central::CentralAnswer;
+use programs::lines;
 use rules::ReadAnswer;
 use rules::WriteAnswer;
 
-const MOST_FILE: usize = 4096;
-
-fn take_bytes(bytes: &mut [u8]) -> bool {
-    io::read_full(0, bytes) == bytes.len()
-}
-
-fn take_masks(masks: &mut [u64]) -> bool {
-    let mut i: usize = 0;
-    while i < masks.len() {
-        let mut eight = [0u8; 8];
-        if io::read_full(0, &mut eight) != 8 {
-            return false;
-        }
-        masks[i] = le::u64_at(&eight, 0);
-        i += 1;
-    }
-    true
-}
+pub const MOST_FILE: usize = 4096;
 
 pub fn read(
     given: &mut [u8],
@@ -39,7 +24,7 @@ pub fn read(
     if given.len() < a {
         return false;
     }
-    if !take_bytes(&mut given[0..a]) {
+    if !payload::take_bytes(&mut given[0..a]) {
         return false;
     }
     answer_read(&given[0..a], &mut masks[0..b], &mut lent[0..c]);
@@ -49,11 +34,11 @@ pub fn read(
 fn answer_read(file: &[u8], masks: &mut [u64], formula: &mut [u8]) {
     lent::fill_masks(masks);
     lent::fill_bytes(formula);
-    let answer = rules::read(file, masks, formula);
-    match answer {
-        ReadAnswer::Refused(refusal) => lines::refused(refusal),
+    let read = rules::read(file, masks, formula);
+    match read {
+        ReadAnswer::Refused(refusal) => answer::refused(refusal),
         ReadAnswer::Rule(counts) => {
-            lines::accepted();
+            answer::accepted();
             lines::field(counts.boards);
             lines::field(counts.propositions);
             lines::field(counts.nodes);
@@ -76,13 +61,13 @@ pub fn write(
     if masks.len() < a || lent.len() < c {
         return false;
     }
-    if !take_masks(&mut masks[0..a]) {
+    if !payload::take_masks(&mut masks[0..a]) {
         return false;
     }
     if given.len() < b {
         return false;
     }
-    if !take_bytes(&mut given[0..b]) {
+    if !payload::take_bytes(&mut given[0..b]) {
         return false;
     }
     answer_write(&masks[0..a], v, &given[0..b], &mut lent[0..c]);
@@ -91,11 +76,11 @@ pub fn write(
 
 fn answer_write(masks: &[u64], propositions: u64, formula: &[u8], file: &mut [u8]) {
     lent::fill_bytes(file);
-    let answer = rules::write(masks, propositions, formula, file);
-    match answer {
-        WriteAnswer::Refused(refusal) => lines::refused(refusal),
+    let written = rules::write(masks, propositions, formula, file);
+    match written {
+        WriteAnswer::Refused(refusal) => answer::refused(refusal),
         WriteAnswer::Written(length) => {
-            lines::accepted();
+            answer::accepted();
             lines::field(length as u64);
         }
     }
@@ -110,7 +95,7 @@ pub fn central(given: &mut [u8], a: usize, v: u64, lent: &mut [u8], c: usize) ->
     if given.len() < a {
         return false;
     }
-    if !take_bytes(&mut given[0..a]) {
+    if !payload::take_bytes(&mut given[0..a]) {
         return false;
     }
     answer_central(&given[0..a], v, &mut lent[0..c]);
@@ -119,12 +104,12 @@ pub fn central(given: &mut [u8], a: usize, v: u64, lent: &mut [u8], c: usize) ->
 
 fn answer_central(formula: &[u8], event: u64, output: &mut [u8]) {
     lent::fill_bytes(output);
-    let answer = central::central(formula, event, output);
-    match answer {
-        CentralAnswer::Refused(refusal) => lines::refused(refusal),
+    let progressed = central::central(formula, event, output);
+    match progressed {
+        CentralAnswer::Refused(refusal) => answer::refused(refusal),
         CentralAnswer::Progressed(progress) => {
             let verdict = progress.verdict;
-            lines::accepted();
+            answer::accepted();
             lines::field(verdict.number() as u64);
             lines::field(progress.length as u64);
         }

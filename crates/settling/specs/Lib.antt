@@ -1,0 +1,2 @@
+-- What the contracts of `settling` cite.
+pub mod Settle
