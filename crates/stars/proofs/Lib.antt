@@ -1,2 +1,6 @@
 -- The worked values.
+pub mod Progressions
+pub mod States
+pub mod Split
+pub mod Unsplit
 pub mod Stars

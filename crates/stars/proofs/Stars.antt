@@ -1,62 +1,16 @@
--- The worked values that are proved: one table, one theorem, `stars`. Each is computed from the definitions that the promises
--- cite. a and b are 64 and 65. Assumes nothing.
-use mathlib.Core.Path.{_≡_, refl}
-use mathlib.Core.List.{List, [], _∷_}
-use Prim.Native.Nat.{ℕ}
-use lib.ListN.{length}
-use Rattle.lists.specs.Tests.{pick, both, either, bit}
-use Rattle.answers.specs.Said.{accepted, inOrder, verdictNumber}
-use Rattle.answers.specs.declared.Verdict.{Verdict}
-use Rattle.answers.specs.declared.Verdict.the-variants.{False, True, Pending}
-use Rattle.kinds.specs.Kinds.{kindOf}
-use Rattle.ltl.specs.Formula.{encode, sameBool, sameLeaf, same, leafOver, over}
-use Rattle.ltl.specs.Meaning.{Event}
-use Rattle.ltl.specs.Progression.{isConstant, negated, member, joined, progressed, progressedOver}
-use Rattle.ltl.specs.Text.{textOver}
-use Rattle.central.specs.Central.{lengthsOk, formulaOf, centralSays}
-
--- progressing the bytes of a formula over one event gives the bytes of another: what the call answers, and what it leaves
-pub record Gives (before : List ℕ) (event : Event) (verdict : Verdict) (after : List ℕ) : Type 0 where
-  pub says : centralSays before event 4096 ≡ accepted (verdictNumber verdict ∷ length after ∷ [])
-  pub leaves : encode (progressed event (formulaOf before)) ≡ after
+-- The worked values that are proved: one table, one theorem, `stars`. Its rows stand in three files, by what they are about.
+-- Assumes nothing.
+use Rattle.stars.proofs.Progressions.{Progressions, progressions}
+use Rattle.stars.proofs.Split.{Split, split}
+use Rattle.stars.proofs.Unsplit.{Unsplit, unsplit}
 
 pub record Stars : Type 0 where
-  -- a until b: under a it stays, under b it is true, under neither false
-  pub until-a : Gives (6 ∷ 64 ∷ 65 ∷ []) 1 Pending (6 ∷ 64 ∷ 65 ∷ [])
-  pub until-b : Gives (6 ∷ 64 ∷ 65 ∷ []) 2 True (1 ∷ [])
-  pub until-none : Gives (6 ∷ 64 ∷ 65 ∷ []) 0 False (0 ∷ [])
-  -- always eventually a
-  pub response-first : Gives (8 ∷ 7 ∷ 64 ∷ []) 0 Pending (3 ∷ 7 ∷ 64 ∷ 8 ∷ 7 ∷ 64 ∷ [])
-  pub response-again : Gives (3 ∷ 7 ∷ 64 ∷ 8 ∷ 7 ∷ 64 ∷ []) 0 Pending (3 ∷ 7 ∷ 64 ∷ 8 ∷ 7 ∷ 64 ∷ [])
-  pub response-met : Gives (3 ∷ 7 ∷ 64 ∷ 8 ∷ 7 ∷ 64 ∷ []) 1 Pending (8 ∷ 7 ∷ 64 ∷ [])
-  -- next true; next not not a
-  pub next-true : (e : Event) → Gives (5 ∷ 1 ∷ []) e True (1 ∷ [])
-  pub next-double : (e : Event) → Gives (5 ∷ 2 ∷ 2 ∷ 64 ∷ []) e Pending (2 ∷ 2 ∷ 64 ∷ [])
-  -- always true, for ever
-  pub always-true : (us : List Event) → encode (progressedOver us (formulaOf (8 ∷ 1 ∷ []))) ≡ 8 ∷ 1 ∷ []
-  -- a tautology that stays pending
-  pub tautology : Gives (4 ∷ 7 ∷ 64 ∷ 8 ∷ 2 ∷ 64 ∷ []) 0 Pending (4 ∷ 7 ∷ 64 ∷ 8 ∷ 2 ∷ 64 ∷ [])
-  -- true or a, after one tick
-  pub or-true : (e : Event) → Gives (4 ∷ 1 ∷ 64 ∷ []) e True (1 ∷ [])
-
-for-ever : (us : List Event) → encode (progressedOver us (formulaOf (8 ∷ 1 ∷ []))) ≡ 8 ∷ 1 ∷ []
-unfolding pick both either bit sameBool sameLeaf same isConstant member joined kindOf
-for-ever [] = refl
-for-ever (e ∷ us) = for-ever us
+  -- rules progressed in one place
+  pub in-one-place : Progressions
+  -- a until b, split over two boards
+  pub over-two : Split
+  -- rules that stay on one board
+  pub on-one : Unsplit
 
 pub stars : Stars
-unfolding pick both either bit inOrder kindOf sameBool sameLeaf same leafOver over textOver isConstant negated member joined lengthsOk centralSays
-stars =
-    record {
-      until-a = record { says = refl; leaves = refl };
-      until-b = record { says = refl; leaves = refl };
-      until-none = record { says = refl; leaves = refl };
-      response-first = record { says = refl; leaves = refl };
-      response-again = record { says = refl; leaves = refl };
-      response-met = record { says = refl; leaves = refl };
-      next-true = λ e. record { says = refl; leaves = refl };
-      next-double = λ e. record { says = refl; leaves = refl };
-      always-true = for-ever;
-      tautology = record { says = refl; leaves = refl };
-      or-true = λ e. record { says = refl; leaves = refl };
-    }
+stars = record { in-one-place = progressions; over-two = split; on-one = unsplit }
