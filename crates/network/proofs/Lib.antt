@@ -13,4 +13,3 @@ pub mod Ticking
 pub mod Watched
 pub mod Choosing
 pub mod RuleWatch
-pub mod Worked

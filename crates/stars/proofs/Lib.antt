@@ -1,5 +1,6 @@
 -- The worked values.
 pub mod Progressions
+pub mod Layouts
 pub mod States
 pub mod Split
 pub mod Unsplit

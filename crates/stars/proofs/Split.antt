@@ -2,9 +2,10 @@
 -- computed from the definitions that the promises of `load`, `sample`, `step`, `close` and `ask` cite, over the state's bytes.
 -- a and b are 64 and 65. Assumes nothing.
 use mathlib.Core.Path.{_≡_, refl}
-use mathlib.Core.List.{List, [], _∷_}
+use mathlib.Core.List.{List, [], _∷_, _++_}
 use mathlib.Core.Option.{some}
 use Prim.Native.Nat.{ℕ}
+use lib.ListN.{replicate}
 use Rattle.lists.specs.Tests.{pick, both, either, bit}
 use Rattle.answers.specs.Said.{refused, inOrder, left}
 use Rattle.answers.specs.declared.Verdict.the-variants.{True, Pending}
@@ -26,11 +27,8 @@ use Rattle.state.specs.Clauses.{eachBelow, allZero, eachTrue, tidy, unfoldedOwn
 use Rattle.state.specs.Bytes.{stateOf, slotsFrom}
 use Rattle.state.specs.Calls.{finishedIn, verdictIn, askSays, sampleSays, readyIn, stepSays, steppedTo, doneIn, closeSays}
 use Rattle.loading.specs.Load.{lengthsOk, loadSays}
+use Rattle.stars.proofs.Layouts.{twoMasks}
 use Rattle.stars.proofs.States.{board, slot, state, LoadGives, SampleGives, StepGives, CloseGives, close-gives, AskGives}
-
--- the masks of two boards with a proposition each
-abbrev pub twoMasks : List ℕ
-twoMasks = 1 ∷ 2 ∷ []
 
 -- the rule's bytes
 abbrev pub rule : List ℕ
@@ -93,6 +91,12 @@ pub record Split : Type 0 where
   pub right-on : chosen twoMasks (formulaOf (3 ∷ 64 ∷ 5 ∷ 6 ∷ 64 ∷ 65 ∷ [])) ≡ some 0
   pub layout : load (chosen twoMasks) (formulaOf rule) ≡ on 0 (4 ∷ 129 ∷ 3 ∷ 64 ∷ 5 ∷ 6 ∷ 64 ∷ 65 ∷ []) ∷ on 1 (65 ∷ []) ∷ []
   pub loads : LoadGives ruleFile (asLaid 0 unsampled)
+  -- that state, byte by byte
+  pub bytes :
+      asLaid 0 unsampled ≡
+      (2 ∷ 0 ∷ 2 ∷ 0 ∷ 9 ∷ 0 ∷ 16 ∷ 0 ∷ 50 ∷ 0 ∷ 62 ∷ 0 ∷ 0 ∷ 0 ∷ 0 ∷ 0 ∷ [])
+      ++ ((1 ∷ replicate 16 0) ++ ((2 ∷ replicate 16 0)
+      ++ ((0 ∷ 0 ∷ 0 ∷ 0 ∷ 8 ∷ 0 ∷ 1 ∷ 0 ∷ 8 ∷ 0 ∷ 1 ∷ 0 ∷ []) ++ ((4 ∷ 129 ∷ 3 ∷ 64 ∷ 5 ∷ 6 ∷ 64 ∷ 65 ∷ 65 ∷ []) ++ replicate 4697 0))))
   pub begins : AskGives (asLaid 0 unsampled) Pending 0 2 9
   -- board 1 given 1, which is outside its mask
   pub outside : (t : ℕ) → sampleSays (asLaid t unsampled) 1 1 ≡ refused 12
@@ -106,11 +110,13 @@ pub record Split : Type 0 where
   pub a-root : StepGives (halfStepped 0 (sampled 1 0) 0) 0 steppedUnderA
   pub a-closes : CloseGives steppedUnderA (asLaid 1 unsampled)
   pub a-stands : AskGives (asLaid 1 unsampled) Pending 1 2 9
-  -- the second, under b: slot 1 becomes true, and so does slot 0
+  -- the second, under b: slot 1 becomes true, and so does slot 0, which is the verdict once the tick is closed
   pub b-held : StepGives (asLaid 1 (sampled 0 2)) 1 (halfStepped 1 (sampled 0 2) 1)
   pub b-root : StepGives (halfStepped 1 (sampled 0 2) 1) 0 steppedUnderB
+  pub b-unclosed : AskGives steppedUnderB Pending 1 2 9
   pub b-closes : CloseGives steppedUnderB finished
   pub b-stands : AskGives finished True 2 1 1
+  pub b-over : (b bits : ℕ) → sampleSays finished b bits ≡ refused 10
 
 pub split : Split
 unfolding pick both either bit inOrder left kindOf le leAt sumTo onesOf sumOnes unionWith masksRule sameBool leafOver over textOver isConstant joined countsOk maskBytes fileOf masksFrom offsetsOk highest chosen looked laid load close holdsOnly fields.masksFrom stretchEnd eachBelow allZero eachTrue tidy unfoldedOwn loneOther heldBy among distinct boardOk recordOk gapOk holdersIn headerOk masksOk restOk stateOk stateOf slotsFrom finishedIn verdictIn askSays sampleSays readyIn stepSays steppedTo doneIn closeSays lengthsOk loadSays
@@ -122,6 +128,7 @@ split =
       right-on = refl;
       layout = refl;
       loads = record { says = refl; leaves = λ before. refl };
+      bytes = refl;
       begins = refl;
       outside = λ t. refl;
       under-none = record { first = λ t. record { says = refl; leaves = refl }; second = λ t. record { says = refl; leaves = refl }; early = λ t. refl };
@@ -134,6 +141,8 @@ split =
       a-stands = refl;
       b-held = record { says = refl; leaves = refl };
       b-root = record { says = refl; leaves = refl };
+      b-unclosed = refl;
       b-closes = close-gives _ _ refl refl;
       b-stands = refl;
+      b-over = λ b bits. refl;
     }

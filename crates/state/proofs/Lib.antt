@@ -1,5 +1,4 @@
--- Worked values of states and of the calls on them, and what a state that was written reads back as.
-pub mod Worked
+-- What a state that was written reads back as.
 pub mod Reading
 pub mod Rows
 pub mod BoardRows

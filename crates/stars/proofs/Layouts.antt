@@ -1,0 +1,81 @@
+-- Worked layouts, those at the limits of slots and nodes among them: the table's rows, `Layouts`, and that they hold, `layouts`. Each is
+-- computed from the definitions that the promise of `load` cites. a and b are 64 and 65; a is on board 0, and b on board 1 where there
+-- is one. Assumes nothing.
+use mathlib.Core.Path.{_≡_, refl}
+use mathlib.Core.List.{List, [], _∷_, map}
+use Prim.Native.Nat.{ℕ, zero, suc}
+use lib.ListN.{length}
+use Rattle.lists.specs.Tests.{pick, both, bit}
+use Rattle.answers.specs.Said.{accepted, refused, inOrder}
+use Rattle.kinds.specs.Kinds.{kindOf}
+use Rattle.le.specs.Le.{le, leAt}
+use Rattle.masks.specs.Masks.{sumTo, onesOf, sumOnes, unionWith, masksRule}
+use Rattle.ltl.specs.Formula.{leafOver, over}
+use Rattle.ltl.specs.Text.{textOver}
+use Rattle.rules.specs.RuleFile.{countsOk, maskBytes, fileOf, masksFrom}
+use Rattle.rules.specs.Read.{offsetsOk}
+use Rattle.central.specs.Central.{formulaOf}
+use Rattle.network.specs.Scores.{highest, chosen}
+use Rattle.network.specs.Layout.{Slot, looked, laid, load}
+use Rattle.state.specs.Fields.{stateLength}
+use Rattle.state.specs.Bytes.{nodesOf}
+use Rattle.state.specs.Calls.{firstOf}
+use Rattle.loading.specs.Load.{lengthsOk, loadSays}
+
+-- the masks of two boards with a proposition each
+abbrev pub twoMasks : List ℕ
+twoMasks = 1 ∷ 2 ∷ []
+
+-- the layout of a rule over two boards
+abbrev pub overTwo : List ℕ → List Slot
+overTwo rule = firstOf twoMasks (formulaOf rule)
+
+-- the boards of the slots
+abbrev pub boards : List Slot → List ℕ
+boards slots = map (λ s. s .board) slots
+
+-- an and-chain of n copies of a or b, and one more
+abbrev pub copies : ℕ → List ℕ
+copies zero = 4 ∷ 64 ∷ 65 ∷ []
+copies (suc n) = 3 ∷ 4 ∷ 64 ∷ 65 ∷ copies n
+
+-- n times always, then a
+abbrev pub always : ℕ → List ℕ
+always zero = 64 ∷ []
+always (suc n) = 8 ∷ always n
+
+-- a layout has so many slots and nodes
+pub record Counts (slots : List Slot) (s n : ℕ) : Type 0 where
+  pub slots-are : length slots ≡ s
+  pub nodes-are : nodesOf slots ≡ n
+
+pub record Layouts : Type 0 where
+  -- copies made by unfolding count, and what stands under next counts as it stands
+  pub until-ever : boards (overTwo (6 ∷ 64 ∷ 7 ∷ 65 ∷ [])) ≡ 1 ∷ 0 ∷ []
+  -- a tie goes to the lowest board, even where the slot's own is among the tied
+  pub tie : Counts (overTwo (3 ∷ 65 ∷ 3 ∷ 64 ∷ 65 ∷ [])) 3 7
+  -- a next that is an operand may be cut, whole
+  pub next : Counts (overTwo (3 ∷ 64 ∷ 5 ∷ 65 ∷ [])) 2 5
+  -- 63 copies need all the slots that there are, and 64 one more
+  pub copies-most : Counts (overTwo (copies 62)) 64 314
+  pub copies-load : loadSays (fileOf twoMasks 2 (copies 62)) stateLength ≡ accepted []
+  pub copies-over : loadSays (fileOf twoMasks 2 (copies 63)) stateLength ≡ refused 7
+  -- 87 times always has room, and 88 times has not
+  pub always-most : Counts (firstOf (1 ∷ []) (formulaOf (always 87))) 1 4090
+  pub always-load : loadSays (fileOf (1 ∷ []) 1 (always 87)) stateLength ≡ accepted []
+  pub always-over : loadSays (fileOf (1 ∷ []) 1 (always 88)) stateLength ≡ refused 8
+
+pub layouts : Layouts
+unfolding pick both bit inOrder kindOf le leAt sumTo onesOf sumOnes unionWith masksRule leafOver over textOver countsOk maskBytes fileOf masksFrom offsetsOk highest chosen looked laid load lengthsOk loadSays
+layouts =
+    record {
+      until-ever = refl;
+      tie = record { slots-are = refl; nodes-are = refl };
+      next = record { slots-are = refl; nodes-are = refl };
+      copies-most = record { slots-are = refl; nodes-are = refl };
+      copies-load = refl;
+      copies-over = refl;
+      always-most = record { slots-are = refl; nodes-are = refl };
+      always-load = refl;
+      always-over = refl;
+    }
