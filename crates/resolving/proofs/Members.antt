@@ -3,14 +3,14 @@
 use mathlib.Core.Path.{_≡_, refl, sym, ap, ap₂, _∙_, subst}
 use mathlib.Core.Bool.{Bool, true, false}
 use mathlib.Core.List.{List, [], _++_, append-nil}
-use Prim.Native.Nat.{ℕ, _+_, _<_}
+use Prim.Native.Nat.{ℕ, _+_, _-_, _<_, _≤_}
 use native.Mathlib.Omega.{arith}
 use lib.ListN.{length, getD, drop, length-drop}
 use lib.Seq.{getD-drop, drop-drop}
 use borrow.Author.Tests.{eq-eqb}
 use Rattle.lists.specs.Runs.{tail}
 use Rattle.lists.specs.Tests.{pick, either}
-use Rattle.lists.proofs.Tests.{test-eq}
+use Rattle.lists.proofs.Tests.{no-true, test-eq}
 use Rattle.lists.proofs.Parts.{tail-is}
 use Rattle.kinds.specs.declared.Join.{Join}
 use Rattle.kinds.specs.declared.Binary.the-variants.{Joined, Until}
@@ -64,6 +64,25 @@ member-end j f (two (Joined k) g h) n = go (sameJoin j k) refl (same f (join k g
     go false q true = refl
     go false q false = refl
 
+-- ---- members by their size: formulas of other sizes differ
+same-size : (f h : Formula) → (size f ≡ size h → ⊥) → same f h ≡ false
+same-size f h n = test-eq (same f h) false (λ e. absurd (n (ap size (same-eq f h e)))) (λ e. absurd (no-true e))
+
+-- a formula that is no longer than f has no other member that f could be
+member-short : (j : Join) (f h : Formula) → size h ≤ size f → member j f h ≡ same f h
+unfolding member pick either
+member-short j f (leaf a) s = refl
+member-short j f (one o g) s = refl
+member-short j f (two Until g h) s = refl
+member-short j f (two (Joined k) g h) s =
+    go (sameJoin j k) (same f (join k g h)) (same-size f g (λ e. omega arith))
+    (member-short j f h (omega arith) ∙ same-size f h (λ e. omega arith))
+  where
+    go : (x y : Bool) → same f g ≡ false → member j f h ≡ false → either y (pick x (either (same f g) (member j f h)) false) ≡ y
+    go x true p q = refl
+    go true false p q = rw (p, q)
+    go false false p q = refl
+
 -- ---- the walk
 pub record Chain (l r : List ℕ) (op at : ℕ) : Type 0 where
   pub j : Join
@@ -102,6 +121,21 @@ module _ (l r : List ℕ) (op at : ℕ) (c : Chain l r op at) where
       (e ∙ begins-same l r at (c .f) (c .h) [] (c .compared .left) (c .here)
       ∙ sym (member-end (c .j) (c .f) (c .h) (λ q. n (chain-first ∙ q ∙ sym (c .compared .op-is)))))
 
+  chain-sizes : (length l ≡ size (c .f)) × (length r - at ≡ size (c .h))
+  chain-sizes =
+      let a = front-length l (c .f) [] (c .compared .left) in
+      let b = front-length (drop at r) (c .h) [] (c .here) in
+      let d = length-drop at r in
+      (omega arith, omega arith)
+
+  -- no longer than l: l is what stands here, or no member
+  pub chain-short : length r - at ≤ length l → (x : Bool) → x ≡ starts l (tail at r) → IsMember l r op x
+  chain-short w x e =
+      let s : size (c .h) ≤ size (c .f) = let a = chain-sizes in omega arith in
+      chain-answer x
+      (e ∙ begins-same l r at (c .f) (c .h) [] (c .compared .left) (c .here)
+      ∙ sym (member-short (c .j) (c .f) (c .h) s))
+
   -- the same operator
   module _ (n : getD r at 0 ≡ op) where
     joined-kind : kindOf (getD (drop at r) 0 0) ≡ Two (Joined (c .j))
@@ -131,14 +165,9 @@ module _ (l r : List ℕ) (op at : ℕ) (c : Chain l r op at) where
         ap (member (c .j) (c .f)) (d .same) ∙ member-joined (c .j) (c .f) (d .left) (d .right)
         ∙ ap (λ (x : Formula). either (same (c .f) x) (either (same (c .f) (d .left)) (member (c .j) (c .f) (d .right)))) (sym (d .same))
 
-    pub chain-whole : starts l (tail at r) ≡ true → IsMember l r op true
-    unfolding either
-    chain-whole e =
-        chain-answer true (sym (here-member ∙ rw (sym (begins-same l r at (c .f) (c .h) [] (c .compared .left) (c .here)) ∙ e)))
-
-    module _ (w : starts l (tail at r) ≡ false) where
+    module _ (w : length l < length r - at) where
       not-whole : same (c .f) (c .h) ≡ false
-      not-whole = sym (begins-same l r at (c .f) (c .h) [] (c .compared .left) (c .here)) ∙ w
+      not-whole = let a = chain-sizes in same-size (c .f) (c .h) (λ e. omega arith)
 
       left-same : starts l (tail (at + 1) r) ≡ same (c .f) (chain-node .left)
       left-same = begins-same l r (at + 1) (c .f) (chain-node .left) (encode (chain-node .right) ++ []) (c .compared .left) chain-left

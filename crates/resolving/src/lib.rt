@@ -79,8 +79,9 @@ fn is_member(l: &[u8], r: &[u8], op: u8) -> bool
 {
     let mut at: usize = 0;
     while r[at] == op {
-        if runs::begins(l, &r[at..]) {
-            return true;
+        // A formula that is not longer than l has no other member that l could be.
+        if r.len() - at <= l.len() {
+            return runs::begins(l, &r[at..]);
         }
         let left = at + 1;
         if runs::begins(l, &r[left..]) {
