@@ -1,5 +1,8 @@
 // A request's payload, taken from standard input: whether it was not cut short.
 
+// The most bytes of a file; a request's other limits are the lengths of the buffers.
+pub const MOST_FILE: usize = 4096;
+
 pub fn take_bytes(bytes: &mut [u8]) -> bool {
     io::read_full(0, bytes) == bytes.len()
 }

@@ -3,12 +3,11 @@
 use crate::answer;
 use crate::lent;
 use crate::payload;
+use crate::payload::MOST_FILE;
 use central::CentralAnswer;
 use programs::lines;
 use rules::ReadAnswer;
 use rules::WriteAnswer;
-
-pub const MOST_FILE: usize = 4096;
 
 pub fn read(
     given: &mut [u8],

@@ -3,7 +3,8 @@
 use crate::answer;
 use crate::lent;
 use crate::payload;
-use crate::rule::MOST_FILE;
+use crate::payload::MOST_FILE;
+use answers::Outcome;
 use asking::AskAnswer;
 use programs::lines;
 
@@ -14,6 +15,14 @@ fn keep(kept: &mut [u8], fresh: &[u8], c: usize) {
         return;
     }
     runs::copy(kept, &fresh[0..c]);
+}
+
+// The answer line of a call that has no values and is lent this state alone: whether it was accepted.
+fn told(outcome: Outcome, state: &[u8]) -> bool {
+    let accepted = answer::outcome(outcome);
+    lines::field(lent::hash_bytes(state));
+    lines::end();
+    accepted
 }
 
 pub fn load(given: &mut [u8], a: usize, fresh: &mut [u8], c: usize, kept: &mut [u8]) -> bool {
@@ -35,10 +44,7 @@ pub fn load(given: &mut [u8], a: usize, fresh: &mut [u8], c: usize, kept: &mut [
 // Whether the load was accepted.
 fn answer_load(file: &[u8], state: &mut [u8]) -> bool {
     lent::fill_bytes(state);
-    let accepted = answer::outcome(loading::load(file, state));
-    lines::field(lent::hash_bytes(state));
-    lines::end();
-    accepted
+    told(loading::load(file, state), state)
 }
 
 pub fn sample(kept: &mut [u8], b: usize, v: u64) -> bool {
@@ -54,9 +60,7 @@ pub fn sample(kept: &mut [u8], b: usize, v: u64) -> bool {
 }
 
 fn answer_sample(state: &mut [u8], board: u64, bits: u64) {
-    answer::outcome(sampling::sample(state, board, bits));
-    lines::field(lent::hash_bytes(state));
-    lines::end();
+    told(sampling::sample(state, board, bits), state);
 }
 
 pub fn step(kept: &mut [u8], b: usize, v: u64) -> bool {
@@ -68,9 +72,7 @@ pub fn step(kept: &mut [u8], b: usize, v: u64) -> bool {
 }
 
 fn answer_step(state: &mut [u8], slot: u64) {
-    answer::outcome(stepping::step(state, slot));
-    lines::field(lent::hash_bytes(state));
-    lines::end();
+    told(stepping::step(state, slot), state);
 }
 
 pub fn close(kept: &mut [u8], b: usize, fresh: &mut [u8], c: usize) -> bool {

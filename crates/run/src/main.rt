@@ -11,7 +11,7 @@ use programs::input::FILE_MOST;
 use programs::input::Next;
 use programs::lines;
 
-// Two ticks a turn. The state counts ticks in 32 bits, so a tick within these turns is refused.
+// Two ticks a turn. The state counts ticks in 32 bits, so the last of these ticks is refused at the latest.
 const TURNS: u64 = 2147483648;
 
 // Writes the line for a state that was just loaded or closed: whether the watch goes on.

@@ -12,7 +12,7 @@ use Rattle.answers.specs.declared.Outcome.{Outcome}
 use Rattle.answers.specs.declared.Outcome.the-variants.{Refused, Done}
 use Rattle.answers.specs.declared.Refusal.{Refusal}
 use Rattle.answers.specs.declared.Refusal.the-variants.{State, Outside}
-use Rattle.answers.specs.Said.{Said, accepted, refused, numberOf, saidOutcome}
+use Rattle.answers.specs.Said.{accepted, refused, numberOf, saidOutcome}
 use Rattle.answers.proofs.Answers.{number-some, order-ok, order-refused, order-done}
 use Rattle.masks.specs.Masks.{unionWith}
 use Rattle.state.specs.Fields.{boardsIn, slotsIn, maskIn, masksFrom, masksIn}

@@ -1,14 +1,11 @@
 -- The boards from i on, sampled from here on, come to what all come to from the entry; the boards left fall. Assumes nothing.
-use mathlib.Core.Path.{_≡_, refl, sym, ap, subst, _∙_}
+use mathlib.Core.Path.{_≡_, refl, sym, ap, _∙_}
 use Prim.Native.Nat.{ℕ, _-_}
 use lib.Bits.{bitAnd}
 use lib.ListN.{length}
-use Rattle.answers.specs.declared.Outcome.{Outcome}
-use Rattle.sampling.specs.Sample.{Samples}
 use Rattle.settling.specs.Settle.{sampledFrom}
 use Rattle.settling.proofs.Following.{comes-by, sampled-more, sampled-ends, sampled-all}
 use native.Mathlib.Nat.{sub-zero}
-use native.Mathlib.Omega.{arith}
 use borrow.Author.Needs.{needs}
 use Rattle.settling.proofs.sample_all.Statement.{statement}
 use Rattle.settling.proofs.sample_all.Tie as tie

@@ -1,8 +1,6 @@
 -- The slots left, stepped from here on, come to what all come to from the entry; the slots left fall. Assumes nothing.
-use mathlib.Core.Path.{_≡_, refl, sym, subst, _∙_}
+use mathlib.Core.Path.{_≡_, refl, sym, _∙_}
 use lib.ListN.{length}
-use Rattle.answers.specs.declared.Outcome.{Outcome}
-use Rattle.stepping.specs.Step.{StepsSlot}
 use Rattle.settling.specs.Settle.{steppedBelow}
 use Rattle.settling.proofs.Following.{comes-by, stepped-more, stepped-ends, stepped-all}
 use native.Mathlib.Omega.{arith}

@@ -5,7 +5,6 @@ use Rattle.masks.specs.Masks.{unionWith}
 use Rattle.state.specs.Fields.{masksFrom}
 use Rattle.settling.proofs.Following.{union-more, union-all}
 use native.Mathlib.Nat.{sub-zero}
-use native.Mathlib.Omega.{arith}
 use borrow.Author.Needs.{needs}
 use Rattle.settling.proofs.union.Statement.{statement}
 use Rattle.settling.proofs.union.Tie as tie
