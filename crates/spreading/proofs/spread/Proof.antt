@@ -1,7 +1,8 @@
 -- At each turn the root and the slots of the place holders so far stand in what is spread out. Assumes nothing.
 use Prim.Native.Nat.{_-_}
 use mathlib.Core.Logic.{⊎-elim}
-use Rattle.spreading.proofs.Turns.{Turn, first-ask, first-turn, turn-past, inside-marks, holder-few, holder-ask, turn-put, turn-as}
+use Rattle.spreading.proofs.Turns.{Turn, first-ask, first-turn, turn-past, turn-as}
+use Rattle.spreading.proofs.Putting.{inside-marks, holder-few, holder-ask, turn-put}
 use Rattle.spreading.proofs.Done.{spread-done}
 use native.Mathlib.Omega.{arith}
 use borrow.Author.Needs.{needs}
