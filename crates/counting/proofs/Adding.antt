@@ -1,19 +1,17 @@
 -- The pass over a slot's bytes: what its place holders add, behind one byte (`after-low`, `after-high`) and over all of them
 -- (`added-none`, `added-more`, `added-all`). Assumes nothing.
-use mathlib.Core.Path.{_≡_, sym, ap, _∙_}
+use mathlib.Core.Path.{_≡_, ap}
 use mathlib.Core.List.{List}
 use Prim.Native.Nat.{ℕ, _+_, _-_, _<_, _≤_}
-use native.Mathlib.Numerals.{add-one}
 use native.Mathlib.Omega.{arith}
 use lib.ListN.{length, getD, drop, drop-of-length-le}
-use lib.Seq.{drop-cons}
 use Rattle.ltl.specs.Limits.{nodesMost}
 use Rattle.state.specs.Clauses.{slotsMost}
 use Rattle.counting.specs.declared.Totals.{Totals}
 use Rattle.counting.specs.Totals.{capped}
 use Rattle.counting.specs.Held.{heldAt, heldOver, entryIn}
 use Rattle.counting.specs.Tables.{HeldBy}
-use Rattle.counting.proofs.Held.{held-low, held-high}
+use Rattle.counting.proofs.Held.{held-low, held-high, over-next}
 
 -- ---- behind a byte
 module _ (slots nodes : List ℕ) (b : ℕ) (t : Totals) where
@@ -29,10 +27,6 @@ module _ (slots nodes : List ℕ) (b : ℕ) (t : Totals) where
   after-high h r es en = let x = held-high (entryIn slots) b h in let y = held-high (entryIn nodes) b h in (omega arith, omega arith)
 
 -- ---- the pass over the bytes
-over-next : (entry : ℕ → ℕ) (p : List ℕ) (i : ℕ) → i < length p → heldOver entry (drop i p) ≡ heldAt entry (getD p i 0) + heldOver entry (drop (i + 1) p)
-over-next entry p i h =
-    ap (heldOver entry) (drop-cons p i 0 h) ∙ ap (λ (j : ℕ). heldAt entry (getD p i 0) + heldOver entry (drop j p)) (sym (add-one i))
-
 over-end : (entry : ℕ → ℕ) (p : List ℕ) (i : ℕ) → length p ≤ i → heldOver entry (drop i p) ≡ 0
 over-end entry p i h = ap (heldOver entry) (drop-of-length-le p h)
 

@@ -1,11 +1,14 @@
--- What place holders among bytes add: of one byte (`held-low`, `held-high`), of bytes one behind the other (`over-append`), and of the
--- bytes of a clean formula (`clean-held`), which is what the formula holds. Assumes nothing.
-use mathlib.Core.Path.{_≡_, ap, _∙_}
+-- What place holders among bytes add: of one byte (`held-low`, `held-high`), of bytes one behind the other (`over-append`) and taken off
+-- one by one (`over-next`), and of the bytes of a clean formula (`clean-held`), which is what the formula holds. Assumes nothing.
+use mathlib.Core.Path.{_≡_, sym, ap, _∙_}
 use mathlib.Core.Bool.{true, false}
 use mathlib.Core.List.{List, [], _∷_, _++_}
 use mathlib.Core.Option.{Option}
 use Prim.Native.Nat.{ℕ, _+_, _-_, _<_, _≤_}
+use native.Mathlib.Numerals.{add-one}
 use native.Mathlib.Omega.{arith}
+use lib.ListN.{length, getD, drop}
+use lib.Seq.{drop-cons}
 use borrow.Author.Tests.{lt-ltb, le-ltb}
 use Rattle.lists.specs.Tests.{pick}
 use Rattle.kinds.specs.declared.Leaf.the-variants.{Const, Prop, Hold}
@@ -30,6 +33,10 @@ module _ (entry : ℕ → ℕ) where
   pub over-append : (p q : List ℕ) → heldOver entry (p ++ q) ≡ heldOver entry p + heldOver entry q
   over-append [] q = omega arith
   over-append (b ∷ p) q = omega (arith, over-append p q)
+
+  pub over-next : (p : List ℕ) (i : ℕ) → i < length p → heldOver entry (drop i p) ≡ heldAt entry (getD p i 0) + heldOver entry (drop (i + 1) p)
+  over-next p i h =
+      ap (heldOver entry) (drop-cons p i 0 h) ∙ ap (λ (j : ℕ). heldAt entry (getD p i 0) + heldOver entry (drop j p)) (sym (add-one i))
 
   -- ---- by the formula
   module _ (choose : Formula → Option ℕ) where

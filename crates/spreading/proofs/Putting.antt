@@ -1,5 +1,5 @@
--- A turn of `spread` at a place holder: its mark gets the distance to the end (`inside-marks`), where its slot is put (`holder-few`,
--- `holder-ask`), and then the next turn holds (`turn-put`). Assumes nothing.
+-- A turn of `spread` at a place holder: its mark gets the distance to the end, which is inside the marks (`inside-marks`); its slot is put
+-- there (`holder-few`, `holder-ask`), and then the next turn holds (`turn-put`). Assumes nothing.
 use mathlib.Core.Path.{_≡_, refl, sym, ap, _∙_, subst}
 use mathlib.Core.Bool.{Bool, true, false}
 use mathlib.Core.List.{List, _++_}
@@ -45,8 +45,8 @@ module _ {s u marks : List ℕ} {i end : ℕ} (turn : Turn s u marks i end) (l :
   abbrev marks₁ : List ℕ
   marks₁ = set marks i marked
 
-  pub inside-marks : end ≤ length marks₁
-  inside-marks = let a = turn .marks-long in let b = turn .inside in let k = length-set marks i marked in omega arith
+  pub inside-marks : (x : ℕ) → end ≤ length (set marks i x)
+  inside-marks x = let a = turn .marks-long in let b = turn .inside in let k = length-set marks i x in omega arith
 
   holder-there : m < slotsIn s
   holder-there = let e = turn .reached .holds i in let b = byte-is turn l in omega arith
@@ -95,10 +95,10 @@ module _ {s u marks : List ℕ} {i end : ℕ} (turn : Turn s u marks i end) (l :
 
       -- the marks before the end: that of the place holder has its distance, the others are as they were
       mark-here : getD marks′ i 0 ≡ marked
-      mark-here = handed-front end marks₁ y inside-marks i l ∙ getD-set-same marks i marked 0 (let a = turn .marks-long in let b = turn .inside in omega arith)
+      mark-here = handed-front end marks₁ y (inside-marks marked) i l ∙ getD-set-same marks i marked 0 (let a = turn .marks-long in let b = turn .inside in omega arith)
 
       mark-other : (j : ℕ) → j < end → (j ≡ i → ⊥) → getD marks′ j 0 ≡ getD marks j 0
-      mark-other j k other = handed-front end marks₁ y inside-marks j k ∙ getD-set-other marks i j marked 0 other
+      mark-other j k other = handed-front end marks₁ y (inside-marks marked) j k ∙ getD-set-other marks i j marked 0 other
 
       alike-here : Alike (getD marks i 0) marked
       alike-here = record { board-is = omega arith; here-is = omega arith }
@@ -131,7 +131,7 @@ module _ {s u marks : List ℕ} {i end : ℕ} (turn : Turn s u marks i end) (l :
           let byte : getD (drop i w ++ encode g) 0 0 ≡ getD u i 0 =
           List·getD-append (drop i w) (encode g) 0 0 (omega (arith, long)) ∙ getD-drop i w 0 0 ∙ ap (λ (n : ℕ). getD w n 0) (omega arith) ∙ byte-is turn l in
           let to : i + (end - i) ≡ end = omega arith in
-          let behind : drop (end - i) (drop i marks′) ≡ y = drop-drop (end - i) i marks′ ∙ ap (λ (n : ℕ). drop n marks′) to ∙ handed-back end marks₁ y inside-marks in
+          let behind : drop (end - i) (drop i marks′) ≡ y = drop-drop (end - i) i marks′ ∙ ap (λ (n : ℕ). drop n marks′) to ∙ handed-back end marks₁ y (inside-marks marked) in
           let last = stands-last s (drop i w) x (drop i marks′) y (end - i) m (omega (arith, long)) behind (h .stands) in
           subst (λ (z : List ℕ). HeldFront s z (drop i marks′)) (sym (drop-append-le i w (encode g) (omega (arith, long))))
           (record {
@@ -160,7 +160,7 @@ module _ {s u marks : List ℕ} {i end : ℕ} (turn : Turn s u marks i end) (l :
           let d = drop-append-le (i + 1) w (encode g) (omega arith) in
           record {
             u-long = handed-length end u x inside-u lx ∙ turn .u-long;
-            marks-long = handed-length end marks₁ y inside-marks ly ∙ length-set marks i marked ∙ turn .marks-long;
+            marks-long = handed-length end marks₁ y (inside-marks marked) ly ∙ length-set marks i marked ∙ turn .marks-long;
             inside = omega arith;
             reached =
                 subst (λ (z : List ℕ). Reached s z marks′ (i + 1)) (sym written)

@@ -3,11 +3,11 @@
 -- nothing.
 use mathlib.Core.Path.{_≡_, refl, sym, ap, ap₂, _∙_, subst}
 use mathlib.Core.Bool.{Bool, true, false}
-use mathlib.Core.List.{List, [], _∷_}
-use Prim.Native.Nat.{ℕ, suc, _+_, _<_, _≤_}
+use mathlib.Core.List.{List, []}
+use Prim.Native.Nat.{ℕ, _+_, _<_, _≤_}
 use native.Mathlib.Omega.{arith}
 use lib.ListN.{length, getD, take, drop}
-use lib.Seq.{length-take-le, take-at, drop-cons, getD-take}
+use lib.Seq.{length-take-le, take-at, getD-take}
 use lib.Dec.{ltb}
 use borrow.Author.Tests.{ltb-true, ltb-false}
 use Rattle.ltl.specs.Limits.{nodesMost}
@@ -16,7 +16,7 @@ use Rattle.ltl.proofs.Texts.{length-encode}
 use Rattle.state.specs.Fields.{slotsIn}
 use Rattle.passing.specs.Holds.{Holds}
 use Rattle.counting.specs.Held.{heldAt, heldOver}
-use Rattle.counting.proofs.Held.{held-low}
+use Rattle.counting.proofs.Held.{held-low, over-next}
 use Rattle.counting.proofs.Networks.{nodesOfSlot}
 use Rattle.spreading.specs.Spreads.{unfoldedAt, SlotAsk, PutsSlot, SpreadAsk}
 use Rattle.spreading.proofs.Room.{slot-hold, root-there, root-room}
@@ -85,13 +85,12 @@ module _ {s u marks : List ℕ} {i end : ℕ} (turn : Turn s u marks i end) (l :
   pub byte-is : getD w i 0 ≡ getD u i 0
   byte-is = getD-take end u i 0 l
 
-  next-byte : drop i w ≡ getD u i 0 ∷ drop (i + 1) w
-  next-byte =
-      let e : suc i ≡ i + 1 = omega arith in
-      drop-cons w i 0 (omega (arith, w-long)) ∙ ap₂ (λ (x n : ℕ). x ∷ drop n w) byte-is e
-
   pub room-next : end + (heldAt (nodesOfSlot s) (getD u i 0) + heldOver (nodesOfSlot s) (drop (i + 1) w)) ≤ nodesMost
-  room-next = let r = turn .reached .room in let e = ap (heldOver (nodesOfSlot s)) next-byte in let k = w-long in omega arith
+  room-next =
+      let r = turn .reached .room in
+      let e = over-next (nodesOfSlot s) w i (omega (arith, w-long)) in
+      let b = ap (heldAt (nodesOfSlot s)) byte-is in
+      omega (arith, w-long)
 
   -- it is no place holder
   pub turn-past : getD u i 0 < 128 → Turn s u marks (i + 1) end

@@ -64,10 +64,10 @@ mul-put-slot : tie.Need-mul-put-slot Inv-loop μ-loop
 mul-put-slot c = search needs
 
 sub-put-slot-2 : tie.Need-sub-put-slot-2 Inv-loop μ-loop
-sub-put-slot-2 c = let a = inside-marks (c .before .before .before .before .before .loop .inv) (c .before .before .before .before .loop-test .taken) (c .before .before .if1 .taken) in omega arith
+sub-put-slot-2 c = inside-marks (c .before .before .before .before .before .loop .inv) (c .before .before .before .before .loop-test .taken) (c .before .before .if1 .taken) _
 
 part-put-slot-start-2 : tie.Need-part-put-slot-start-2 Inv-loop μ-loop
-part-put-slot-start-2 c = let a = inside-marks (c .before .before .before .before .before .loop .inv) (c .before .before .before .before .loop-test .taken) (c .before .before .if1 .taken) in omega arith
+part-put-slot-start-2 c = inside-marks (c .before .before .before .before .before .loop .inv) (c .before .before .before .before .loop-test .taken) (c .before .before .if1 .taken) _
 
 part-put-slot-end-2 : tie.Need-part-put-slot-end-2 Inv-loop μ-loop
 part-put-slot-end-2 c = search needs
