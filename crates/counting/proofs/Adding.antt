@@ -1,74 +1,59 @@
 -- The pass over a slot's bytes: what its place holders add, behind one byte (`after-low`, `after-high`) and over all of them
--- (`added-none`, `added-more`, `added-all`). A byte by itself: `held-low`, `held-high`. Assumes nothing.
-use mathlib.Core.Path.{_≡_, sym, ap, _∙_}
+-- (`added-none`, `added-more`, `added-all`). Assumes nothing.
+use mathlib.Core.Path.{_≡_, ap}
 use mathlib.Core.List.{List}
 use Prim.Native.Nat.{ℕ, _+_, _-_, _<_, _≤_}
-use native.Mathlib.Numerals.{add-one}
 use native.Mathlib.Omega.{arith}
 use lib.ListN.{length, getD, drop, drop-of-length-le}
-use lib.Seq.{drop-cons}
-use borrow.Author.Tests.{lt-ltb, le-ltb}
-use Rattle.lists.specs.Tests.{pick}
 use Rattle.ltl.specs.Limits.{nodesMost}
 use Rattle.state.specs.Clauses.{slotsMost}
 use Rattle.counting.specs.declared.Totals.{Totals}
 use Rattle.counting.specs.Totals.{capped}
-use Rattle.counting.specs.Tables.{heldAt, heldOver, HeldBy}
-
--- ---- a byte
-pub held-low : (entries : List ℕ) (b : ℕ) → b < 128 → heldAt entries b ≡ 0
-unfolding heldAt pick
-held-low entries b h = rw (lt-ltb b 128 h)
-
-pub held-high : (entries : List ℕ) (b : ℕ) → 128 ≤ b → heldAt entries b ≡ getD entries (b - 128) 0
-unfolding heldAt pick
-held-high entries b h = rw (le-ltb b 128 h)
+use Rattle.counting.specs.Held.{heldAt, heldOver, entryIn}
+use Rattle.counting.specs.Tables.{HeldBy}
+use Rattle.counting.proofs.Held.{held-low, held-high, over-next}
 
 -- ---- behind a byte
 module _ (slots nodes : List ℕ) (b : ℕ) (t : Totals) where
   -- what was counted before, and what the byte adds
   abbrev pub After : Totals → Type 0
-  After r = (r .slots ≡ capped slotsMost (t .slots + heldAt slots b)) × (r .nodes ≡ capped nodesMost (t .nodes + heldAt nodes b))
+  After r = (r .slots ≡ capped slotsMost (t .slots + heldAt (entryIn slots) b)) × (r .nodes ≡ capped nodesMost (t .nodes + heldAt (entryIn nodes) b))
 
   pub after-low : b < 128 → t .slots ≤ 65 → t .nodes ≤ 4097 → After t
-  after-low h ls ln = let x = held-low slots b h in let y = held-low nodes b h in (omega arith, omega arith)
+  after-low h ls ln = let x = held-low (entryIn slots) b h in let y = held-low (entryIn nodes) b h in (omega arith, omega arith)
 
   pub after-high : 128 ≤ b → (r : Totals) → r .slots ≡ capped slotsMost (t .slots + getD slots (b - 128) 0)
       → r .nodes ≡ capped nodesMost (t .nodes + getD nodes (b - 128) 0) → After r
-  after-high h r es en = let x = held-high slots b h in let y = held-high nodes b h in (omega arith, omega arith)
+  after-high h r es en = let x = held-high (entryIn slots) b h in let y = held-high (entryIn nodes) b h in (omega arith, omega arith)
 
 -- ---- the pass over the bytes
-over-next : (entries p : List ℕ) (i : ℕ) → i < length p → heldOver entries (drop i p) ≡ heldAt entries (getD p i 0) + heldOver entries (drop (i + 1) p)
-over-next entries p i h =
-    ap (heldOver entries) (drop-cons p i 0 h) ∙ ap (λ (j : ℕ). heldAt entries (getD p i 0) + heldOver entries (drop j p)) (sym (add-one i))
-
-over-end : (entries p : List ℕ) (i : ℕ) → length p ≤ i → heldOver entries (drop i p) ≡ 0
-over-end entries p i h = ap (heldOver entries) (drop-of-length-le p h)
+over-end : (entry : ℕ → ℕ) (p : List ℕ) (i : ℕ) → length p ≤ i → heldOver entry (drop i p) ≡ 0
+over-end entry p i h = ap (heldOver entry) (drop-of-length-le p h)
 
 module _ (slots nodes p : List ℕ) where
   -- the bytes before place i are added
   pub record Added (i : ℕ) (t : Totals) : Type 0 where
     pub few-slots : t .slots ≤ 65
     pub few-nodes : t .nodes ≤ 4097
-    pub slots-are : capped slotsMost (t .slots + heldOver slots (drop i p)) ≡ capped slotsMost (heldOver slots p)
-    pub nodes-are : capped nodesMost (t .nodes + heldOver nodes (drop i p)) ≡ capped nodesMost (heldOver nodes p)
+    pub slots-are : capped slotsMost (t .slots + heldOver (entryIn slots) (drop i p)) ≡ capped slotsMost (heldOver (entryIn slots) p)
+    pub nodes-are : capped nodesMost (t .nodes + heldOver (entryIn nodes) (drop i p)) ≡ capped nodesMost (heldOver (entryIn nodes) p)
 
   pub added-none : Added 0 (record { slots = 0; nodes = 0 })
   added-none = record { few-slots = omega arith; few-nodes = omega arith; slots-are = omega arith; nodes-are = omega arith }
 
-  pub added-more : (i : ℕ) (t r : Totals) → i < length p → Added i t → r .slots ≡ capped slotsMost (t .slots + heldAt slots (getD p i 0))
-      → r .nodes ≡ capped nodesMost (t .nodes + heldAt nodes (getD p i 0)) → Added (i + 1) r
+  pub added-more : (i : ℕ) (t r : Totals) → i < length p → Added i t → r .slots ≡ capped slotsMost (t .slots + heldAt (entryIn slots) (getD p i 0))
+      → r .nodes ≡ capped nodesMost (t .nodes + heldAt (entryIn nodes) (getD p i 0)) → Added (i + 1) r
   added-more i t r l a es en =
-      let x = over-next slots p i l in
-      let y = over-next nodes p i l in
+      let x = over-next (entryIn slots) p i l in
+      let y = over-next (entryIn nodes) p i l in
       let xs = a .slots-are in
       let ys = a .nodes-are in
       record { few-slots = omega arith; few-nodes = omega arith; slots-are = omega arith; nodes-are = omega arith }
 
   pub added-all : (i : ℕ) (t : Totals) → length p ≤ i → Added i t → HeldBy slots nodes p t
   added-all i t l a =
-      let x = over-end slots p i l in
-      let y = over-end nodes p i l in
+      let x = over-end (entryIn slots) p i l in
+      let y = over-end (entryIn nodes) p i l in
       let fs = a .few-slots in
       let fn = a .few-nodes in
       let xs = a .slots-are in

@@ -23,8 +23,10 @@ use Rattle.passing.proofs.Passing.{passing}
 use Rattle.counting.specs.declared.Totals.{Totals}
 use Rattle.counting.specs.Known.{Known}
 use Rattle.counting.specs.Totals.{capped, Totalled}
-use Rattle.counting.specs.Tables.{Tables, heldOver, CountedOn}
-use Rattle.counting.proofs.Summing.{clean-held, held-capped}
+use Rattle.counting.specs.Held.{heldOver, entryIn}
+use Rattle.counting.specs.Tables.{Tables, CountedOn}
+use Rattle.counting.proofs.Held.{clean-held}
+use Rattle.counting.proofs.Summing.{unfolded-held, held-capped}
 use Rattle.counting.proofs.Networks.{slotsOfSlot, nodesOfSlot, slot-clean, slot-higher, slots-at, nodes-at, next-slots, next-nodes}
 
 pub known-few : {s : List ℕ} {boards slots nodes : ℕ} {owner : List ℕ} → Known s boards slots nodes owner → slots ≤ 64
@@ -55,12 +57,15 @@ filled-none s k slots nodes e t = record { tables = t; slots-are = λ m a b. abs
 module _ (s : List ℕ) (ok : stateOk s ≡ true) where
   -- what slot j holds, by the entries above it
   held-is : (most j k : ℕ) (count : ℕ → ℕ) (entries : List ℕ) → j < slotsIn s → k ≤ j + 1 → From most (slotsIn s) k count entries
-      → capped most (heldOver entries (encode (formulaAt s j))) ≡ capped most (held count (unfolded (formulaAt s j)))
+      → capped most (heldOver (entryIn entries) (encode (formulaAt s j))) ≡ capped most (held count (unfolded (formulaAt s j)))
   held-is most j k count entries l a from =
       let f = formulaAt s j in
-      ap (capped most) (clean-held (chosen (masksIn s)) entries f (passing s ok .slots j l .coded) (slot-clean s ok j l))
-      ∙ held-capped most (λ m. getD entries m 0) count (unfolded f)
-      (holds-map (λ m. (j < m) × (m < slotsIn s)) (λ m. getD entries m 0 ≡ capped most (count m)) (λ m h. (let lo = h .0 in from m (omega arith) (h .1))) (unfolded f) (slot-higher s ok j l))
+      let choose = chosen (masksIn s) in
+      let entry = entryIn entries in
+      let clean = slot-clean s ok j l in
+      ap (capped most) (clean-held entry choose f (passing s ok .slots j l .coded) clean ∙ sym (unfolded-held choose entry f clean))
+      ∙ held-capped most entry count (unfolded f)
+      (holds-map (λ m. (j < m) × (m < slotsIn s)) (λ m. entry m ≡ capped most (count m)) (λ m h. (let lo = h .0 in from m (omega arith) (h .1))) (unfolded f) (slot-higher s ok j l))
 
   module _ (j k : ℕ) (slots nodes : List ℕ) (l : j < slotsIn s) (a : k ≤ j + 1) (filled : Filled s k slots nodes) (r : Totals)
       (counted : CountedOn (masksIn s) slots nodes (formulaAt s j) (boardOfIn s j) r) where

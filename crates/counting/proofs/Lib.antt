@@ -1,4 +1,5 @@
 -- Laws of counting over plain lists.
+pub mod Held
 pub mod Adding
 pub mod Summing
 pub mod Levels

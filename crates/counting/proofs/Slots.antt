@@ -1,12 +1,12 @@
 -- One slot counted. Of its formula's bytes: no sum is too large (`cuts-few`, `own-few`), and what they count (`counts-on`). Of a slot of a known
--- state: where it lies (`slot-placed`, `slot-numbers`, `start-is`), what is asked where its bytes are lent (`formula-ask`), and what it
--- counts (`slot-counted`). Assumes nothing.
+-- state: where it lies (`slot-placed`, `slot-numbers`, `start-is`), that its bytes as they are lent are its formula (`lent-front`), what is
+-- asked there (`formula-ask`), and what it counts (`slot-counted`). Assumes nothing.
 use mathlib.Core.Path.{_≡_, refl, sym, ap, _∙_, subst}
 use mathlib.Core.List.{List, [], append-nil}
 use mathlib.Core.Logic.{inr}
-use Prim.Native.Nat.{ℕ, _+_, _-_, _*_, _<_}
+use Prim.Native.Nat.{ℕ, _+_, _*_, _<_}
 use native.Mathlib.Omega.{arith}
-use lib.ListN.{getD, take, drop}
+use lib.ListN.{getD}
 use Rattle.le.specs.Le.{leAt}
 use Rattle.ltl.specs.Limits.{nodesMost}
 use Rattle.ltl.specs.Formula.{encode}
@@ -24,11 +24,12 @@ use Rattle.unfolding.specs.Unfolds as unfolds
 use Rattle.checking.proofs.Records as records
 use Rattle.checking.specs.Slotted.{Placed}
 use Rattle.passing.proofs.Passing.{SlotPassing}
-use Rattle.passing.proofs.Lying.{Lying, placed, slot-passing, lying, lent-holds}
+use Rattle.passing.proofs.Lying.{Lying, placed, slot-passing, lying, lent, lent-holds}
 use Rattle.counting.specs.declared.Totals.{Totals}
 use Rattle.counting.specs.Known.{Known}
 use Rattle.counting.specs.Totals.{capped}
-use Rattle.counting.specs.Tables.{Tables, heldOver, HeldBy, FormulaAsk, CountedOn, CountsOn}
+use Rattle.counting.specs.Held.{heldOver, entryIn}
+use Rattle.counting.specs.Tables.{Tables, HeldBy, FormulaAsk, CountedOn, CountsOn}
 
 -- ---- a formula's bytes
 module _ {p : List ℕ} {board : ℕ} {owner slots nodes : List ℕ} (ask : FormulaAsk p board owner slots nodes) (x : Counted) (cut : Cutting owner p board x) where
@@ -51,8 +52,8 @@ module _ {p : List ℕ} {board : ℕ} {owner slots nodes : List ℕ} (ask : Form
         let c = cut f [] front .parted .cuts-are n end masks owned (unfolded-coded n end f within) board (inr (refl, ask .there)) in
         let w = walk f [] front .1 in
         let b : p ≡ encode f = front .bytes ∙ append-nil (encode f) in
-        let hs = h .slots-are ∙ ap (λ (l : List ℕ). capped slotsMost (heldOver slots l)) b in
-        let hn = h .nodes-are ∙ ap (λ (l : List ℕ). capped nodesMost (heldOver nodes l)) b in
+        let hs = h .slots-are ∙ ap (λ (l : List ℕ). capped slotsMost (heldOver (entryIn slots) l)) b in
+        let hn = h .nodes-are ∙ ap (λ (l : List ℕ). capped nodesMost (heldOver (entryIn nodes) l)) b in
         record { slots-are = omega arith; nodes-are = omega arith }
 
 -- ---- a slot of a state that passes
@@ -71,32 +72,32 @@ module _ {s : List ℕ} {boards slots nodes k : ℕ} {owner : List ℕ} (known :
     abbrev board : ℕ
     board = getD s (16 + 17 * boards + 6 * k) 0
 
-    abbrev lent : List ℕ
-    lent = take (16 + 17 * boards + 6 * slots + end - (16 + 17 * boards + 6 * slots + start)) (drop (16 + 17 * boards + 6 * slots + start) s)
+    abbrev bytes : List ℕ
+    bytes = lent s boards slots start end
 
     lent-passing : SlotPassing s k
     lent-passing = slot-passing s boards slots nodes k (known .passes) (known .header) l
 
-    lent-front : Front lent (formulaAt s k) []
+    pub lent-front : Front (lent s boards slots start end) (formulaAt s k) []
     lent-front =
         record {
           coded = lent-passing .coded;
           bytes = records.bytes-at s boards slots nodes k slot-placed start end (start-is es) ee ∙ lent-passing .bytes ∙ sym (append-nil (encode (formulaAt s k)));
         }
 
-    pub formula-ask : {held-slots held-nodes : List ℕ} → Tables held-slots held-nodes → FormulaAsk lent board owner held-slots held-nodes
+    pub formula-ask : {held-slots held-nodes : List ℕ} → Tables held-slots held-nodes → FormulaAsk bytes board owner held-slots held-nodes
     formula-ask tables =
         let y = slot-numbers in
         record {
           begins = record { formula = formulaAt s k; rest = []; front = lent-front };
-          few = let n = front-length lent (formulaAt s k) [] lent-front in let z = lent-passing .length-is in omega arith;
+          few = let n = front-length bytes (formulaAt s k) [] lent-front in let z = lent-passing .length-is in omega arith;
           holds = λ i. (let h = lent-holds s boards slots nodes k (known .passes) (known .header) l start end (start-is es) ee i in omega arith);
           there = y .board;
           table = known .table;
           tables = tables;
         }
 
-    pub slot-counted : {held-slots held-nodes : List ℕ} (r : Totals) → CountsOn lent board owner held-slots held-nodes r
+    pub slot-counted : {held-slots held-nodes : List ℕ} (r : Totals) → CountsOn bytes board owner held-slots held-nodes r
         → CountedOn (masksIn s) held-slots held-nodes (formulaAt s k) (boardOfIn s k) r
     slot-counted {held-slots} {held-nodes} r h =
         subst (λ (b : ℕ). CountedOn (masksIn s) held-slots held-nodes (formulaAt s k) b r) (records.board-at s boards slots nodes k slot-placed)

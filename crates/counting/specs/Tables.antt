@@ -1,10 +1,8 @@
 -- What one slot counts, by two tables of what the slots count that it holds. Assumes nothing: these are definitions.
 use mathlib.Core.Path.{_≡_}
-use Prim.Native.Nat.{ℕ, _+_, _-_, _<_, _≤_}
-use mathlib.Core.List.{List, [], _∷_}
-use lib.ListN.{length, getD}
-use lib.Dec.{ltb}
-use Rattle.lists.specs.Tests.{pick}
+use Prim.Native.Nat.{ℕ, _+_, _<_, _≤_}
+use mathlib.Core.List.{List, []}
+use lib.ListN.{length}
 use Rattle.ltl.specs.Limits.{boardsMost, nodesMost}
 use Rattle.ltl.specs.Formula.{Formula, size, encode, Within}
 use Rattle.ltl.specs.Progression.{unfolded}
@@ -16,25 +14,17 @@ use Rattle.cutting.specs.Cuts.{cutsOn}
 use Rattle.passing.specs.Holds.{Holds}
 use Rattle.counting.specs.declared.Totals.{Totals}
 use Rattle.counting.specs.Totals.{capped}
+use Rattle.counting.specs.Held.{heldOver, entryIn}
 
 -- a table of slots and one of nodes, with an entry for each slot that there may be
 pub record Tables (slots nodes : List ℕ) : Type 0 where
   pub slots-long : length slots ≡ slotsMost
   pub nodes-long : length nodes ≡ slotsMost
 
--- what a byte adds: a place holder its slot's entry, any other node nothing
-unfoldable pub heldAt : List ℕ → ℕ → ℕ
-heldAt entries b = pick (ltb b 128) 0 (getD entries (b - 128) 0)
-
--- what some bytes add together
-abbrev pub heldOver : List ℕ → List ℕ → ℕ
-heldOver entries [] = 0
-heldOver entries (b ∷ p) = heldAt entries b + heldOver entries p
-
 -- the counts are what the bytes add
 pub record HeldBy (slots nodes p : List ℕ) (r : Totals) : Type 0 where
-  pub slots-are : r .slots ≡ capped slotsMost (heldOver slots p)
-  pub nodes-are : r .nodes ≡ capped nodesMost (heldOver nodes p)
+  pub slots-are : r .slots ≡ capped slotsMost (heldOver (entryIn slots) p)
+  pub nodes-are : r .nodes ≡ capped nodesMost (heldOver (entryIn nodes) p)
 
 -- the bytes of a slot on a board that is there
 pub record FormulaAsk (p : List ℕ) (board : ℕ) (owner slots nodes : List ℕ) : Type 0 where
@@ -47,8 +37,8 @@ pub record FormulaAsk (p : List ℕ) (board : ℕ) (owner slots nodes : List ℕ
 
 -- a slot counts itself and its cuts, and the nodes of its unfolded formula with one more for each cut; and what it holds
 pub record CountedOn (masks slots nodes : List ℕ) (f : Formula) (board : ℕ) (r : Totals) : Type 0 where
-  pub slots-are : r .slots ≡ capped slotsMost (1 + cutsOn (chosen masks) (unfolded f) board + heldOver slots (encode f))
-  pub nodes-are : r .nodes ≡ capped nodesMost (cutsOn (chosen masks) (unfolded f) board + size (unfolded f) + heldOver nodes (encode f))
+  pub slots-are : r .slots ≡ capped slotsMost (1 + cutsOn (chosen masks) (unfolded f) board + heldOver (entryIn slots) (encode f))
+  pub nodes-are : r .nodes ≡ capped nodesMost (cutsOn (chosen masks) (unfolded f) board + size (unfolded f) + heldOver (entryIn nodes) (encode f))
 
 -- the same of the formula that the bytes are, by whatever masks the table of owners belongs to
 abbrev pub CountsOn : List ℕ → ℕ → List ℕ → List ℕ → List ℕ → Totals → Type 0

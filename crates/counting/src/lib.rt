@@ -10,7 +10,8 @@ ghost use Rattle.state.specs.Calls.{nextIn};
 ghost use Rattle.passing.specs.Holds.{Holds};
 ghost use Rattle.counting.specs.Known.{Known};
 ghost use Rattle.counting.specs.Totals.{capped, Totalled};
-ghost use Rattle.counting.specs.Tables.{heldAt, Tables, HeldBy, FormulaAsk, CountedOn, CountsOn};
+ghost use Rattle.counting.specs.Held.{heldAt, entryIn};
+ghost use Rattle.counting.specs.Tables.{Tables, HeldBy, FormulaAsk, CountedOn, CountsOn};
 use checking::Counts;
 use kinds::Kind;
 use unfolding::NODES_MOST;
@@ -46,7 +47,7 @@ fn together(a: Totals, b: Totals) -> Totals
 // One node further: a place holder adds what its slot counts.
 fn after(b: u8, t: Totals, slots: &[u8], nodes: &[u16]) -> Totals
     requires { ⌜ Tables (now slots) (now nodes) × (b < 128 + slotsMost) × (t .slots ≤ slotsMost + 1) × (t .nodes ≤ nodesMost + 1) ⌝ }
-    ensures { λ r. ⌜ (r .slots ≡ capped slotsMost (t .slots + heldAt (now (slots .entry)) b)) × (r .nodes ≡ capped nodesMost (t .nodes + heldAt (now (nodes .entry)) b)) ⌝ }
+    ensures { λ r. ⌜ (r .slots ≡ capped slotsMost (t .slots + heldAt (entryIn (now (slots .entry))) b)) × (r .nodes ≡ capped nodesMost (t .nodes + heldAt (entryIn (now (nodes .entry))) b)) ⌝ }
 {
     if b < Kind::HOLD {
         return t;

@@ -1,5 +1,5 @@
--- A slot's bytes: place holders alone are 128 and more (`unary-low`, `binary-low`), and they are of slots that are there
--- (`bytes-hold`). Assumes nothing.
+-- A formula's bytes: place holders alone are 128 and more (`unary-low`, `binary-low`), and they are of slots that are there
+-- (`holds-formula`, with more bytes behind `holds-append`; for a slot's bytes `bytes-hold`). Assumes nothing.
 use mathlib.Core.Path.{ap}
 use mathlib.Core.Bool.{true, false}
 use mathlib.Core.List.{List, [], _∷_, _++_}
@@ -37,7 +37,7 @@ holds-cons : (n b : ℕ) (l : List ℕ) → b < 128 + n → Holds n l → Holds 
 holds-cons n b l h t zero = h
 holds-cons n b l h t (suc i) = t i
 
-holds-append : (n : ℕ) (l r : List ℕ) → Holds n l → Holds n r → Holds n (l ++ r)
+pub holds-append : (n : ℕ) (l r : List ℕ) → Holds n l → Holds n r → Holds n (l ++ r)
 holds-append n [] r h t i = t i
 holds-append n (b ∷ l) r h t zero = h 0
 holds-append n (b ∷ l) r h t (suc i) = holds-append n l r (λ j. h (suc j)) t i
@@ -45,7 +45,7 @@ holds-append n (b ∷ l) r h t (suc i) = holds-append n l r (λ j. h (suc j)) t 
 holds-none : (n : ℕ) → Holds n []
 holds-none n i = omega arith
 
-holds-formula : (p n : ℕ) (f : Formula) → p ≤ 64 → Within p n f → Holds n (encode f)
+pub holds-formula : (p n : ℕ) (f : Formula) → p ≤ 64 → Within p n f → Holds n (encode f)
 holds-formula p n (leaf (Const true)) l w = holds-cons n 1 [] (omega arith) (holds-none n)
 holds-formula p n (leaf (Const false)) l w = holds-cons n 0 [] (omega arith) (holds-none n)
 holds-formula p n (leaf (Prop i)) l w = holds-cons n (64 + i) [] (omega arith) (holds-none n)

@@ -1,5 +1,5 @@
 -- Where a slot of a state that passes lies, the counts being the header's: `placed` and `slot-passing` are what is known of it, `lying`
--- its numbers, and `lent-holds` that the place holders among its bytes, as they are lent, are of slots that are there. Assumes nothing.
+-- its numbers, and `lent-holds` that the place holders among its bytes, as they are `lent`, are of slots that are there. Assumes nothing.
 use mathlib.Core.Path.{_≡_, ap}
 use mathlib.Core.Bool.{true}
 use mathlib.Core.List.{List}
@@ -26,6 +26,10 @@ pub record Lying (s : List ℕ) (b n k : ℕ) : Type 0 where
   pub some-length : 1 ≤ lengthIn s k
   pub board : getD s (16 + 17 * b + 6 * k) 0 < 16
 
+-- bytes among a state's nodes, as they are lent
+abbrev pub lent : (s : List ℕ) (b n start end : ℕ) → List ℕ
+lent s b n start end = take (16 + 17 * b + 6 * n + end - (16 + 17 * b + 6 * n + start)) (drop (16 + 17 * b + 6 * n + start) s)
+
 module _ (s : List ℕ) (b n m k : ℕ) (ok : stateOk s ≡ true) (header : Header s b n m) (l : k < n) where
   pub placed : Placed s b n m k
   placed = records.placed s b n m k (passed-sized s b n m ok header) (passed-records s b n m ok header) l
@@ -51,8 +55,7 @@ module _ (s : List ℕ) (b n m k : ℕ) (ok : stateOk s ≡ true) (header : Head
         board = records.board-few s b n m k p;
       }
 
-  pub lent-holds : (start end : ℕ) → start ≡ startIn s k → end ≡ startIn s k + lengthIn s k
-      → Holds n (take (16 + 17 * b + 6 * n + end - (16 + 17 * b + 6 * n + start)) (drop (16 + 17 * b + 6 * n + start) s))
+  pub lent-holds : (start end : ℕ) → start ≡ startIn s k → end ≡ startIn s k + lengthIn s k → Holds n (lent s b n start end)
   lent-holds start end es ee i =
       let h = bytes-hold s k slot-passing (passing s ok .few-propositions) i in
       let e = ap (λ (l : List ℕ). getD l i 0) (records.bytes-at s b n m k placed start end es ee) in

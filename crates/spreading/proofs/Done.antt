@@ -20,7 +20,7 @@ use Rattle.laying.specs.Lays.{OnBoard, HeldAt}
 use Rattle.laying.proofs.Totals.{relaid-single}
 use Rattle.passing.proofs.Passing.{passing}
 use Rattle.spreading.specs.Spreads.{unfoldedAt, Spreads}
-use Rattle.spreading.proofs.Room.{holdIn, slot-coded, lays-again, next-is}
+use Rattle.spreading.proofs.Room.{holdIn, slot-coded, root-there, lays-again, next-is}
 use Rattle.spreading.proofs.Places.{StandsIn, HeldFront}
 use Rattle.spreading.proofs.Turns.{Turn}
 
@@ -87,7 +87,7 @@ module _ (s : List ℕ) (ok : stateOk s ≡ true) where
                     single = λ m k. relaid-single choose (networkOf s) (length (networkOf s)) m k;
                     boards = λ f c e. chosen-below boardsMost (masksIn s) (let a = masks-length s in let b = p .header .few-boards in omega arith) f c e;
                   };
-              stands = on-board w marks 0 0 (let a = p .header .some-slots in omega arith) (turn .reached .root);
+              stands = on-board w marks 0 0 (root-there s ok) (turn .reached .root);
               network-is = next-is s ok;
             };
       }

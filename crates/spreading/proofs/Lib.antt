@@ -1,7 +1,7 @@
 -- Laws of spreading.
-pub mod Slots
-pub mod Holders
 pub mod Room
+pub mod Slots
 pub mod Places
 pub mod Turns
+pub mod Putting
 pub mod Done

@@ -1,17 +1,18 @@
--- One slot unfolded and marked: where it lies (`slot-numbers`), what is asked of unfolding and marking, and what was put (`slot-put`).
--- Assumes nothing.
+-- One slot unfolded and marked: what is asked of unfolding and marking (`unfold-ask`, `mark-ask`), and what was written (`written-is`) and
+-- put (`slot-put`). Assumes nothing.
 use mathlib.Core.Path.{_≡_, refl, sym, ap, ap₂, _∙_}
 use mathlib.Core.List.{List, [], _++_, append-nil}
 use mathlib.Core.Logic.{inr}
-use Prim.Native.Nat.{ℕ, _+_, _-_, _*_, _<_, _≤_}
+use Prim.Native.Nat.{ℕ, _+_, _*_, _<_, _≤_}
 use native.Mathlib.Omega.{arith}
 use lib.ListN.{length, getD, take, drop}
 use lib.Seq.{take-at}
-use Rattle.ltl.specs.Formula.{size, encode, Within}
-use Rattle.ltl.proofs.Texts.{length-encode, unfolded-coded}
+use Rattle.le.specs.Le.{leAt}
+use Rattle.ltl.specs.Formula.{size, encode}
+use Rattle.ltl.proofs.Texts.{length-encode}
 use Rattle.masks.specs.Masks.{sumOnes}
 use Rattle.network.specs.Scores.{chosen}
-use Rattle.state.specs.Fields.{slotsIn, masksIn, boardOfIn, startIn, lengthIn, slotBytes}
+use Rattle.state.specs.Fields.{slotsIn, masksIn, startIn, lengthIn}
 use Rattle.state.specs.Bytes.{formulaAt}
 use Rattle.nodes.specs.Begins.{Front, Begins}
 use Rattle.nodes.proofs.Fronts.{front-length}
@@ -22,71 +23,40 @@ use Rattle.cutting.proofs.Looking.{place-given}
 use Rattle.marking.specs.declared.Placed as mark
 use Rattle.marking.specs.Marks.{hereOn, Marking}
 use Rattle.marking.proofs.Places.{mark-has}
-use Rattle.checking.specs.Slotted.{Placed}
-use Rattle.checking.proofs.Assembled.{passed-sized, passed-records}
 use Rattle.checking.proofs.Records as records
-use Rattle.passing.proofs.Passing.{SlotPassing, passing}
+use Rattle.passing.proofs.Lying.{lent}
+use Rattle.counting.proofs.Slots.{slot-placed, slot-numbers, lent-front}
 use Rattle.spreading.specs.Spreads.{unfoldedAt, SlotAsk, PutsSlot}
-
--- the numbers of it
-pub record SlotNumbers (s : List ℕ) (boards slots m : ℕ) : Type 0 where
-  pub long : length s ≡ 4768
-  pub few-boards : boards ≤ 16
-  pub few-slots : slots ≤ 64
-  pub number : m < slots
-  pub few-nodes : startIn s m + lengthIn s m ≤ 4096
+use Rattle.spreading.proofs.Room.{slot-within, slot-coded}
 
 module _ {s : List ℕ} {boards slots nodes m : ℕ} {owner u marks : List ℕ} (ask : SlotAsk s boards slots nodes m owner u marks) where
-  there : m < slots
+  there : m < slotsIn s
   there = let e = ask .known .header .slots-are in let l = ask .there in omega arith
 
-  pub placed : Placed s boards slots nodes m
-  placed =
-      records.placed s boards slots nodes m (passed-sized s boards slots nodes (ask .known .passes) (ask .known .header))
-      (passed-records s boards slots nodes (ask .known .passes) (ask .known .header)) there
-
-  slot-passing : SlotPassing s m
-  slot-passing = passing s (ask .known .passes) .slots m (ask .there)
-
-  pub slot-numbers : SlotNumbers s boards slots m
-  slot-numbers =
-      let z = placed .sized in
-      let a = placed .stretch .used in
-      let b = placed .stretch .ends in
-      let c = z .header .nodes-are in
-      let d = z .few-nodes in
-      record { long = z .long; few-boards = z .few-boards; few-slots = z .few-slots; number = there; few-nodes = omega arith }
-
-  slot-front : (bytes : List ℕ) → bytes ≡ slotBytes s m → Front bytes (formulaAt s m) []
-  slot-front bytes e = record { coded = slot-passing .coded; bytes = e ∙ slot-passing .bytes ∙ sym (append-nil (encode (formulaAt s m))) }
-
   -- the slot's bytes, as they are lent
-  module _ (start end : ℕ) (es : start ≡ startIn s m) (ee : end ≡ startIn s m + lengthIn s m) where
-    abbrev at : ℕ
-    at = 16 + 17 * boards + 6 * slots
+  module _ (start end : ℕ) (es : start ≡ leAt s (16 + 17 * boards + 6 * m + 2) 2) (ee : end ≡ startIn s m + lengthIn s m) where
+    abbrev bytes : List ℕ
+    bytes = lent s boards slots start end
 
-    abbrev lent : List ℕ
-    lent = take (at + end - (at + start)) (drop (at + start) s)
+    slot-front : Front bytes (formulaAt s m) []
+    slot-front = lent-front (ask .known) (ask .there) start end es ee
 
-    lent-is : lent ≡ slotBytes s m
-    lent-is = records.bytes-at s boards slots nodes m placed start end es ee
+    pub unfold-ask : Room u bytes
+    unfold-ask = record { begins = record { formula = formulaAt s m; rest = []; front = slot-front }; room = ask .room }
 
-    pub unfold-ask : Room u lent
-    unfold-ask = record { begins = record { formula = formulaAt s m; rest = []; front = slot-front lent lent-is }; room = ask .room }
-
-    module _ {u′ : List ℕ} (w : Walk) (h : Unfolds u lent u′ (w .read) (w .written)) where
+    module _ {u′ : List ℕ} (w : Walk) (h : Unfolds u bytes u′ (w .read) (w .written)) where
       pub written-is : w .written ≡ size (unfoldedAt s m)
-      written-is = h (formulaAt s m) [] (slot-front lent lent-is) .writes
+      written-is = h (formulaAt s m) [] slot-front .writes
 
       leaves-is : u′ ≡ encode (unfoldedAt s m) ++ drop (size (unfoldedAt s m)) u
-      leaves-is = h (formulaAt s m) [] (slot-front lent lent-is) .leaves
+      leaves-is = h (formulaAt s m) [] slot-front .leaves
 
       front-of : (n : ℕ) → n ≡ size (unfoldedAt s m) → take n u′ ≡ encode (unfoldedAt s m)
       front-of n e = ap₂ take e leaves-is ∙ take-at (encode (unfoldedAt s m)) (drop (size (unfoldedAt s m)) u) (size (unfoldedAt s m)) (length-encode (unfoldedAt s m))
 
       unfolded-front : Front (take (w .written) u′) (unfoldedAt s m) []
       unfolded-front =
-          record { coded = unfolded-coded 64 64 (formulaAt s m) (slot-passing .coded); bytes = front-of (w .written) written-is ∙ sym (append-nil (encode (unfoldedAt s m))) }
+          record { coded = slot-coded s (ask .known .passes) m there; bytes = front-of (w .written) written-is ∙ sym (append-nil (encode (unfoldedAt s m))) }
 
       pub mark-ask : length u′ ≡ length u → Begins (take (w .written) u′) × Table owner × (length (take (w .written) u′) ≤ length marks) × (length (take (w .written) u′) ≤ 4096)
       mark-ask k =
@@ -96,11 +66,16 @@ module _ {s : List ℕ} {boards slots nodes m : ℕ} {owner u marks : List ℕ} 
           let l = ask .long in
           (record { formula = unfoldedAt s m; rest = []; front = unfolded-front }, ask .known .table, omega arith, omega arith)
 
-      pub slot-put : (board : ℕ) → board ≡ boardOfIn s m → board < 16 → {marks′ : List ℕ} (y : mark.Placed) → Marking owner (take (w .written) u′) board marks′ y → PutsSlot s m u u′ marks′ (w .written)
-      slot-put board b few {marks′} y h =
+      abbrev board : ℕ
+      board = getD s (16 + 17 * boards + 6 * m) 0
+
+      pub slot-put : {marks′ : List ℕ} (y : mark.Placed) → Marking owner (take (w .written) u′) board marks′ y → PutsSlot s m u u′ marks′ (w .written)
+      slot-put {marks′} y h =
           let k = h (unfoldedAt s m) [] unfolded-front in
           let p = sumOnes (masksIn s) in
-          let within : Within p (slotsIn s) (unfoldedAt s m) = unfolded-coded p (slotsIn s) (formulaAt s m) (slot-passing .within) in
+          let within = slot-within s (ask .known .passes) m there in
+          let few = slot-numbers (ask .known) (ask .there) .board in
+          let b = records.board-at s boards slots nodes m (slot-placed (ask .known) (ask .there)) in
           let is : y .board ≡ board = k .board-is ∙ place-given board (y .scores .counts) (λ e. omega arith) in
           let has = mark-has (getD marks′ 0 0) (y .here) (y .board) (k .mark-is) (omega arith) (k .small) in
           record {

@@ -8,7 +8,7 @@ use Rattle.ltl.specs.Limits.{nodesMost}
 use Rattle.ltl.specs.Formula.{Formula, size, encode}
 use Rattle.ltl.specs.Progression.{unfolded}
 use Rattle.network.specs.Scores.{chosen}
-use Rattle.state.specs.Fields.{slotsIn, masksIn, boardOfIn}
+use Rattle.state.specs.Fields.{masksIn, boardOfIn}
 use Rattle.state.specs.Bytes.{nodesOf, formulaAt}
 use Rattle.state.specs.Calls.{nextIn}
 use Rattle.counting.specs.Known.{Known}
@@ -28,7 +28,7 @@ pub record Stands (s u marks : List ℕ) (m : ℕ) : Type 0 where
 
 pub record SlotAsk (s : List ℕ) (boards slots nodes m : ℕ) (owner u marks : List ℕ) : Type 0 where
   pub known : Known s boards slots nodes owner
-  pub there : m < slotsIn s
+  pub there : m < slots
   pub room : size (unfoldedAt s m) ≤ length u
   pub few : size (unfoldedAt s m) ≤ nodesMost
   pub long : length u ≤ length marks

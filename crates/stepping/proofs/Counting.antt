@@ -3,9 +3,9 @@
 -- Assumes nothing.
 use mathlib.Core.Path.{_≡_, sym, ap, _∙_}
 use mathlib.Core.List.{List, [], append-nil}
-use Prim.Native.Nat.{ℕ, _+_, _-_, _*_, _<_}
+use Prim.Native.Nat.{ℕ, _+_, _*_, _<_}
 use native.Mathlib.Omega.{arith}
-use lib.ListN.{getD, take, drop}
+use lib.ListN.{getD}
 use Rattle.le.specs.Le.{leAt}
 use Rattle.ltl.specs.Formula.{encode}
 use Rattle.state.specs.Fields.{boardAt, sampleIn, sampledIn, boardOfIn, startIn, lengthIn}
@@ -39,8 +39,7 @@ module _ (s : List ℕ) (b n m k : ℕ) (c : Counted s b n m) (l : k < n) where
       ∙ verdict-first f
 
   -- its bytes, as they are lent
-  pub lent-holds : (start end : ℕ) → start ≡ startIn s k → end ≡ startIn s k + lengthIn s k
-      → Holds n (take (16 + 17 * b + 6 * n + end - (16 + 17 * b + 6 * n + start)) (drop (16 + 17 * b + 6 * n + start) s))
+  pub lent-holds : (start end : ℕ) → start ≡ startIn s k → end ≡ startIn s k + lengthIn s k → Holds n (there.lent s b n start end)
   lent-holds = there.lent-holds s b n m k (c .passes) (c .header) l
 
   -- its board's record

@@ -1,7 +1,8 @@
 -- At each turn the root and the slots of the place holders so far stand in what is spread out. Assumes nothing.
 use Prim.Native.Nat.{_-_}
 use mathlib.Core.Logic.{⊎-elim}
-use Rattle.spreading.proofs.Turns.{Turn, first-ask, first-turn, turn-past, inside-marks, holder-few, holder-ask, turn-put, turn-as}
+use Rattle.spreading.proofs.Turns.{Turn, first-ask, first-turn, turn-past, turn-as}
+use Rattle.spreading.proofs.Putting.{inside-marks, holder-few, holder-ask, turn-put}
 use Rattle.spreading.proofs.Done.{spread-done}
 use native.Mathlib.Omega.{arith}
 use borrow.Author.Needs.{needs}
@@ -63,10 +64,10 @@ mul-put-slot : tie.Need-mul-put-slot Inv-loop μ-loop
 mul-put-slot c = search needs
 
 sub-put-slot-2 : tie.Need-sub-put-slot-2 Inv-loop μ-loop
-sub-put-slot-2 c = let a = inside-marks (c .before .before .before .before .before .loop .inv) (c .before .before .before .before .loop-test .taken) (c .before .before .if1 .taken) in omega arith
+sub-put-slot-2 c = inside-marks (c .before .before .before .before .before .loop .inv) (c .before .before .before .before .loop-test .taken) (c .before .before .if1 .taken) _
 
 part-put-slot-start-2 : tie.Need-part-put-slot-start-2 Inv-loop μ-loop
-part-put-slot-start-2 c = let a = inside-marks (c .before .before .before .before .before .loop .inv) (c .before .before .before .before .loop-test .taken) (c .before .before .if1 .taken) in omega arith
+part-put-slot-start-2 c = inside-marks (c .before .before .before .before .before .loop .inv) (c .before .before .before .before .loop-test .taken) (c .before .before .if1 .taken) _
 
 part-put-slot-end-2 : tie.Need-part-put-slot-end-2 Inv-loop μ-loop
 part-put-slot-end-2 c = search needs
