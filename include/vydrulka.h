@@ -1,0 +1,119 @@
+// The library's C interface: the calls of the crate exports, which `rt staticlib exports` puts into target/staticlib/libexports.a
+// for x86-64 programs. docs/RULES.md says what rules, states and ticks are; tests/header holds this file to the sources.
+//
+// A call stands any bytes and numbers. It makes its checks in the order that its comment gives and answers the number of the
+// first that fails; then it has written nothing. Else it answers 0 and has stored its values behind the pointers to single
+// numbers. What it answers and writes follows from what it is given, and from nothing else. It allocates no memory, and takes
+// more stack the deeper a formula is nested.
+//
+// The caller sees to it that no pointer is null, that a buffer has as many elements as the length behind it says, and that
+// nothing which a call may write overlaps anything else that it is given.
+
+#ifndef VYDRULKA_H
+#define VYDRULKA_H
+
+#include <stddef.h>
+#include <stdint.h>
+
+#ifdef __cplusplus
+extern "C" {
+#endif
+
+// Limits and lengths.
+enum {
+    VYDRULKA_BOARDS_MOST = 16,       // boards of a rule
+    VYDRULKA_PROPOSITIONS_MOST = 64, // propositions of a rule
+    VYDRULKA_RULE_NODES_MOST = 1024, // nodes of a rule's formula
+    VYDRULKA_FILE_MOST = 1168,       // bytes of a rule file
+    VYDRULKA_SLOTS_MOST = 64,        // slots of a network
+    VYDRULKA_NODES_MOST = 4096,      // nodes of a network, and of a formula that central takes or unfolds
+    VYDRULKA_STATE_LENGTH = 4768,    // bytes of a state, always
+};
+
+// A formula has one byte a node: the node's, then its operands, the left one before the right one.
+enum vydrulka_node {
+    VYDRULKA_NODE_FALSE = 0,
+    VYDRULKA_NODE_TRUE = 1,
+    VYDRULKA_NODE_NOT = 2,
+    VYDRULKA_NODE_AND = 3,
+    VYDRULKA_NODE_OR = 4,
+    VYDRULKA_NODE_NEXT = 5,
+    VYDRULKA_NODE_UNTIL = 6,
+    VYDRULKA_NODE_EVENTUALLY = 7,
+    VYDRULKA_NODE_ALWAYS = 8,
+    VYDRULKA_NODE_PROP = 64,  // and i more: proposition i, which is bit i of a mask, a sample or an event
+    VYDRULKA_NODE_HOLD = 128, // and k more: the place holder of slot k, in a state only
+    VYDRULKA_NODE_END = 192,  // from here on no byte is a node
+};
+
+// Why a call was refused.
+enum vydrulka_refusal {
+    VYDRULKA_REFUSED_LENGTH = 1,    // a buffer is not as long as asked for, or a rule file not as long as its own total says
+    VYDRULKA_REFUSED_VERSION = 2,   // the rule file's version is not 1
+    VYDRULKA_REFUSED_RANGE = 3,     // boards, propositions or nodes of a rule are none or more than the limit
+    VYDRULKA_REFUSED_OFFSET = 4,    // an offset or the total is not the one that the rule file's counts give
+    VYDRULKA_REFUSED_MASKS = 5,     // a proposition is in no mask or in two, or a mask has a bit that is no proposition
+    VYDRULKA_REFUSED_FORMULA = 6,   // not one whole formula; a place holder; in a rule, a proposition that it has not
+    VYDRULKA_REFUSED_SLOTS = 7,     // the layout would have more slots than the limit
+    VYDRULKA_REFUSED_NODES = 8,     // the layout, or central's unfolded formula, would have more nodes than the limit
+    VYDRULKA_REFUSED_STATE = 9,     // the state fails its check, also by its length
+    VYDRULKA_REFUSED_FINISHED = 10, // the watch is finished
+    VYDRULKA_REFUSED_NOWHERE = 11,  // there is no board, or no slot, of this number
+    VYDRULKA_REFUSED_OUTSIDE = 12,  // the sample has a bit outside its board's mask
+    VYDRULKA_REFUSED_ALREADY = 13,  // the board has sampled, or the slot is stepped, in this tick already
+    VYDRULKA_REFUSED_UNREADY = 14,  // what must come before in this tick has not come
+    VYDRULKA_REFUSED_TICKS = 15,    // the ticks stand at 4,294,967,295
+};
+
+enum vydrulka_verdict {
+    VYDRULKA_VERDICT_FALSE = 0,
+    VYDRULKA_VERDICT_TRUE = 1,
+    VYDRULKA_VERDICT_PENDING = 2,
+};
+
+// Reads a rule file: its masks to the front of `masks`, of length VYDRULKA_BOARDS_MOST, its formula to the front of `formula`,
+// of length VYDRULKA_RULE_NODES_MOST, and zeros behind both. Gives the rule's counts.
+// Refusals in order: 1, 2, 3, 4, 5, 6.
+uint32_t vydrulka_read(const uint8_t *file, size_t file_len, uint64_t *masks, size_t masks_len, uint8_t *formula,
+                       size_t formula_len, uint64_t *boards, uint64_t *propositions, uint64_t *nodes);
+
+// Writes the rule file of a rule with these masks, one for each board, so many propositions and this formula to the front of
+// `file`, of length VYDRULKA_FILE_MOST, and zeros behind it. Gives the length of what was written.
+// Refusals in order: 1, 3, 5, 6.
+uint32_t vydrulka_write(const uint64_t *masks, size_t masks_len, uint64_t propositions, const uint8_t *formula,
+                        size_t formula_len, uint8_t *file, size_t file_len, uint64_t *written);
+
+// Progresses a formula of 1 to VYDRULKA_NODES_MOST nodes over an event, in one place: the outcome to the front of `output`, of
+// length VYDRULKA_NODES_MOST, and zeros behind it. Gives the outcome's verdict and nodes.
+// Refusals in order: 1, 6, 8.
+uint32_t vydrulka_central(const uint8_t *formula, size_t formula_len, uint64_t event, uint8_t *output, size_t output_len,
+                          uint32_t *verdict, uint64_t *nodes);
+
+// Begins a watch: lays out the rule of a file, at 0 ticks, into `state`, of length VYDRULKA_STATE_LENGTH, and writes that whole.
+// Refusals in order: 1, 2, 3, 4, 5, 6, 7, 8.
+uint32_t vydrulka_load(const uint8_t *file, size_t file_len, uint8_t *state, size_t state_len);
+
+// Gives a board its sample of this tick: writes the sample and that the board has sampled, and no other byte of the state.
+// Refusals in order: 9, 10, 11, 12, 13.
+uint32_t vydrulka_sample(uint8_t *state, size_t state_len, uint64_t board, uint64_t bits);
+
+// Steps a slot whose board has sampled and whose held slots are stepped: writes the slot's stretch, length and mark, and no
+// other byte of the state. A held slot has a higher number than its holder, so step from the highest number down.
+// Refusals in order: 9, 10, 11, 13, 14.
+uint32_t vydrulka_step(uint8_t *state, size_t state_len, uint64_t slot);
+
+// Closes a tick in which all boards have sampled and all slots are stepped: lays out the network again, one tick on, into
+// `second`, of length VYDRULKA_STATE_LENGTH, and writes that whole. The state stays as it was.
+// Refusals in order: 1, 9, 10, 14, 15, 7, 8.
+uint32_t vydrulka_close(const uint8_t *state, size_t state_len, uint8_t *second, size_t second_len);
+
+// Gives a watch's verdict, which is pending until a load or a close has left it finished, and its ticks, slots and nodes.
+// Refusals in order: 9.
+uint32_t vydrulka_ask(const uint8_t *state, size_t state_len, uint32_t *verdict, uint32_t *ticks, uint64_t *slots,
+                      uint64_t *nodes);
+
+#ifdef __cplusplus
+}
+#endif
+
+#endif
