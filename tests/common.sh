@@ -22,3 +22,13 @@ run_rattle() {
     [ -x "$emulator" ] || emulator=
     ${emulator:+"$emulator"} "$tools/lib/ld-linux-x86-64.so.2" --library-path "$tools/lib" "$@"
 }
+
+# The compiler for C programs that link the library, which is for x86-64 alone: on another machine a cross compiler.
+c_compiler() {
+    if [ "$(uname -m)" = x86_64 ]; then echo cc; else echo x86_64-linux-gnu-gcc -static; fi
+}
+
+# Runs such a program, where the machine is no x86-64 under the kit's emulator.
+run_c() {
+    if [ "$(uname -m)" = x86_64 ]; then "$@"; else "$(kit_tools)/bin/qemu-x86_64" "$@"; fi
+}
