@@ -1,4 +1,4 @@
-# What the scripts of tests/ and bench/ share; they source it from the project's root.
+# What the scripts of tests/, bench/ and examples/ share; they source it from the project's root.
 
 # Compiles the generator and the second program into target/tests/, and runs the second program's own tests.
 build_tests() {
