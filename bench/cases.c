@@ -1,65 +1,23 @@
-// Makes the inputs that are timed: small and large formulas for central, the smallest and the largest rule for read and write,
-// and refusals.
+// The table of the inputs that are timed, and those of read, write and central: small and large formulas, the smallest and the
+// largest rule, and refusals.
 
 #include "cases.h"
+#include "formulas.h"
 #include "plain.h"
-
-enum { FALSE, TRUE, NOT, AND, OR, NEXT, UNTIL, EVENTUALLY, ALWAYS, PROPOSITION = 64 };
-
-static void put(struct input *input, uint8_t byte)
-{
-    input->bytes[input->count++] = byte;
-}
-
-static void put_all(struct input *input, const uint8_t *bytes, size_t count)
-{
-    for (size_t i = 0; i < count; i++)
-        put(input, bytes[i]);
-}
-
-static uint64_t state;
-
-static size_t below(size_t limit)
-{
-    uint64_t z = state += UINT64_C(0x9e3779b97f4a7c15);
-    z = (z ^ z >> 30) * UINT64_C(0xbf58476d1ce4e5b9);
-    z = (z ^ z >> 27) * UINT64_C(0x94d049bb133111eb);
-    return (size_t)((z ^ z >> 31) % limit);
-}
-
-// A random formula of so many nodes, one operator in eight temporal.
-static void random_formula(struct input *input, size_t nodes, uint64_t seed)
-{
-    static size_t owed[MOST_BYTES];
-    size_t depth = 0;
-    state = seed;
-    owed[depth++] = nodes;
-    while (depth > 0) {
-        size_t size = owed[--depth];
-        if (size == 1) {
-            put(input, (uint8_t)(PROPOSITION + below(64)));
-        } else if (size == 2 || below(2) == 0) {
-            put(input, (uint8_t)(below(8) == 0 ? EVENTUALLY + below(2) : below(2) == 0 ? NOT : NEXT));
-            owed[depth++] = size - 1;
-        } else {
-            size_t left = 1 + below(size - 2);
-            put(input, (uint8_t)(below(8) == 0 ? UNTIL : AND + below(2)));
-            owed[depth++] = size - 1 - left;
-            owed[depth++] = left;
-        }
-    }
-}
+#include "slow.h"
+#include "watches.h"
 
 // The first random formula of a thousand nodes that is accepted and keeps a good part pending.
 static void random_thousand(struct input *input)
 {
     enum { COUNT = 1000 };
-    static uint8_t output[MOST_BYTES];
+    static uint8_t output[MOST_FORMULA];
     uint32_t verdict;
     uint64_t length = 0, seed = 1;
     do {
         input->count = 0;
-        random_formula(input, COUNT, seed++);
+        seed_random(seed++);
+        random_formula(input, COUNT, 0, 64);
     } while (plain_central(input->bytes, input->count, input->number, output, sizeof output, &verdict, &length) != 0 || length < COUNT / 4);
 }
 
@@ -122,23 +80,6 @@ static void broken_chain(struct input *input)
     input->bytes[input->count / 2] = 255;
 }
 
-// A next over the until with this number: all of one size, told apart by their last bytes.
-static void numbered(struct input *input, size_t number)
-{
-    put_all(input, (const uint8_t[]){NEXT, UNTIL, (uint8_t)(PROPOSITION + number / 64), (uint8_t)(PROPOSITION + number % 64)}, 4);
-}
-
-// An and-chain of 800 operands: the first half equal its last member, so that each of them passes all the others to find it.
-static void member_chain(struct input *input)
-{
-    enum { HALF = 400 };
-    for (size_t i = 0; i < 2 * HALF; i++) {
-        put(input, AND);
-        numbered(input, i < HALF ? HALF : i - HALF);
-    }
-    numbered(input, HALF);
-}
-
 static void nested_always(struct input *input, size_t count)
 {
     for (size_t i = 0; i < count; i++)
@@ -158,7 +99,7 @@ static void too_many_always(struct input *input)
 
 static void far_too_many_always(struct input *input)
 {
-    nested_always(input, MOST_BYTES - 1);
+    nested_always(input, MOST_FORMULA - 1);
 }
 
 // For read the rule becomes its file.
@@ -188,7 +129,8 @@ static void largest(struct input *input)
     for (size_t i = 0; i < MOST_MASKS; i++)
         input->masks[i] = UINT64_C(0xf) << 4 * i;
     input->number = 64;
-    random_formula(input, 1024, 1);
+    seed_random(1);
+    random_formula(input, 1024, 0, 64);
     finish_rule(input);
 }
 
@@ -209,36 +151,92 @@ static void bad_formula(struct input *input)
     input->bytes[input->count - 1] = 128;
 }
 
+// What a maker leaves becomes the call's input by the row's finisher, where it has one. A slow input names a typical one.
 static const struct {
     const char *name;
     enum call call;
     void (*make)(struct input *);
+    void (*finish)(struct input *);
     uint32_t refusal;
+    const char *typical;
 } table[] = {
-    {"central: until over two propositions", CENTRAL, until, 0},
-    {"central: always eventually", CENTRAL, always_eventually, 0},
-    {"central: random rule of 1,000 nodes", CENTRAL, random_thousand, 0},
-    {"central: left-leaning chain", CENTRAL, left_leaning, 0},
-    {"central: right-leaning chain", CENTRAL, right_leaning, 0},
-    {"central: 87 times always", CENTRAL, most_always, 0},
-    {"central: chain of members", CENTRAL, member_chain, 0},
-    {"central: 88 times always, refused", CENTRAL, too_many_always, 8},
-    {"central: 4,095 times always, refused", CENTRAL, far_too_many_always, 8},
-    {"central: no code half way, refused", CENTRAL, broken_chain, 6},
-    {"read: smallest rule", READ, smallest, 0},
-    {"read: 16 boards, 1,024 nodes", READ, largest, 0},
-    {"read: masks refused", READ, bad_masks, 5},
-    {"read: formula refused at its end", READ, bad_formula, 6},
-    {"write: smallest rule", WRITE, smallest, 0},
-    {"write: 16 boards, 1,024 nodes", WRITE, largest, 0},
-    {"write: masks refused", WRITE, bad_masks, 5},
-    {"write: formula refused at its end", WRITE, bad_formula, 6},
+    {"central: until over two propositions", CENTRAL, until, NULL, 0, NULL},
+    {"central: always eventually", CENTRAL, always_eventually, NULL, 0, NULL},
+    {"central: random rule of 1,000 nodes", CENTRAL, random_thousand, NULL, 0, NULL},
+    {"central: left-leaning chain", CENTRAL, left_leaning, NULL, 0, NULL},
+    {"central: right-leaning chain", CENTRAL, right_leaning, NULL, 0, NULL},
+    {"central: 87 times always", CENTRAL, most_always, NULL, 0, NULL},
+    {"central: 88 times always, refused", CENTRAL, too_many_always, NULL, 8, NULL},
+    {"central: 4,095 times always, refused", CENTRAL, far_too_many_always, NULL, 8, NULL},
+    {"central: no code half way, refused", CENTRAL, broken_chain, NULL, 6, NULL},
+    {"read: smallest rule", READ, smallest, NULL, 0, NULL},
+    {"read: 16 boards, 1,024 nodes", READ, largest, NULL, 0, NULL},
+    {"read: masks refused", READ, bad_masks, NULL, 5, NULL},
+    {"read: formula refused at its end", READ, bad_formula, NULL, 6, NULL},
+    {"write: smallest rule", WRITE, smallest, NULL, 0, NULL},
+    {"write: 16 boards, 1,024 nodes", WRITE, largest, NULL, 0, NULL},
+    {"write: masks refused", WRITE, bad_masks, NULL, 5, NULL},
+    {"write: formula refused at its end", WRITE, bad_formula, NULL, 6, NULL},
+    {"tick: until over 2 boards", TICK, until_over_two, finish_watch, 0, NULL},
+    {"tick: responses over 4 boards", TICK, responses_over_four, finish_watch, 0, NULL},
+    {"tick: responses over 16 boards", TICK, responses_over_sixteen, finish_watch, 0, NULL},
+    {"tick: 999 nodes over 8 boards", TICK, thousand_nodes, finish_watch, 0, NULL},
+    {"tick: 63 ors over 2 boards", TICK, ors_over_two, finish_watch, 0, NULL},
+    {"load: until over 2 boards", LOAD, until_over_two, finish_watch, 0, NULL},
+    {"load: responses over 4 boards", LOAD, responses_over_four, finish_watch, 0, NULL},
+    {"load: responses over 16 boards", LOAD, responses_over_sixteen, finish_watch, 0, NULL},
+    {"load: 999 nodes over 8 boards", LOAD, thousand_nodes, finish_watch, 0, NULL},
+    {"load: 63 ors over 2 boards", LOAD, ors_over_two, finish_watch, 0, NULL},
+    {"sample: until over 2 boards", SAMPLE, until_over_two, finish_watch, 0, NULL},
+    {"sample: responses over 4 boards", SAMPLE, responses_over_four, finish_watch, 0, NULL},
+    {"sample: responses over 16 boards", SAMPLE, responses_over_sixteen, finish_watch, 0, NULL},
+    {"sample: 999 nodes over 8 boards", SAMPLE, thousand_nodes, finish_watch, 0, NULL},
+    {"sample: 63 ors over 2 boards", SAMPLE, ors_over_two, finish_watch, 0, NULL},
+    {"step: until over 2 boards", STEP, until_over_two, finish_watch, 0, NULL},
+    {"step: responses over 4 boards", STEP, responses_over_four, finish_watch, 0, NULL},
+    {"step: responses over 16 boards", STEP, responses_over_sixteen, finish_watch, 0, NULL},
+    {"step: 999 nodes over 8 boards", STEP, thousand_nodes, finish_watch, 0, NULL},
+    {"step: 63 ors over 2 boards", STEP, ors_over_two, finish_watch, 0, NULL},
+    {"close: until over 2 boards", CLOSE, until_over_two, finish_watch, 0, NULL},
+    {"close: responses over 4 boards", CLOSE, responses_over_four, finish_watch, 0, NULL},
+    {"close: responses over 16 boards", CLOSE, responses_over_sixteen, finish_watch, 0, NULL},
+    {"close: 999 nodes over 8 boards", CLOSE, thousand_nodes, finish_watch, 0, NULL},
+    {"close: 63 ors over 2 boards", CLOSE, ors_over_two, finish_watch, 0, NULL},
+    {"ask: until over 2 boards", ASK, until_over_two, finish_watch, 0, NULL},
+    {"ask: responses over 4 boards", ASK, responses_over_four, finish_watch, 0, NULL},
+    {"ask: responses over 16 boards", ASK, responses_over_sixteen, finish_watch, 0, NULL},
+    {"ask: 999 nodes over 8 boards", ASK, thousand_nodes, finish_watch, 0, NULL},
+    {"ask: 63 ors over 2 boards", ASK, ors_over_two, finish_watch, 0, NULL},
+    {"central: chain of members", CENTRAL, many_members, NULL, 0, "central: random rule of 1,000 nodes"},
+    {"central: chain of short members", CENTRAL, short_members, NULL, 0, "central: random rule of 1,000 nodes"},
+    {"central: long member", CENTRAL, long_member, NULL, 0, "central: random rule of 1,000 nodes"},
+    {"central: zigzag", CENTRAL, zigzag, NULL, 0, "central: random rule of 1,000 nodes"},
+    {"load: untils over 16 boards, refused", LOAD, untils_leaning_left, finish_watch, 8, "load: responses over 4 boards"},
+    {"load: temporal tower, refused", LOAD, temporal_tower, finish_watch, 8, "load: responses over 4 boards"},
+    {"load: next tower", LOAD, next_tower, finish_watch, 0, "load: responses over 4 boards"},
+    {"sample: random nodes", SAMPLE, random_nodes, finish_handed, 0, "sample: responses over 4 boards"},
+    {"sample: chain of short members", SAMPLE, short_members, finish_handed, 0, "sample: responses over 4 boards"},
+    {"step: random nodes", STEP, random_nodes, finish_handed, 0, "step: responses over 4 boards"},
+    {"step: chain of members", STEP, many_members, finish_handed, 0, "step: responses over 4 boards"},
+    {"step: chain of short members", STEP, short_members, finish_handed, 0, "step: responses over 4 boards"},
+    {"step: long member", STEP, long_member, finish_handed, 0, "step: responses over 4 boards"},
+    {"step: zigzag", STEP, zigzag, finish_handed, 0, "step: responses over 4 boards"},
+    {"close: untils over 16 boards, refused", CLOSE, untils_leaning_left, finish_handed, 8, "close: responses over 4 boards"},
+    {"close: temporal tower, refused", CLOSE, temporal_tower, finish_handed, 8, "close: responses over 4 boards"},
+    {"close: next tower", CLOSE, next_tower, finish_handed, 0, "close: responses over 4 boards"},
+    {"ask: random nodes", ASK, random_nodes, finish_handed, 0, "ask: responses over 4 boards"},
+    {"ask: chain of short members", ASK, short_members, finish_handed, 0, "ask: responses over 4 boards"},
 };
 
 const size_t input_count = sizeof table / sizeof table[0];
+_Static_assert(sizeof table / sizeof table[0] <= MOST_CASES, "every case has room for its times");
 
 void make_input(size_t which, struct input *input)
 {
-    *input = (struct input){.name = table[which].name, .call = table[which].call, .number = 1, .refusal = table[which].refusal};
+    *input = (struct input){.name = table[which].name, .call = table[which].call, .number = 1};
+    input->refusal = table[which].refusal;
+    input->typical = table[which].typical;
     table[which].make(input);
+    if (table[which].finish != NULL)
+        table[which].finish(input);
 }

@@ -6,11 +6,13 @@
 #include <stddef.h>
 #include <stdint.h>
 
-enum call { READ, WRITE, CENTRAL };
+enum call { READ, WRITE, CENTRAL, LOAD, SAMPLE, STEP, CLOSE, ASK, TICK };
 
-enum { MOST_MASKS = 16, MOST_BYTES = 4096 };
+enum { MOST_MASKS = 16, MOST_TICKS = 8, MOST_FORMULA = 4096, STATE_BYTES = 4768, MOST_BYTES = STATE_BYTES };
 
-// One call's input: the file of read, the masks, number of propositions and formula of write, the formula and event of central.
+// One call's input: the file of read and load, the masks, number of propositions and formula of write, the formula and event of
+// central, the state of sample, step, close and ask. TICK is whole ticks from a state on: all samples, all steps, the highest
+// slot first, a close into the second buffer, and the buffers change places.
 struct input {
     const char *name;
     enum call call;
@@ -18,10 +20,16 @@ struct input {
     size_t count;
     uint64_t masks[MOST_MASKS];
     size_t masks_count;
-    uint64_t number;  // propositions or event
-    uint32_t refusal; // what both sides must answer
+    uint64_t number;      // propositions, event, bits or slot
+    uint64_t board;       // of sample
+    size_t touched, past; // the bytes that sample or step may write, from one place to before the other
+    uint64_t events[MOST_TICKS];
+    size_t ticks;
+    uint32_t refusal;    // what both sides must answer
+    const char *typical; // of a slow input: the case of the same call that it is compared with
 };
 
+enum { MOST_CASES = 128 };
 extern const size_t input_count;
 
 // Makes the input with this number.

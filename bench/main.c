@@ -1,5 +1,5 @@
 // Times the library's calls beside the plain C version, in one process and on the same inputs, and prints a line for each case:
-// nanoseconds a call for both, and how many times the plain version's time the library takes.
+// nanoseconds a call, or a whole tick, for both, and how many times the plain version's time the library takes.
 // Rounds of the two sides alternate and the best round counts. Before that both must give equal answers and equal bytes.
 
 #define _POSIX_C_SOURCE 199309L
@@ -19,42 +19,106 @@ struct side {
     uint32_t (*read)(const uint8_t *, size_t, uint64_t *, size_t, uint8_t *, size_t, uint64_t *, uint64_t *, uint64_t *);
     uint32_t (*write)(const uint64_t *, size_t, uint64_t, const uint8_t *, size_t, uint8_t *, size_t, uint64_t *);
     uint32_t (*central)(const uint8_t *, size_t, uint64_t, uint8_t *, size_t, uint32_t *, uint64_t *);
+    uint32_t (*load)(const uint8_t *, size_t, uint8_t *, size_t);
+    uint32_t (*sample)(uint8_t *, size_t, uint64_t, uint64_t);
+    uint32_t (*step)(uint8_t *, size_t, uint64_t);
+    uint32_t (*close)(const uint8_t *, size_t, uint8_t *, size_t);
+    uint32_t (*ask)(const uint8_t *, size_t, uint32_t *, uint32_t *, uint64_t *, uint64_t *);
 };
 
-static const struct side library = {vydrulka_read, vydrulka_write, vydrulka_central};
-static const struct side plain = {plain_read, plain_write, plain_central};
+static const struct side library = {vydrulka_read, vydrulka_write, vydrulka_central, vydrulka_load,
+                                    vydrulka_sample, vydrulka_step, vydrulka_close, vydrulka_ask};
+static const struct side plain = {plain_read, plain_write, plain_central, plain_load, plain_sample, plain_step, plain_close, plain_ask};
 
 // What a call answered and all that it was lent.
 struct outcome {
     uint32_t number;
-    uint32_t verdict;
+    uint32_t verdict, ticks;
     uint64_t values[3];
     uint64_t masks[MOST_MASKS];
     uint8_t bytes[MOST_BYTES];
+    uint8_t second[MOST_BYTES];
 };
+
+// The number of the first refusal in a tick, which leaves its network in the second buffer.
+static uint32_t tick(const struct side *side, const struct input *in, uint64_t event, uint8_t *state, uint8_t *second)
+{
+    uint32_t number = 0;
+    for (size_t i = 0; i < in->masks_count && number == 0; i++)
+        number = side->sample(state, STATE_BYTES, i, event & in->masks[i]);
+    for (size_t i = state[2]; i-- > 0 && number == 0;) // the state says how many slots it has
+        number = side->step(state, STATE_BYTES, i);
+    return number == 0 ? side->close(state, STATE_BYTES, second, STATE_BYTES) : number;
+}
+
+static uint32_t run_ticks(const struct side *side, const struct input *in, uint8_t *state, uint8_t *second)
+{
+    uint32_t number = 0;
+    memcpy(state, in->bytes, STATE_BYTES);
+    for (size_t i = 0; i < in->ticks && number == 0; i++) {
+        number = tick(side, in, in->events[i], state, second);
+        uint8_t *other = state;
+        state = second;
+        second = other;
+    }
+    return number;
+}
+
+// Puts back what the last call of sample or step wrote.
+static void put_back(const struct input *in, struct outcome *out)
+{
+    memcpy(out->bytes + in->touched, in->bytes + in->touched, in->past - in->touched);
+}
 
 static void call(const struct side *side, const struct input *in, struct outcome *out)
 {
     switch (in->call) {
     case READ:
-        out->number = side->read(in->bytes, in->count, out->masks, MOST_MASKS, out->bytes, 1024, &out->values[0], &out->values[1], &out->values[2]);
+        out->number = side->read(in->bytes, in->count, out->masks, MOST_MASKS, out->bytes, 1024, &out->values[0], &out->values[1],
+                                 &out->values[2]);
         break;
     case WRITE:
         out->number = side->write(in->masks, in->masks_count, in->number, in->bytes, in->count, out->bytes, 1168, &out->values[0]);
         break;
     case CENTRAL:
-        out->number = side->central(in->bytes, in->count, in->number, out->bytes, MOST_BYTES, &out->verdict, &out->values[0]);
+        out->number = side->central(in->bytes, in->count, in->number, out->bytes, MOST_FORMULA, &out->verdict, &out->values[0]);
+        break;
+    case LOAD:
+        out->number = side->load(in->bytes, in->count, out->bytes, STATE_BYTES);
+        break;
+    case SAMPLE:
+        put_back(in, out);
+        out->number = side->sample(out->bytes, STATE_BYTES, in->board, in->number);
+        break;
+    case STEP:
+        put_back(in, out);
+        out->number = side->step(out->bytes, STATE_BYTES, in->number);
+        break;
+    case CLOSE:
+        out->number = side->close(in->bytes, STATE_BYTES, out->second, STATE_BYTES);
+        break;
+    case ASK:
+        out->number = side->ask(in->bytes, STATE_BYTES, &out->verdict, &out->ticks, &out->values[0], &out->values[1]);
+        break;
+    case TICK:
+        out->number = run_ticks(side, in, out->bytes, out->second);
         break;
     }
 }
 
-// Both outcomes start as the same pattern, so that what neither may write stays equal.
+// Calls with a fresh outcome: a pattern, so that what neither side may write stays equal, and the state of sample and step.
+static void call_fresh(const struct side *side, const struct input *in, struct outcome *out)
+{
+    memset(out, 0x5a, sizeof *out);
+    if (in->call == SAMPLE || in->call == STEP)
+        memcpy(out->bytes, in->bytes, STATE_BYTES);
+    call(side, in, out);
+}
+
 static int agree(const struct input *in, struct outcome *ours, struct outcome *theirs)
 {
-    memset(ours, 0x5a, sizeof *ours);
-    memset(theirs, 0x5a, sizeof *theirs);
-    call(&library, in, ours);
-    call(&plain, in, theirs);
+    call_fresh(&library, in, ours);
+    call_fresh(&plain, in, theirs);
     return theirs->number == in->refusal && memcmp(ours, theirs, sizeof *ours) == 0;
 }
 
@@ -74,21 +138,41 @@ static double least(double a, double b)
     return a < b ? a : b;
 }
 
-static void measure(const struct input *in, struct outcome *out)
+struct times {
+    const char *name;
+    double ours, theirs; // nanoseconds a call, or a tick
+};
+
+// How often a side is called in one round.
+static long turns_of(const struct side *side, const struct input *in, struct outcome *out)
 {
     long turns = 1;
-    double taken = timed(&plain, in, out, turns);
-    while (taken < ROUND) {
+    while (timed(side, in, out, turns) < ROUND)
         turns *= 2;
-        taken = timed(&plain, in, out, turns);
-    }
-    double ours = timed(&library, in, out, turns);
-    double theirs = taken;
+    return turns;
+}
+
+static struct times measured(const struct input *in, struct outcome *out)
+{
+    long our_turns = turns_of(&library, in, out), their_turns = turns_of(&plain, in, out);
+    double ours = timed(&library, in, out, our_turns), theirs = timed(&plain, in, out, their_turns);
     for (int i = 1; i < ROUNDS; i++) {
-        theirs = least(theirs, timed(&plain, in, out, turns));
-        ours = least(ours, timed(&library, in, out, turns));
+        ours = least(ours, timed(&library, in, out, our_turns));
+        theirs = least(theirs, timed(&plain, in, out, their_turns));
     }
-    printf("%-44s %10.0f %10.0f %7.2f\n", in->name, ours / (double)turns, theirs / (double)turns, ours / theirs);
+    double ticks = (double)(in->call == TICK ? in->ticks : 1);
+    return (struct times){in->name, ours / (double)our_turns / ticks, theirs / (double)their_turns / ticks};
+}
+
+// A slow input's line ends with its times as multiples of the typical one's, which is among those before it.
+static void print_times(const struct times *all, size_t which, const char *typical)
+{
+    const struct times *t = &all[which];
+    printf("%-48s %10.0f %10.0f %7.2f", t->name, t->ours, t->theirs, t->ours / t->theirs);
+    for (size_t i = 0; typical != NULL && i < which; i++)
+        if (strcmp(all[i].name, typical) == 0)
+            printf("   %.0f and %.0f times \"%s\"", t->ours / all[i].ours, t->theirs / all[i].theirs, typical);
+    putchar('\n');
     fflush(stdout);
 }
 
@@ -96,14 +180,17 @@ int main(void)
 {
     static struct input in;
     static struct outcome ours, theirs;
-    printf("%-44s %10s %10s %7s\n", "case", "library ns", "plain C ns", "ratio");
+    static struct times times[MOST_CASES];
+    printf("%-48s %10s %10s %7s\n", "case", "library ns", "plain C ns", "ratio");
     for (size_t i = 0; i < input_count; i++) {
         make_input(i, &in);
         if (!agree(&in, &ours, &theirs)) {
-            printf("%s: the sides differ, the library answers %u and the plain version %u\n", in.name, (unsigned)ours.number, (unsigned)theirs.number);
+            printf("%s: the sides differ, the library answers %u and the plain version %u\n", in.name, (unsigned)ours.number,
+                   (unsigned)theirs.number);
             return 1;
         }
-        measure(&in, &ours);
+        times[i] = measured(&in, &ours);
+        print_times(times, i, in.typical);
     }
     return 0;
 }

@@ -21,51 +21,30 @@ static const uint8_t *past_operands(const uint8_t *p, const uint8_t *end, long o
 // place holders at most once each, gathered in `holds`; temporal operators where the slot is stepped.
 static int is_slot_formula(const uint8_t *p, const uint8_t *end, uint64_t mask, int stepped, unsigned propositions, uint64_t *holds)
 {
-    uint64_t held = 0;
+    static const int8_t owes[OR + 2] = {-1, -1, 0, 1, 1, -1};
+    uint64_t held = 0, bad = 0;
     long owed = 1;
-    while (owed > 0) {
-        if (p == end)
-            return 0;
+    while (owed > 0 && p < end) {
         unsigned code = *p++;
-        switch (code) {
-        case FALSE:
-        case TRUE:
+        if (code <= OR || code - PROPOSITION < MOST_PROPOSITIONS) {
+            bad |= (code >= PROPOSITION) & ~(mask >> code % 64);
+            owed += owes[code <= OR ? code : OR + 1];
+        } else if (code - PLACE_HOLDER < MOST_SLOTS) {
+            uint64_t bit = UINT64_C(1) << (code - PLACE_HOLDER);
+            bad |= held & bit;
+            held |= bit;
             owed--;
-            break;
-        case NOT:
-            break;
-        case AND:
-        case OR:
-            owed++;
-            break;
-        case UNTIL:
-        case EVENTUALLY:
-        case ALWAYS:
-            if (!stepped)
-                return 0;
-            // fall through
-        case NEXT:
+        } else if (code == NEXT || (stepped && code < CODES)) {
             p = past_operands(p, end, code == UNTIL ? 2 : 1, propositions);
             if (p == NULL)
                 return 0;
             owed--;
-            break;
-        default:
-            if (code < PROPOSITION || code >= PLACE_HOLDER + MOST_SLOTS)
-                return 0;
-            uint64_t bit = UINT64_C(1) << code % 64;
-            if (code >= PLACE_HOLDER) {
-                if (held & bit)
-                    return 0;
-                held |= bit;
-            } else if (!(mask & bit)) {
-                return 0;
-            }
-            owed--;
+        } else {
+            return 0;
         }
     }
     *holds = held;
-    return p == end;
+    return owed == 0 && p == end && bad == 0;
 }
 
 // The masks' union, or 0 where they overlap, their union is not the lowest bits, or a sample breaks its rule.

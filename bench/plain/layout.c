@@ -1,13 +1,9 @@
-// Laying out without making the unfolded formula, which may have millions of nodes: the formula is walked as it stands. From the
-// back, each part's operands are added up and its board chosen. Then each slot is laid by one walk from the front, its cuts are
-// remembered and laid after it: a slot's stretch is filled before the next begins. Past the limit of nodes the walk counts on.
+// Laying out without making the unfolded formula, which may have millions of nodes: the formula is walked as it stands. When its
+// parts have chosen their boards, each slot is laid by one walk, its cuts are remembered and laid after it: a slot's stretch is
+// filled before the next begins. Past the limit of nodes the walk counts on.
 
 #include "layout.h"
-
-// What unfolding makes of a node: the whole; of until(f, g), the and(unfold f, next until(f, g)); of a temporal operator, the next.
-enum form { WHOLE, BOTH, AGAIN, FORMS };
-
-enum { STAYS = MOST_BOARDS }; // the choice of a part whose scores are all 0
+#include "choices.h"
 
 struct part {
     uint16_t at; // the place of its node
@@ -19,95 +15,6 @@ struct cut {
     uint8_t board;
     uint32_t holder; // the place of its place holder in the layout
 };
-
-struct source {
-    const uint8_t *node;     // of a rule or of the network that is closed
-    const struct slot *held; // that network's slots
-    uint8_t board_of[MOST_PROPOSITIONS];
-    uint16_t size[MOST]; // of the operand that begins at each place, in nodes
-    uint8_t choice[FORMS][MOST];
-};
-
-// ---- Scores
-
-struct scores {
-    uint32_t count[MOST_BOARDS];
-};
-
-struct operand {
-    struct scores plain, unfolded;
-    unsigned boards; // a bit for each board that scores
-};
-
-static void add(struct scores *restrict to, const struct scores *restrict from)
-{
-    for (size_t i = 0; i < MOST_BOARDS; i++)
-        to->count[i] += from->count[i];
-}
-
-static uint8_t choose(const struct scores *scores, unsigned boards)
-{
-    uint32_t highest = 0;
-    unsigned choice = STAYS;
-    for (; boards != 0; boards &= boards - 1) {
-        unsigned board = (unsigned)__builtin_ctz(boards);
-        uint32_t count = scores->count[board];
-        choice = count > highest ? board : choice;
-        highest = count > highest ? count : highest;
-    }
-    return (uint8_t)choice;
-}
-
-static void score_leaf(struct operand *leaf, unsigned board)
-{
-    for (size_t i = 0; i < MOST_BOARDS; i++)
-        leaf->plain.count[i] = leaf->unfolded.count[i] = i == board;
-    leaf->boards = 1u << board & ((1u << MOST_BOARDS) - 1);
-}
-
-// Sizes and choices for a slot's nodes. Going backwards, the operands of a node are the last ones done, the first on top; at most
-// every second node waits for another.
-static void score(struct source *s, size_t start, size_t count)
-{
-    struct operand stack[MOST / 2 + 1], *top = stack;
-    for (size_t i = start + count; i-- > start;) {
-        unsigned code = s->node[i], choice = STAYS;
-        size_t left = i + 1, size = 1;
-        if (code >= PROPOSITION || code <= TRUE) {
-            if (code >= PROPOSITION && code < PLACE_HOLDER)
-                choice = s->board_of[code - PROPOSITION];
-            score_leaf(top++, choice);
-        } else if (code == AND || code == OR || code == UNTIL) {
-            struct operand *f = --top, *g = top - 1;
-            size += s->size[left] + (size_t)s->size[left + s->size[left]];
-            g->boards |= f->boards;
-            add(&g->plain, &f->plain);
-            if (code == UNTIL) {
-                add(&f->unfolded, &g->plain);
-                s->choice[BOTH][i] = choose(&f->unfolded, g->boards);
-                s->choice[AGAIN][i] = choose(&g->plain, g->boards);
-            }
-            add(&g->unfolded, &f->unfolded);
-            choice = choose(&g->unfolded, g->boards);
-        } else {
-            struct operand *f = top - 1;
-            size += s->size[left];
-            choice = s->choice[WHOLE][left];
-            if (code != NOT) {
-                s->choice[AGAIN][i] = choose(&f->plain, f->boards);
-                if (code == NEXT)
-                    f->unfolded = f->plain;
-                else
-                    add(&f->unfolded, &f->plain);
-                choice = choose(&f->unfolded, f->boards);
-            }
-        }
-        s->size[i] = (uint16_t)size;
-        s->choice[WHOLE][i] = (uint8_t)choice;
-    }
-}
-
-// ---- Laying
 
 struct laying {
     struct source *source;
@@ -148,7 +55,7 @@ static int cut(struct laying *w, struct part part, unsigned board)
 static int lay_held(struct laying *w, unsigned number)
 {
     const struct slot *held = &w->source->held[number];
-    score(w->source, held->start, held->length);
+    choose_boards(w->source, held->start, held->length);
     return cut(w, (struct part){held->start, WHOLE}, held->board);
 }
 
@@ -209,7 +116,8 @@ static void reverse(struct cut *cuts, size_t count)
     }
 }
 
-static uint32_t lay(struct source *s, unsigned root_at, unsigned board, struct layout *l)
+// Lays the formula that stands first as slot 0, and all that is cut from it.
+static uint32_t lay(struct source *s, unsigned board, struct layout *l)
 {
     struct laying w;
     w.source = s;
@@ -217,7 +125,7 @@ static uint32_t lay(struct source *s, unsigned root_at, unsigned board, struct l
     w.found = 1;
     w.waiting = 0;
     l->slots = l->nodes = 0;
-    struct part part = {(uint16_t)root_at, WHOLE};
+    struct part part = {0, WHOLE};
     for (;;) {
         size_t start = l->nodes, before = w.waiting;
         if (!lay_slot(&w, part, board))
@@ -234,22 +142,15 @@ static uint32_t lay(struct source *s, unsigned root_at, unsigned board, struct l
     }
 }
 
-static void find_boards(struct source *s, const uint64_t *masks, size_t boards)
-{
-    for (size_t i = 0; i < boards; i++)
-        for (uint64_t mask = masks[i]; mask != 0; mask &= mask - 1)
-            s->board_of[__builtin_ctzll(mask)] = (uint8_t)i;
-}
-
 uint32_t lay_rule(const uint8_t *formula, size_t count, const uint64_t *masks, size_t boards, struct layout *layout)
 {
     struct source s;
     s.node = formula;
     s.held = NULL;
     find_boards(&s, masks, boards);
-    score(&s, 0, count);
+    choose_boards(&s, 0, count);
     unsigned choice = s.choice[WHOLE][0];
-    return lay(&s, 0, choice == STAYS ? 0 : choice, layout);
+    return lay(&s, choice == STAYS ? 0 : choice, layout);
 }
 
 uint32_t lay_again(const struct network *network, struct layout *layout)
@@ -258,6 +159,6 @@ uint32_t lay_again(const struct network *network, struct layout *layout)
     s.node = network->node;
     s.held = network->slot;
     find_boards(&s, network->masks, network->boards);
-    score(&s, 0, s.held[0].length);
-    return lay(&s, 0, s.held[0].board, layout);
+    choose_boards(&s, 0, s.held[0].length);
+    return lay(&s, s.held[0].board, layout);
 }

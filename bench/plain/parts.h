@@ -6,6 +6,7 @@
 
 #include <stddef.h>
 #include <stdint.h>
+#include <string.h>
 
 enum { NOT = 2, AND, OR, NEXT, UNTIL, EVENTUALLY, ALWAYS, CODES, PROPOSITION = 64, PLACE_HOLDER = 128 };
 
@@ -16,19 +17,21 @@ enum { FALSE, TRUE, PENDING }; // verdicts
 enum { HEADER = 16, MOST_BOARDS = 16, MOST_PROPOSITIONS = 64, MOST_SLOTS = 64 };
 enum { MOST_RULE = 1024, MOST = 4096 }; // nodes of a rule, and of everything else
 
-static inline uint64_t get16(const uint8_t *bytes)
+// Written flat, so that a compiler makes one load of each.
+static inline uint64_t get16(const uint8_t *b)
 {
-    return bytes[0] | (uint64_t)bytes[1] << 8;
+    return b[0] | (uint64_t)b[1] << 8;
 }
 
-static inline uint64_t get32(const uint8_t *bytes)
+static inline uint64_t get32(const uint8_t *b)
 {
-    return get16(bytes) | get16(bytes + 2) << 16;
+    return b[0] | (uint64_t)b[1] << 8 | (uint64_t)b[2] << 16 | (uint64_t)b[3] << 24;
 }
 
-static inline uint64_t get64(const uint8_t *bytes)
+static inline uint64_t get64(const uint8_t *b)
 {
-    return get32(bytes) | get32(bytes + 4) << 32;
+    return b[0] | (uint64_t)b[1] << 8 | (uint64_t)b[2] << 16 | (uint64_t)b[3] << 24 | (uint64_t)b[4] << 32 | (uint64_t)b[5] << 40 |
+           (uint64_t)b[6] << 48 | (uint64_t)b[7] << 56;
 }
 
 static inline void put_little_endian(uint8_t *bytes, size_t count, uint64_t value)
@@ -61,15 +64,21 @@ static inline void clear_bytes(uint8_t *to, size_t count)
         to[i] = 0;
 }
 
-// Looks at eight words before each test.
+// Eight bytes in whichever order the machine has.
+static inline uint64_t word(const uint8_t *bytes)
+{
+    uint64_t eight;
+    memcpy(&eight, bytes, sizeof eight);
+    return eight;
+}
+
+// Looks at four words before each test.
 static inline int are_zero(const uint8_t *bytes, size_t count)
 {
     size_t i = 0;
-    for (; i + 64 <= count; i += 64) {
-        uint64_t any = 0;
-        for (size_t k = 0; k < 64; k += 8)
-            any |= get64(bytes + i + k);
-        if (any != 0)
+    for (; i + 32 <= count; i += 32) {
+        const uint8_t *b = bytes + i;
+        if ((word(b) | word(b + 8) | word(b + 16) | word(b + 24)) != 0)
             return 0;
     }
     for (; i < count; i++)
