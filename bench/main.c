@@ -5,7 +5,7 @@
 #define _POSIX_C_SOURCE 199309L
 
 #include "cases.h"
-#include "exports.h"
+#include "../include/vydrulka.h"
 #include "plain.h"
 
 #include <stdio.h>
