@@ -1,9 +1,8 @@
 -- What `ask` answers, one law for each outcome, and the verdict by the first node, over plain lists. Assumes nothing.
-use mathlib.Core.Path.{_≡_, sym, ap, _∙_}
+use mathlib.Core.Path.{_≡_, sym, _∙_}
 use mathlib.Core.Bool.{true, false}
 use mathlib.Core.List.{List}
 use Prim.Native.Nat.{ℕ, _+_, _*_, _<_}
-use native.Mathlib.Nat.{add-zero}
 use native.Mathlib.Omega.{arith}
 use lib.ListN.{getD}
 use borrow.Author.Tests.{eq-eqb, ne-eqb, eqb-true, leb-true}
@@ -18,8 +17,8 @@ use Rattle.state.specs.Clauses.{recordOk, stateOk}
 use Rattle.state.specs.Calls.{finishedIn, verdictIn, askSays}
 use Rattle.checking.specs.Header.{Header}
 use Rattle.checking.proofs.Each.{each-at}
-use Rattle.checking.proofs.Records.{placed, byte-at}
-use Rattle.checking.proofs.Assembled.{passed-sized, passed-records, passed-start}
+use Rattle.checking.proofs.Records.{byte-at}
+use Rattle.checking.proofs.Assembled.{passed-records, passed-start}
 use Rattle.asking.specs.declared.AskAnswer.the-variants.{Refused, Told}
 use Rattle.asking.specs.Ask.{Asks}
 
@@ -34,10 +33,12 @@ module _ (s : List ℕ) (b n m : ℕ) (ok : stateOk s ≡ true) (h : Header s b 
   unfolding recordOk
   first-byte l =
       let all = passed-records s b n m ok h in
-      let p = placed s b n m 0 (passed-sized s b n m ok h) all l in
       let r = both-1 _ _ (each-at (recordOk s) n 0 all l) in
       let one = leb-true 1 (lengthIn s 0) (both-0 _ _ (both-1 _ _ r)) in
-      ap (λ (i : ℕ). getD s i 0) (sym (add-zero (16 + 17 * b + 6 * n))) ∙ byte-at s b n m 0 p 0 (sym (passed-start s ok)) one
+      let e = passed-start s ok in
+      let q = h .boards-are in
+      let t = h .slots-are in
+      byte-at s 0 (16 + 17 * b + 6 * n) (omega arith) one
 
   finished-slot : finishedIn s ≡ true → 0 < n
   unfolding finishedIn

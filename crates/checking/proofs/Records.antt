@@ -1,20 +1,20 @@
 -- A slot's record and nodes, read where the counts are the header's, and what is known of a slot once all records pass. Assumes nothing.
 use mathlib.Core.Path.{_≡_, sym, ap, ap₂, _∙_}
-use mathlib.Core.Bool.{Bool, true}
+use mathlib.Core.Bool.{Bool, true, false}
 use mathlib.Core.List.{List}
-use Prim.Native.Nat.{ℕ, _+_, _-_, _*_, _<_}
+use Prim.Native.Nat.{ℕ, _+_, _-_, _*_, _<_, _≤_}
 use native.Mathlib.Omega.{arith}
 use lib.ListN.{length, getD, take, drop, length-drop}
 use lib.Seq.{getD-take, getD-drop, length-take-le}
 use lib.Dec.{leb}
-use borrow.Author.Tests.{eq-eqb, ltb-true}
+use borrow.Author.Tests.{eq-eqb, ne-eqb, ltb-true}
 use Rattle.lists.specs.Tests.{both}
 use Rattle.lists.proofs.Tests.{both-0}
 use Rattle.le.specs.Le.{leAt}
 use Rattle.state.specs.Fields.{nodesAt, boardsIn, slotsIn, slotRecordAt, boardOfIn, steppedIn, startIn, lengthIn, slotBytes}
 use Rattle.state.specs.Clauses.{eachBelow, isConstantIn, recordOk}
 use Rattle.checking.specs.Header.{Sized}
-use Rattle.checking.specs.Slotted.{Placed}
+use Rattle.checking.specs.Slotted.{Placed, Spans}
 use Rattle.checking.proofs.Each.{each-at}
 use Rattle.checking.proofs.Stretched.{in-stretch}
 
@@ -49,49 +49,70 @@ module _ (s : List ℕ) (b n m k : ℕ) (p : Placed s b n m k) where
   pub mark-at : getD s (16 + 17 * b + 6 * k + 1) 0 ≡ steppedIn s k
   mark-at = ap (λ (i : ℕ). getD s (i + 1) 0) record-at
 
-  pub start-at : leAt s (16 + 17 * b + 6 * k + 2) 2 ≡ startIn s k
+  start-at : leAt s (16 + 17 * b + 6 * k + 2) 2 ≡ startIn s k
   start-at = ap (λ (i : ℕ). leAt s (i + 2) 2) record-at
 
-  pub length-at : leAt s (16 + 17 * b + 6 * k + 4) 2 ≡ lengthIn s k
+  length-at : leAt s (16 + 17 * b + 6 * k + 4) 2 ≡ lengthIn s k
   length-at = ap (λ (i : ℕ). leAt s (i + 4) 2) record-at
 
-  pub nodes-at : 16 + 17 * b + 6 * n ≡ nodesAt (boardsIn s) (slotsIn s)
-  nodes-at = let q = p .sized .header .boards-are in let r = p .sized .header .slots-are in omega arith
+  -- the numbers by which its nodes lie within the state
+  abbrev node : ℕ
+  node = nodesAt (boardsIn s) (slotsIn s) + startIn s k
 
-  pub bytes-length : length (slotBytes s k) ≡ lengthIn s k
-  bytes-length =
-      let at = nodesAt (boardsIn s) (slotsIn s) + startIn s k in
-      let d = length-drop at s in
+  node-within : node + lengthIn s k ≤ length s
+  node-within =
+      let z = p .sized in
+      let h = z .header in
+      let q = h .boards-are in
+      let r = h .slots-are in
+      let o = h .nodes-are in
+      let l = z .long in
+      let x = z .few-boards in
+      let y = z .few-slots in
+      let m = z .few-nodes in
       let u = p .stretch .used in
       let e = p .stretch .ends in
-      let q = p .sized .header .boards-are in
-      let r = p .sized .header .slots-are in
-      let o = p .sized .header .nodes-are in
-      let l = p .sized .long in
-      let x = p .sized .few-boards in
-      let y = p .sized .few-slots in
-      let z = p .sized .few-nodes in
-      length-take-le (lengthIn s k) (drop at s) (omega arith)
+      omega arith
 
-  -- its first byte
-  pub byte-at : (start : ℕ) → start ≡ startIn s k → 0 < lengthIn s k → getD s (16 + 17 * b + 6 * n + start) 0 ≡ getD (slotBytes s k) 0 0
-  byte-at start e l =
-      let at = nodesAt (boardsIn s) (slotsIn s) + startIn s k in
-      let i : 16 + 17 * b + 6 * n + start ≡ at + 0 = let q = nodes-at in omega arith in
-      ap (λ (j : ℕ). getD s j 0) i ∙ sym (getD-drop at s 0 0) ∙ sym (getD-take (lengthIn s k) (drop at s) 0 0 l)
+  -- where its nodes lie, by what is read of its record
+  pub spans : (start size : ℕ) → start ≡ leAt s (16 + 17 * b + 6 * k + 2) 2 → size ≡ leAt s (16 + 17 * b + 6 * k + 4) 2
+      → Spans s k (16 + 17 * b + 6 * n + start) (16 + 17 * b + 6 * n + start + size)
+  spans start size es el =
+      let h = p .sized .header in
+      let q = h .boards-are in
+      let r = h .slots-are in
+      let a = es ∙ start-at in
+      let e = el ∙ length-at in
+      let w = node-within in
+      record { from-is = omega arith; to-is = omega arith; within = omega arith }
 
-  -- a slot of one node, by its byte
-  pub constant-is : (start n₁ : ℕ) → start ≡ startIn s k → n₁ ≡ lengthIn s k → n₁ ≡ 1
-      → leb (getD s (16 + 17 * b + 6 * n + start) 0) 1 ≡ isConstantIn s k
+  pub bytes-length : length (slotBytes s k) ≡ lengthIn s k
+  bytes-length = let d = length-drop node s in let w = node-within in length-take-le (lengthIn s k) (drop node s) (omega arith)
+
+-- ---- a slot's nodes, by where they lie
+-- the first one
+pub byte-at : (s : List ℕ) (k from : ℕ) → from ≡ nodesAt (boardsIn s) (slotsIn s) + startIn s k → 0 < lengthIn s k → getD s from 0 ≡ getD (slotBytes s k) 0 0
+byte-at s k from e l =
+    let at = nodesAt (boardsIn s) (slotsIn s) + startIn s k in
+    let i : from ≡ at + 0 = omega arith in
+    ap (λ (j : ℕ). getD s j 0) i ∙ sym (getD-drop at s 0 0) ∙ sym (getD-take (lengthIn s k) (drop at s) 0 0 l)
+
+module _ {s : List ℕ} {k from to : ℕ} (x : Spans s k from to) where
+  span-length : to - from ≡ lengthIn s k
+  span-length = omega arith
+
+  -- all of them, as they are lent
+  pub bytes-at : take (to - from) (drop from s) ≡ slotBytes s k
+  bytes-at = ap₂ (λ (i j : ℕ). take i (drop j s)) span-length (x .from-is)
+
+  -- whether the slot is a constant
+  pub constant-is : to - from ≡ 1 → leb (getD s from 0) 1 ≡ isConstantIn s k
   unfolding both
-  constant-is start n₁ es el e =
-      let one : lengthIn s k ≡ 1 = sym el ∙ e in
-      ap (λ (x : ℕ). leb x 1) (byte-at start es (omega arith)) ∙ sym (ap (λ (x : Bool). both x (leb (getD (slotBytes s k) 0 0) 1)) (eq-eqb (lengthIn s k) 1 one))
+  constant-is e =
+      let one : lengthIn s k ≡ 1 = sym span-length ∙ e in
+      ap (λ (y : ℕ). leb y 1) (byte-at s k from (x .from-is) (omega arith))
+      ∙ sym (ap (λ (y : Bool). both y (leb (getD (slotBytes s k) 0 0) 1)) (eq-eqb (lengthIn s k) 1 one))
 
-  -- its nodes, as they are lent
-  pub bytes-at : (start end : ℕ) → start ≡ startIn s k → end ≡ startIn s k + lengthIn s k
-      → take (16 + 17 * b + 6 * n + end - (16 + 17 * b + 6 * n + start)) (drop (16 + 17 * b + 6 * n + start) s) ≡ slotBytes s k
-  bytes-at start end es ee =
-      let l : 16 + 17 * b + 6 * n + end - (16 + 17 * b + 6 * n + start) ≡ lengthIn s k = omega arith in
-      let f : 16 + 17 * b + 6 * n + start ≡ nodesAt (boardsIn s) (slotsIn s) + startIn s k = let q = nodes-at in omega arith in
-      ap₂ (λ (i j : ℕ). take i (drop j s)) l f
+  pub constant-not : (to - from ≡ 1 → ⊥) → false ≡ isConstantIn s k
+  unfolding both
+  constant-not e = sym (ap (λ (y : Bool). both y (leb (getD (slotBytes s k) 0 0) 1)) (ne-eqb (lengthIn s k) 1 (λ o. e (span-length ∙ o))))

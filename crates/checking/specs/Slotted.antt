@@ -1,12 +1,13 @@
 -- A slot's formula, when its clause is checked: what is known of the slot, what may stand in it, and what the check answers. Assumes
 -- nothing: these are definitions.
 use mathlib.Core.Path.{_≡_}
-use Prim.Native.Nat.{ℕ, _-_, _^_, _<_}
+use Prim.Native.Nat.{ℕ, _+_, _-_, _^_, _≤_, _<_}
 use mathlib.Core.Bool.{Bool, true, false, not}
 use mathlib.Core.List.{List}
+use lib.ListN.{length}
 use lib.Dec.{ltb, eqb}
 use Rattle.lists.specs.Tests.{pick, both, either, bit}
-use Rattle.state.specs.Fields.{slotsIn, maskIn, sampledIn, boardOfIn, steppedIn, lengthIn, formulaIn}
+use Rattle.state.specs.Fields.{nodesAt, boardsIn, slotsIn, maskIn, sampledIn, boardOfIn, steppedIn, startIn, lengthIn, formulaIn}
 use Rattle.state.specs.Clauses.{eachBelow, distinct, isConstantIn, formulaOk, heldOf, holdersIn}
 use Rattle.scanning.specs.declared.Allowed.{Allowed}
 use Rattle.scanning.specs.declared.Held.{Held}
@@ -20,6 +21,12 @@ pub record Placed (s : List ℕ) (boards slots nodes k : ℕ) : Type 0 where
   pub number : k < slots
   pub stretch : InStretch s k
   pub board : boardOfIn s k < boards
+
+-- slot k's nodes are the bytes from `from` up to `to`
+pub record Spans (s : List ℕ) (k from to : ℕ) : Type 0 where
+  pub from-is : from ≡ nodesAt (boardsIn s) (slotsIn s) + startIn s k
+  pub to-is : to ≡ from + lengthIn s k
+  pub within : to ≤ length s
 
 -- a slot that a stepped slot may hold: it is stepped and no constant
 unfoldable pub settledIn : List ℕ → ℕ → Bool

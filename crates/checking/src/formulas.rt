@@ -6,24 +6,41 @@ ghost use Rattle.state.specs.Fields.{slotBytes};
 ghost use Rattle.state.specs.Clauses.{eachBelow, isConstantIn, recordOk};
 ghost use Rattle.checking.specs.Header.{Sized};
 ghost use Rattle.scanning.specs.OnePass.{Fitted, at, pass};
-ghost use Rattle.checking.specs.Slotted.{Placed, settledIn, Settled, sampledFor, ownStepped, allowedIn, heldIn, formulasOk};
+ghost use Rattle.checking.specs.Slotted.{Placed, Spans, settledIn, Settled, sampledFor, ownStepped, allowedIn, heldIn, formulasOk};
 use crate::Counts;
-use crate::slot_end;
 use scanning::Allowed;
 use scanning::Held;
 use scanning::pass_over;
+
+// Where a slot's nodes lie in the state.
+pub struct Span {
+    pub from: usize,
+    pub to: usize,
+}
+
+// Where slot k's nodes lie.
+pub fn span_of(s: &[u8], c: Counts, k: usize) -> Span
+    requires { ⌜ Placed (now s) (c .boards) (c .slots) (c .nodes) k ⌝ }
+    ensures { λ r. ⌜ Spans (now (s .entry)) k (r .from) (r .to) ⌝ }
+{
+    let at = 16 + 17 * c.boards + 6 * k;
+    let from = 16 + 17 * c.boards + 6 * c.slots + le::u16_at(s, at + 2) as usize;
+    Span {
+        from: from,
+        to: from + le::u16_at(s, at + 4) as usize,
+    }
+}
 
 // Slot k is the single byte 0 or 1.
 pub fn is_constant(s: &[u8], c: Counts, k: usize) -> bool
     requires { ⌜ Placed (now s) (c .boards) (c .slots) (c .nodes) k ⌝ }
     ensures { λ r. ⌜ r ≡ isConstantIn (now (s .entry)) k ⌝ }
 {
-    let at = 16 + 17 * c.boards + 6 * k;
-    if le::u16_at(s, at + 4) != 1 {
+    let Span { from, to } = span_of(s, c, k);
+    if to - from != 1 {
         return false;
     }
-    let first = 16 + 17 * c.boards + 6 * c.slots + le::u16_at(s, at + 2) as usize;
-    s[first] <= 1
+    s[from] <= 1
 }
 
 // Slot k is stepped and no constant: a stepped slot may hold it.
@@ -107,10 +124,7 @@ fn slot_held(s: &[u8], c: Counts, k: usize, allowed: Allowed, seen: u64) -> Held
     requires { ⌜ Placed (now s) (c .boards) (c .slots) (c .nodes) k × Fitted allowed ⌝ }
     ensures { λ r. ⌜ r ≡ pass allowed (slotBytes (now (s .entry)) k) (at 1 0 seen) ⌝ }
 {
-    let at = 16 + 17 * c.boards + 6 * k;
-    let nodes = 16 + 17 * c.boards + 6 * c.slots;
-    let from = nodes + le::u16_at(s, at + 2) as usize;
-    let to = nodes + slot_end(s, c, k);
+    let Span { from, to } = span_of(s, c, k);
     pass_over(&s[from..to], allowed, seen)
 }
 

@@ -2,6 +2,8 @@
 mod formulas;
 mod whole;
 
+pub use formulas::Span;
+pub use formulas::span_of;
 pub use whole::finished;
 pub use whole::masks_of;
 pub use whole::state_ok;
@@ -127,7 +129,7 @@ fn stretch_end(s: &[u8], c: Counts, k: usize) -> usize
 }
 
 // Where slot k's nodes end.
-pub fn slot_end(s: &[u8], c: Counts, k: usize) -> usize
+fn slot_end(s: &[u8], c: Counts, k: usize) -> usize
     requires { ⌜ Sized (now s) (c .boards) (c .slots) (c .nodes) × (k < c .slots) ⌝ }
     ensures { λ r. ⌜ (r ≡ startIn (now (s .entry)) k + lengthIn (now (s .entry)) k) × (r < 131072) ⌝ }
 {

@@ -1,18 +1,17 @@
 -- One slot counted. Of its formula's bytes: no sum is too large (`cuts-few`, `own-few`), and what they count (`counts-on`). Of a slot of a known
--- state: where it lies (`slot-placed`, `slot-numbers`, `start-is`), that its bytes as they are lent are its formula (`lent-front`), what is
--- asked there (`formula-ask`), and what it counts (`slot-counted`). Assumes nothing.
+-- state: where it lies (`slot-placed`, `slot-numbers`), that its bytes as they are lent are its formula (`lent-front`), what is asked
+-- there (`formula-ask`), and what it counts (`slot-counted`). Assumes nothing.
 use mathlib.Core.Path.{_≡_, refl, sym, ap, _∙_, subst}
 use mathlib.Core.List.{List, [], append-nil}
 use mathlib.Core.Logic.{inr}
-use Prim.Native.Nat.{ℕ, _+_, _*_, _<_}
+use Prim.Native.Nat.{ℕ, _+_, _-_, _*_, _<_}
 use native.Mathlib.Omega.{arith}
-use lib.ListN.{getD}
-use Rattle.le.specs.Le.{leAt}
+use lib.ListN.{getD, take, drop}
 use Rattle.ltl.specs.Limits.{nodesMost}
 use Rattle.ltl.specs.Formula.{encode}
 use Rattle.ltl.proofs.Texts.{unfolded-coded}
 use Rattle.masks.specs.Masks.{sumOnes}
-use Rattle.state.specs.Fields.{slotsIn, masksIn, boardOfIn, startIn, lengthIn}
+use Rattle.state.specs.Fields.{slotsIn, masksIn, boardOfIn}
 use Rattle.state.specs.Clauses.{slotsMost}
 use Rattle.state.specs.Bytes.{formulaAt}
 use Rattle.nodes.specs.Begins.{Front}
@@ -22,9 +21,9 @@ use Rattle.cutting.specs.Cuts.{Cutting}
 use Rattle.cutting.proofs.Nodes.{unfolded-few}
 use Rattle.unfolding.specs.Unfolds as unfolds
 use Rattle.checking.proofs.Records as records
-use Rattle.checking.specs.Slotted.{Placed}
+use Rattle.checking.specs.Slotted.{Placed, Spans}
 use Rattle.passing.proofs.Passing.{SlotPassing}
-use Rattle.passing.proofs.Lying.{Lying, placed, slot-passing, lying, lent, lent-holds}
+use Rattle.passing.proofs.Lying.{Lying, placed, slot-passing, lying, lent-is, lent-holds}
 use Rattle.counting.specs.declared.Totals.{Totals}
 use Rattle.counting.specs.Known.{Known}
 use Rattle.counting.specs.Totals.{capped}
@@ -64,25 +63,22 @@ module _ {s : List ℕ} {boards slots nodes k : ℕ} {owner : List ℕ} (known :
   pub slot-numbers : Lying s boards slots k
   slot-numbers = lying s boards slots nodes k (known .passes) (known .header) l
 
-  pub start-is : {start : ℕ} → start ≡ leAt s (16 + 17 * boards + 6 * k + 2) 2 → start ≡ startIn s k
-  start-is e = e ∙ records.start-at s boards slots nodes k slot-placed
-
   -- its board and its bytes, as they are lent
-  module _ (start end : ℕ) (es : start ≡ leAt s (16 + 17 * boards + 6 * k + 2) 2) (ee : end ≡ startIn s k + lengthIn s k) where
+  module _ {from to : ℕ} (x : Spans s k from to) where
     abbrev board : ℕ
     board = getD s (16 + 17 * boards + 6 * k) 0
 
     abbrev bytes : List ℕ
-    bytes = lent s boards slots start end
+    bytes = take (to - from) (drop from s)
 
-    lent-passing : SlotPassing s k
-    lent-passing = slot-passing s boards slots nodes k (known .passes) (known .header) l
+    passing : SlotPassing s k
+    passing = slot-passing s boards slots nodes k (known .passes) (known .header) l
 
-    pub lent-front : Front (lent s boards slots start end) (formulaAt s k) []
+    pub lent-front : Front (take (to - from) (drop from s)) (formulaAt s k) []
     lent-front =
         record {
-          coded = lent-passing .coded;
-          bytes = records.bytes-at s boards slots nodes k slot-placed start end (start-is es) ee ∙ lent-passing .bytes ∙ sym (append-nil (encode (formulaAt s k)));
+          coded = passing .coded;
+          bytes = lent-is s boards slots nodes k (known .passes) (known .header) l x ∙ sym (append-nil (encode (formulaAt s k)));
         }
 
     pub formula-ask : {held-slots held-nodes : List ℕ} → Tables held-slots held-nodes → FormulaAsk bytes board owner held-slots held-nodes
@@ -90,8 +86,8 @@ module _ {s : List ℕ} {boards slots nodes k : ℕ} {owner : List ℕ} (known :
         let y = slot-numbers in
         record {
           begins = record { formula = formulaAt s k; rest = []; front = lent-front };
-          few = let n = front-length bytes (formulaAt s k) [] lent-front in let z = lent-passing .length-is in omega arith;
-          holds = λ i. (let h = lent-holds s boards slots nodes k (known .passes) (known .header) l start end (start-is es) ee i in omega arith);
+          few = let n = front-length bytes (formulaAt s k) [] lent-front in let z = passing .length-is in omega arith;
+          holds = λ i. (let h = lent-holds s boards slots nodes k (known .passes) (known .header) l x i in omega arith);
           there = y .board;
           table = known .table;
           tables = tables;
@@ -101,4 +97,4 @@ module _ {s : List ℕ} {boards slots nodes k : ℕ} {owner : List ℕ} (known :
         → CountedOn (masksIn s) held-slots held-nodes (formulaAt s k) (boardOfIn s k) r
     slot-counted {held-slots} {held-nodes} r h =
         subst (λ (b : ℕ). CountedOn (masksIn s) held-slots held-nodes (formulaAt s k) b r) (records.board-at s boards slots nodes k slot-placed)
-        (h (formulaAt s k) lent-front (sumOnes (masksIn s)) (slotsIn s) (masksIn s) (known .owned) (lent-passing .within))
+        (h (formulaAt s k) lent-front (sumOnes (masksIn s)) (slotsIn s) (masksIn s) (known .owned) (passing .within))

@@ -13,6 +13,7 @@ ghost use Rattle.counting.specs.Totals.{capped, Totalled};
 ghost use Rattle.counting.specs.Held.{heldAt, entryIn};
 ghost use Rattle.counting.specs.Tables.{Tables, HeldBy, FormulaAsk, CountedOn, CountsOn};
 use checking::Counts;
+use checking::Span;
 use kinds::Kind;
 use unfolding::NODES_MOST;
 
@@ -107,11 +108,9 @@ fn count_slot(
     requires { ⌜ Known (now state) (c .boards) (c .slots) (c .nodes) (now owner) × (k < c .slots) × Tables (now slots) (now nodes) ⌝ }
     ensures { λ r. ⌜ CountedOn (masksIn (now (state .entry))) (now (slots .entry)) (now (nodes .entry)) (formulaAt (now (state .entry)) k) (boardOfIn (now (state .entry)) k) r ⌝ }
 {
-    let at = 16 + 17 * c.boards + 6 * k;
-    let first = 16 + 17 * c.boards + 6 * c.slots;
-    let from = first + le::u16_at(state, at + 2) as usize;
-    let to = first + checking::slot_end(state, c, k);
-    count_formula(&state[from..to], state[at], owner, slots, nodes)
+    let Span { from, to } = checking::span_of(state, c, k);
+    let board = state[16 + 17 * c.boards + 6 * k];
+    count_formula(&state[from..to], board, owner, slots, nodes)
 }
 
 // Counts every slot into the tables, the last one first; what the first slot counts is the whole.

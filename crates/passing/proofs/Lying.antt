@@ -1,15 +1,18 @@
 -- Where a slot of a state that passes lies, the counts being the header's: `placed` and `slot-passing` are what is known of it, `lying`
--- its numbers, and `lent-holds` that the place holders among its bytes, as they are `lent`, are of slots that are there. Assumes nothing.
-use mathlib.Core.Path.{_≡_, ap}
+-- its numbers. Its bytes, as they are lent, are those of its formula (`lent-is`), and the place holders among them are of slots that are
+-- there (`lent-holds`). Assumes nothing.
+use mathlib.Core.Path.{_≡_, ap, _∙_}
 use mathlib.Core.Bool.{true}
 use mathlib.Core.List.{List}
 use Prim.Native.Nat.{ℕ, _+_, _-_, _*_, _<_, _≤_}
 use native.Mathlib.Omega.{arith}
 use lib.ListN.{length, getD, take, drop}
+use Rattle.ltl.specs.Formula.{encode}
 use Rattle.state.specs.Fields.{startIn, lengthIn}
 use Rattle.state.specs.Clauses.{stateOk}
+use Rattle.state.specs.Bytes.{formulaAt}
 use Rattle.checking.specs.Header.{Header}
-use Rattle.checking.specs.Slotted.{Placed}
+use Rattle.checking.specs.Slotted.{Placed, Spans}
 use Rattle.checking.proofs.Assembled.{passed-sized, passed-records}
 use Rattle.checking.proofs.Records as records
 use Rattle.passing.specs.Holds.{Holds}
@@ -25,10 +28,6 @@ pub record Lying (s : List ℕ) (b n k : ℕ) : Type 0 where
   pub few-nodes : startIn s k + lengthIn s k ≤ 4096
   pub some-length : 1 ≤ lengthIn s k
   pub board : getD s (16 + 17 * b + 6 * k) 0 < 16
-
--- bytes among a state's nodes, as they are lent
-abbrev pub lent : (s : List ℕ) (b n start end : ℕ) → List ℕ
-lent s b n start end = take (16 + 17 * b + 6 * n + end - (16 + 17 * b + 6 * n + start)) (drop (16 + 17 * b + 6 * n + start) s)
 
 module _ (s : List ℕ) (b n m k : ℕ) (ok : stateOk s ≡ true) (header : Header s b n m) (l : k < n) where
   pub placed : Placed s b n m k
@@ -55,9 +54,14 @@ module _ (s : List ℕ) (b n m k : ℕ) (ok : stateOk s ≡ true) (header : Head
         board = records.board-few s b n m k p;
       }
 
-  pub lent-holds : (start end : ℕ) → start ≡ startIn s k → end ≡ startIn s k + lengthIn s k → Holds n (lent s b n start end)
-  lent-holds start end es ee i =
-      let h = bytes-hold s k slot-passing (passing s ok .few-propositions) i in
-      let e = ap (λ (l : List ℕ). getD l i 0) (records.bytes-at s b n m k placed start end es ee) in
-      let q = header .slots-are in
-      omega arith
+  -- its bytes, as they are lent
+  module _ {from to : ℕ} (x : Spans s k from to) where
+    pub lent-is : take (to - from) (drop from s) ≡ encode (formulaAt s k)
+    lent-is = records.bytes-at x ∙ slot-passing .bytes
+
+    pub lent-holds : Holds n (take (to - from) (drop from s))
+    lent-holds i =
+        let h = bytes-hold s k slot-passing (passing s ok .few-propositions) i in
+        let e = ap (λ (l : List ℕ). getD l i 0) (records.bytes-at x) in
+        let q = header .slots-are in
+        omega arith

@@ -3,16 +3,15 @@
 use mathlib.Core.Path.{_≡_, refl, sym, ap, ap₂, _∙_}
 use mathlib.Core.List.{List, [], _++_, append-nil}
 use mathlib.Core.Logic.{inr}
-use Prim.Native.Nat.{ℕ, _+_, _*_, _<_, _≤_}
+use Prim.Native.Nat.{ℕ, _+_, _-_, _*_, _<_, _≤_}
 use native.Mathlib.Omega.{arith}
 use lib.ListN.{length, getD, take, drop}
 use lib.Seq.{take-at}
-use Rattle.le.specs.Le.{leAt}
 use Rattle.ltl.specs.Formula.{size, encode}
 use Rattle.ltl.proofs.Texts.{length-encode}
 use Rattle.masks.specs.Masks.{sumOnes}
 use Rattle.network.specs.Scores.{chosen}
-use Rattle.state.specs.Fields.{slotsIn, masksIn, startIn, lengthIn}
+use Rattle.state.specs.Fields.{slotsIn, masksIn}
 use Rattle.state.specs.Bytes.{formulaAt}
 use Rattle.nodes.specs.Begins.{Front, Begins}
 use Rattle.nodes.proofs.Fronts.{front-length}
@@ -23,8 +22,8 @@ use Rattle.cutting.proofs.Looking.{place-given}
 use Rattle.marking.specs.declared.Placed as mark
 use Rattle.marking.specs.Marks.{hereOn, Marking}
 use Rattle.marking.proofs.Places.{mark-has}
+use Rattle.checking.specs.Slotted.{Spans}
 use Rattle.checking.proofs.Records as records
-use Rattle.passing.proofs.Lying.{lent}
 use Rattle.counting.proofs.Slots.{slot-placed, slot-numbers, lent-front}
 use Rattle.spreading.specs.Spreads.{unfoldedAt, SlotAsk, PutsSlot}
 use Rattle.spreading.proofs.Room.{slot-within, slot-coded}
@@ -34,12 +33,12 @@ module _ {s : List ℕ} {boards slots nodes m : ℕ} {owner u marks : List ℕ} 
   there = let e = ask .known .header .slots-are in let l = ask .there in omega arith
 
   -- the slot's bytes, as they are lent
-  module _ (start end : ℕ) (es : start ≡ leAt s (16 + 17 * boards + 6 * m + 2) 2) (ee : end ≡ startIn s m + lengthIn s m) where
+  module _ {from to : ℕ} (x : Spans s m from to) where
     abbrev bytes : List ℕ
-    bytes = lent s boards slots start end
+    bytes = take (to - from) (drop from s)
 
     slot-front : Front bytes (formulaAt s m) []
-    slot-front = lent-front (ask .known) (ask .there) start end es ee
+    slot-front = lent-front (ask .known) (ask .there) x
 
     pub unfold-ask : Room u bytes
     unfold-ask = record { begins = record { formula = formulaAt s m; rest = []; front = slot-front }; room = ask .room }

@@ -3,6 +3,7 @@
 ghost use mathlib.Core.Path.{_≡_};
 ghost use Rattle.spreading.specs.Spreads.{SlotAsk, PutsSlot, SpreadAsk, Spreads};
 use checking::Counts;
+use checking::Span;
 use kinds::Kind;
 
 // Unfolds slot m to the front of u, and marks it on its board.
@@ -17,12 +18,10 @@ fn put_slot(
     requires { ⌜ SlotAsk (now state) (c .boards) (c .slots) (c .nodes) m (now owner) (now u) (now marks) ⌝ }
     ensures { λ r. ⌜ PutsSlot (now (state .entry)) m (now (u .entry)) (now (u .exit)) (now (marks .exit)) r ⌝ }
 {
-    let at = 16 + 17 * c.boards + 6 * m;
-    let nodes = 16 + 17 * c.boards + 6 * c.slots;
-    let from = nodes + le::u16_at(state, at + 2) as usize;
-    let to = nodes + checking::slot_end(state, c, m);
+    let Span { from, to } = checking::span_of(state, c, m);
     let n = unfolding::unfold_into(u, &state[from..to]).written;
-    marking::mark(&u[..n], marks, owner, state[at]);
+    let board = state[16 + 17 * c.boards + 6 * m];
+    marking::mark(&u[..n], marks, owner, board);
     n
 }
 

@@ -17,7 +17,7 @@ use Rattle.nodes.specs.Begins.{Front, Begins}
 use Rattle.state.specs.Fields.{boardsIn, slotsIn, nodesAt, slotRecordAt, startIn, lengthIn}
 use Rattle.state.specs.Bytes.{formulaAt}
 use Rattle.state.specs.Calls.{putAt}
-use Rattle.checking.proofs.Records.{bytes-at}
+use Rattle.checking.specs.Slotted.{Spans}
 use Rattle.passing.proofs.Stepping.{resolved-no-longer}
 use Rattle.resolving.specs.declared.Seen.{Seen}
 use Rattle.resolving.specs.declared.Settled.{Settled}
@@ -26,7 +26,7 @@ use Rattle.resolving.proofs.Results.{Result, result-done}
 use Rattle.resolving.proofs.Results as standing
 use Rattle.stepping.specs.Seeing.{Counted}
 use Rattle.stepping.specs.Step.{Rewritten, steppedAs}
-use Rattle.stepping.proofs.Counting.{placed, slot-passing, lying}
+use Rattle.stepping.proofs.Counting.{slot-passing, lying, lent-is}
 
 -- ---- a formula's bytes
 module _ (seen : Seen) (p p₁ : List ℕ) (at : Settled) (m : Makes (settled seen) 0 p p₁ at) where
@@ -88,10 +88,7 @@ module _ (s xs ys : List ℕ) (a b : ℕ) (apart : a + length xs ≤ b) (room : 
       (ap₂ drop end whole ∙ drop-append-add low behind (between + length ys) ∙ drop-drop (between + length ys) (a + length xs) s ∙ ap (λ (i : ℕ). drop i s) last))
 
 -- ---- a slot
-module _ (s : List ℕ) (b n m k : ℕ) (c : Counted s b n m) (l : k < n) (seen : Seen) where
-  abbrev nodes : ℕ
-  nodes = 16 + 17 * b + 6 * n
-
+module _ {s : List ℕ} {b n m k : ℕ} (c : Counted s b n m) (l : k < n) (seen : Seen) where
   -- the state with the slot's mark set
   abbrev marked : List ℕ
   marked = set s (16 + 17 * b + 6 * k + 1) 1
@@ -100,19 +97,20 @@ module _ (s : List ℕ) (b n m k : ℕ) (c : Counted s b n m) (l : k < n) (seen 
   result = settled seen (formulaAt s k)
 
   pub result-fits : size result ≤ lengthIn s k
-  result-fits = omega (arith, resolved-no-longer (seen .event) (heldBy seen) (formulaAt s k), slot-passing s b n m k c l .length-is)
+  result-fits = omega (arith, resolved-no-longer (seen .event) (heldBy seen) (formulaAt s k), slot-passing c l .length-is)
 
-  module _ (start end : ℕ) (es : start ≡ startIn s k) (ee : end ≡ startIn s k + lengthIn s k) where
+  module _ {from to : ℕ} (span : Spans s k from to) where
     abbrev lent : List ℕ
-    lent = take (nodes + end - (nodes + start)) (drop (nodes + start) marked)
+    lent = take (to - from) (drop from marked)
 
-    lent-is : lent ≡ encode (formulaAt s k)
-    lent-is =
-        ap (take (nodes + end - (nodes + start))) (drop-set-lt (nodes + start) s (16 + 17 * b + 6 * k + 1) 1 (omega arith))
-        ∙ bytes-at s b n m k (placed s b n m k c l) start end es ee ∙ slot-passing s b n m k c l .bytes
+    marked-is : lent ≡ encode (formulaAt s k)
+    marked-is =
+        let q = c .header .boards-are in
+        let t = c .header .slots-are in
+        ap (take (to - from)) (drop-set-lt from s (16 + 17 * b + 6 * k + 1) 1 (omega arith)) ∙ lent-is c l span
 
     lent-front : Front lent (formulaAt s k) []
-    lent-front = record { coded = slot-passing s b n m k c l .coded; bytes = lent-is ∙ sym (append-nil (encode (formulaAt s k))) }
+    lent-front = record { coded = slot-passing c l .coded; bytes = marked-is ∙ sym (append-nil (encode (formulaAt s k))) }
 
     pub lent-begins : Begins lent
     lent-begins = record { formula = formulaAt s k; rest = []; front = lent-front }
@@ -122,38 +120,36 @@ module _ (s : List ℕ) (b n m k : ℕ) (c : Counted s b n m) (l : k < n) (seen 
       count-is = r .count (formulaAt s k) [] lent-front
 
       pub count-few : w ≤ 4096
-      count-few = let x = lying s b n m k c l in omega (arith, count-is, result-fits)
+      count-few = let x = lying c l in omega (arith, count-is, result-fits)
 
       bytes-are : y ≡ padded (lengthIn s k) (encode result)
       bytes-are =
           r .bytes (formulaAt s k) [] lent-front
-          ∙ ap (λ (i : ℕ). padded i (encode result)) (ap length lent-is ∙ length-encode (formulaAt s k) ∙ sym (slot-passing s b n m k c l .length-is))
+          ∙ ap (λ (i : ℕ). padded i (encode result)) (ap length marked-is ∙ length-encode (formulaAt s k) ∙ sym (slot-passing c l .length-is))
 
       bytes-many : length (padded (lengthIn s k) (encode result)) ≡ lengthIn s k
       bytes-many =
           let z = lengthIn s k - length (encode result) in
           omega (arith, result-fits, length-encode result, length-append (encode result) (replicate z 0), length-replicate {A = ℕ} z 0)
 
-      pub put-done : (s₁ : List ℕ) → s₁ ≡ take (nodes + start) marked ++ (y ++ drop (nodes + end - (nodes + start)) (drop (nodes + start) marked))
+      pub put-done : (s₁ : List ℕ) → s₁ ≡ take from marked ++ (y ++ drop (to - from) (drop from marked))
           → take (16 + 17 * b + 6 * k + 4) s₁ ++ (le 2 w ++ drop (16 + 17 * b + 6 * k + 4 + 2) s₁) ≡ steppedAs result s k
       put-done s₁ e =
           let q = c .header .boards-are in
           let t = c .header .slots-are in
-          let x = lying s b n m k c l in
+          let x = lying c l in
           let at = slotRecordAt s k in
           let node = nodesAt (boardsIn s) (slotsIn s) + startIn s k in
           let bytes = padded (lengthIn s k) (encode result) in
           let number = le 2 (size result) in
           let mark = set s (at + 1) 1 in
-          let width = nodes + end - (nodes + start) in
           let at-is : 16 + 17 * b + 6 * k ≡ at = omega arith in
-          let node-is : nodes + start ≡ node = omega arith in
-          let end-is : node + width ≡ node + length bytes = omega (arith, bytes-many) in
+          let end-is : node + (to - from) ≡ node + length bytes = omega (arith, bytes-many) in
           let two = le-length 2 (size result) in
           let put : s₁ ≡ putAt node bytes mark =
-          e ∙ ap (λ (z : List ℕ). take (nodes + start) z ++ (y ++ drop width (drop (nodes + start) z))) (ap (λ (i : ℕ). set s (i + 1) 1) at-is)
-          ∙ ap₂ (λ (i : ℕ) (z : List ℕ). take i mark ++ (z ++ drop width (drop i mark))) node-is bytes-are
-          ∙ ap (λ (z : List ℕ). take node mark ++ (bytes ++ z)) (drop-drop width node mark ∙ ap (λ (i : ℕ). drop i mark) end-is) in
+          e ∙ ap (λ (z : List ℕ). take from z ++ (y ++ drop (to - from) (drop from z))) (ap (λ (i : ℕ). set s (i + 1) 1) at-is)
+          ∙ ap₂ (λ (i : ℕ) (z : List ℕ). take i mark ++ (z ++ drop (to - from) (drop i mark))) (span .from-is) bytes-are
+          ∙ ap (λ (z : List ℕ). take node mark ++ (bytes ++ z)) (drop-drop (to - from) node mark ∙ ap (λ (i : ℕ). drop i mark) end-is) in
           let after : at + 4 + 2 ≡ at + 4 + length number = omega arith in
           ap₂ (λ (i v : ℕ). take (i + 4) s₁ ++ (le 2 v ++ drop (i + 4 + 2) s₁)) at-is count-is
           ∙ ap (λ (i : ℕ). take (at + 4) s₁ ++ (number ++ drop i s₁)) after

@@ -11,6 +11,7 @@ ghost use Rattle.stepping.specs.Step.{Rewritten, steppedAs, StepsSlot};
 use answers::Outcome;
 use answers::Refusal;
 use checking::Counts;
+use checking::Span;
 use resolving::Seen;
 use seeing::Sight;
 use seeing::sight_of;
@@ -33,10 +34,8 @@ fn put_stepped(s: &mut [u8], c: Counts, k: usize, seen: Seen)
     requires { ⌜ Counted (now s) (c .boards) (c .slots) (c .nodes) × (k < c .slots) ⌝ }
     ensures { λ _. ⌜ now (s .exit) ≡ steppedAs (settled seen (formulaAt (now (s .entry)) k)) (now (s .entry)) k ⌝ }
 {
+    let Span { from, to } = checking::span_of(s, c, k);
     let at = 16 + 17 * c.boards + 6 * k;
-    let nodes = 16 + 17 * c.boards + 6 * c.slots;
-    let from = nodes + le::u16_at(s, at + 2) as usize;
-    let to = nodes + checking::slot_end(s, c, k);
     s[at + 1] = 1;
     let n = rewrite(&mut s[from..to], seen);
     le::put_u16(s, at + 4, n as u16);

@@ -5,6 +5,7 @@ ghost use Rattle.passing.specs.Holds.{Holds};
 ghost use Rattle.stepping.specs.Seeing.{Counted, answerIn, told, sightAfter, sightOver, sightIn};
 use answers::Verdict;
 use checking::Counts;
+use checking::Span;
 use kinds::Kind;
 use resolving::Seen;
 
@@ -19,8 +20,8 @@ fn answer_of(s: &[u8], c: Counts, m: usize) -> Verdict
     requires { ⌜ Counted (now s) (c .boards) (c .slots) (c .nodes) × (m < c .slots) ⌝ }
     ensures { λ r. ⌜ r ≡ answerIn (now (s .entry)) m ⌝ }
 {
-    let start = le::u16_at(s, 16 + 17 * c.boards + 6 * m + 2) as usize;
-    central::verdict(s[16 + 17 * c.boards + 6 * c.slots + start])
+    let first = checking::span_of(s, c, m).from;
+    central::verdict(s[first])
 }
 
 // What is seen once slot m is seen to be v.
@@ -85,13 +86,10 @@ pub fn sight_of(s: &[u8], c: Counts, k: usize) -> Sight
     requires { ⌜ Counted (now s) (c .boards) (c .slots) (c .nodes) × (k < c .slots) ⌝ }
     ensures { λ r. ⌜ r ≡ sightIn (now (s .entry)) k ⌝ }
 {
-    let at = 16 + 17 * c.boards + 6 * k;
-    let board = 16 + 17 * (s[at] as usize);
+    let board = 16 + 17 * (s[16 + 17 * c.boards + 6 * k] as usize);
     if s[board + 16] != 1 {
         return Sight::Waits;
     }
-    let nodes = 16 + 17 * c.boards + 6 * c.slots;
-    let from = nodes + le::u16_at(s, at + 2) as usize;
-    let to = nodes + checking::slot_end(s, c, k);
+    let Span { from, to } = checking::span_of(s, c, k);
     sight_over(&s[from..to], s, c, le::u64_at(s, board + 8))
 }
