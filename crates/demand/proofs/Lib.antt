@@ -5,4 +5,7 @@ pub mod Getting
 pub mod Agreeing
 pub mod Demand
 pub mod Ticks
+pub mod Allowed
+pub mod Settling
+pub mod Settled
 pub mod Worked

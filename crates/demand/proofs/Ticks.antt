@@ -13,7 +13,7 @@ use Rattle.loading.specs.Load.{ruleIn}
 use Rattle.watching.proofs.Events.{eventOf, saw-event}
 use Rattle.watching.proofs.Demand as watching
 use Rattle.demand.specs.Called.{Called, Ticked, Watched}
-use Rattle.demand.specs.Claims.{standing, Reached}
+use Rattle.demand.specs.Claims.{standing, Reaches}
 use Rattle.demand.proofs.Watches.{called, watched, made}
 use Rattle.demand.proofs.Getting.{closing, close-left}
 
@@ -23,9 +23,9 @@ module _ (file : List ℕ) (us : List Event) (s : List ℕ) (w : Watched file us
       let ok = watching.tick-passes (propositionsIn file) (masksIn file) (ruleIn file) us s (watched w) t (called c) in
       (eventOf t, record { last = t; calls = c; saw = saw-event t ok; second = second; closes = x })
 
-  pub tick-exists : standing file us s .verdict ≡ Pending → (e : Event) → Reached s e
+  pub tick-exists : standing file us s .verdict ≡ Pending → (e : Event) → (last : List ℕ) × Reaches s e last
   tick-exists pending e =
       let v = watching.watch-verdict (propositionsIn file) (masksIn file) (ruleIn file) us s (watched w) in
       let r = watching.tick-exists (propositionsIn file) (masksIn file) (ruleIn file) us s (watched w) (v ∙ pending) e in
       let m = made (r .calls) (r .all) in
-      record { last = r .last; calls = m .0; all = m .1; saw = r .saw; left = close-left (r .last) (r .done); closing = closing (r .last) (r .closing) }
+      (r .last, record { calls = m .0; all = m .1; saw = r .saw; left = close-left (r .last) (r .done); closing = closing (r .last) (r .closing) })

@@ -4,7 +4,6 @@ use mathlib.Core.Bool.{true}
 use mathlib.Core.List.{List}
 use Prim.Native.Nat.{ℕ, _<_}
 use lib.ListN.{length}
-use Rattle.answers.specs.declared.Refusal.{Refusal}
 use Rattle.answers.specs.declared.Refusal.the-variants.{Slots, Nodes, Ticks}
 use Rattle.answers.specs.declared.Outcome.{Outcome}
 use Rattle.answers.specs.declared.Outcome.the-variants.{Refused, Done}
@@ -83,9 +82,8 @@ AllAccepted (closed c second second′ answer p) = ⊥
 AllAccepted (load-refused c file why p) = ⊥
 AllAccepted (close-refused c other why p) = ⊥
 
--- accepted samples and steps lead from s to a state where the boards have seen the event and the close is all that is left
-pub record Reached (s : List ℕ) (e : Event) : Type 0 where
-  pub last : List ℕ
+-- accepted samples and steps lead from s to this state, where the boards have seen the event and the close is all that is left
+pub record Reaches (s : List ℕ) (e : Event) (last : List ℕ) : Type 0 where
   pub calls : Called s last
   pub all : AllAccepted calls
   pub saw : Saw last e

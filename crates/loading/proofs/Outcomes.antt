@@ -27,7 +27,6 @@ use Rattle.ltl.specs.Limits.{boardsMost, ruleNodesMost}
 use Rattle.masks.specs.Masks.{masksRule}
 use Rattle.ltl.specs.Text.{textOf, ruleText}
 use Rattle.ltl.proofs.Texts.{RuleText, rule-is, text-of, wider}
-use Rattle.nodes.specs.Begins.{Front}
 use Rattle.rules.specs.declared.reading.Counts.{Counts}
 use Rattle.rules.specs.declared.reading.ReadAnswer.{ReadAnswer}
 use Rattle.rules.specs.declared.reading.ReadAnswer.the-variants.{Rule}
