@@ -1,6 +1,6 @@
 -- Two ways through a tick by the calls' promises, with equal samples: they close to one network (`networks-same`), from one state to the same
--- bytes (`bytes-same`), and where the close is all that is left it answers and leaves the same (`close-same`). Assumes nothing.
-use mathlib.Core.Path.{_≡_, refl, sym, _∙_, subst}
+-- bytes (`bytes-same`; under one event `event-same`), and where the close is all that is left it answers and leaves the same (`close-same`). Assumes nothing.
+use mathlib.Core.Path.{_≡_, refl, sym, ap, _∙_, subst}
 use mathlib.Core.Bool.{true}
 use mathlib.Core.List.{List}
 use Prim.Native.Nat.{ℕ, _<_}
@@ -11,13 +11,14 @@ use Rattle.answers.specs.declared.Outcome.{Outcome}
 use Rattle.answers.proofs.Answers.{saidOutcome-injective}
 use Rattle.ltl.specs.Formula.{Formula}
 use Rattle.ltl.specs.Meaning.{Event}
+use Rattle.network.specs.Scores.{sampleOf}
 use Rattle.rules.specs.RuleFile as rule-file
 use Rattle.state.specs.Fields.{boardsIn, sampleIn, masksIn}
 use Rattle.state.specs.Calls.{doneIn}
 use Rattle.closing.specs.Close.{Closes}
 use Rattle.loading.specs.Load.{ruleIn}
 use Rattle.watching.specs.Watch.{Watch}
-use Rattle.watching.proofs.InTick.{boards-kept}
+use Rattle.watching.proofs.InTick.{InTick, boards-kept}
 use Rattle.watching.proofs.Started.{Started, started-laid}
 use Rattle.watching.proofs.Ticked.{started-in-tick, watch-started}
 use Rattle.watching.proofs.Agreeing.{answers-agree, nexts-agree}
@@ -42,14 +43,28 @@ module _ (file : List ℕ) (us : List Event) (s : List ℕ) (w : Watched file us
   masks-are : masksIn s ≡ masks
   masks-are = started .masks-are
 
+  within : (t : List ℕ) → Called s t → InTick s (started .passes) (started-laid p masks rule us s started) t
+  within t c = started-in-tick p masks rule us s t started (called c)
+
   -- the calls keep the number of boards
+  as-many : (t : List ℕ) → Called s t → boardsIn t ≡ boardsIn s
+  as-many t c = boards-kept s (started .passes) (started-laid p masks rule us s started) t (within t c)
+
   from-start : (t u : List ℕ) → Called s t → SameSamples t u → (b : ℕ) → b < boardsIn s → sampleIn t b ≡ sampleIn u b
-  from-start t u c same b l =
-      let n = boards-kept s (started .passes) (started-laid p masks rule us s started) t (started-in-tick p masks rule us s t started (called c)) in
-      same b (omega arith)
+  from-start t u c same b l = let n = as-many t c in same b (omega arith)
 
   pub bytes-same : (d e : Event) (a b : List ℕ) (x : Ticked s d a) (y : Ticked s e b) → SameSamples (x .last) (y .last) → a ≡ b
   bytes-same d e a b x y same = ticks-agree p masks rule us s (watched w) d e a b (tick-of x) (tick-of y) (from-start (x .last) (y .last) (x .calls) same)
+
+  -- the boards have equal samples where they have seen one event
+  pub event-same : (e : Event) (a b : List ℕ) → Ticked s e a → Ticked s e b → a ≡ b
+  event-same e a b x y =
+      bytes-same e e a b x y
+      (λ c l.
+      (let m = as-many (x .last) (x .calls) in
+      let n = as-many (y .last) (y .calls) in
+      let masks-same = within (x .last) (x .calls) .masks-kept ∙ sym (within (y .last) (y .calls) .masks-kept) in
+      x .saw c l ∙ ap (λ (ms : List ℕ). sampleOf ms e c) masks-same ∙ sym (y .saw c (omega arith))))
 
   pub close-same : (t u : List ℕ) → Called s t → Called s u → doneIn t ≡ true → doneIn u ≡ true → SameSamples t u
       → (second a b : List ℕ) (x y : Outcome) → Closes t second a x → Closes u second b y → (x ≡ y) × (a ≡ b)

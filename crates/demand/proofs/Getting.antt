@@ -24,7 +24,7 @@ use Rattle.asking.specs.Ask.{saidAsk}
 use Rattle.asking.proofs.Determined.{saidAsk-injective}
 use Rattle.sampling.specs.Sample.{Samples}
 use Rattle.stepping.specs.Step.{StepsSlot}
-use Rattle.demand.specs.Claims.{Gets, CloseGets, Closing, accepted-closing, too-many-slots, too-many-nodes, too-many-ticks, CloseLeft, GoesOn, samples, steps, closes, AskGets}
+use Rattle.demand.specs.Claims.{Gets, CloseGets, Closing, accepts, too-many-slots, too-many-nodes, no-more-ticks, CloseLeft, GoesOn, samples, steps, closes, AskGets}
 
 module _ (t : List ℕ) where
   sample-gets : (board bits : ℕ) (wanted : Outcome) → saidOutcome wanted ≡ sampleSays t board bits → Gets (Samples t board bits) wanted
@@ -45,10 +45,10 @@ module _ (t : List ℕ) where
 
   -- ---- within a tick
   pub closing : definition.Closing t → Closing t
-  closing (definition.accepts e) = accepted-closing (close-gets Done (sym e))
+  closing (definition.accepts e) = accepts (close-gets Done (sym e))
   closing (definition.refuses n (inl h) e) = too-many-slots (close-gets (Refused Slots) (sym (e ∙ ap refused h)))
   closing (definition.refuses n (inr (inl h)) e) = too-many-nodes (close-gets (Refused Nodes) (sym (e ∙ ap refused h)))
-  closing (definition.refuses n (inr (inr h)) e) = too-many-ticks (close-gets (Refused Ticks) (sym (e ∙ ap refused h)))
+  closing (definition.refuses n (inr (inr h)) e) = no-more-ticks (close-gets (Refused Ticks) (sym (e ∙ ap refused h)))
 
   -- an accepted sample is a board's first, and an accepted step a slot's
   sample-fresh : (board bits : ℕ) → sampleSays t board bits ≡ accepted [] → (board < boardsIn t) × (sampledIn t board ≡ 0)

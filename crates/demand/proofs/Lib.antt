@@ -3,6 +3,7 @@ pub mod Loaded
 pub mod Watches
 pub mod Getting
 pub mod Agreeing
+pub mod Repeating
 pub mod Demand
 pub mod Ticks
 pub mod Allowed

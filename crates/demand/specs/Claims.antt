@@ -33,12 +33,12 @@ pub record Gets (Promise : List ℕ → Outcome → Type 0) (wanted : Outcome) :
 abbrev pub CloseGets : List ℕ → Outcome → Type 0
 CloseGets t wanted = (second : List ℕ) → length second ≡ stateLength → Gets (Closes t second) wanted
 
--- the close is accepted, or gets 7, 8 or 15
+-- the close is accepted, or gets 7, 8 or 15: the next layout has too many slots or nodes, or no tick can be counted any more
 pub data Closing (t : List ℕ) : Type 0 where
-  accepted-closing : CloseGets t Done → Closing t
+  accepts : CloseGets t Done → Closing t
   too-many-slots : CloseGets t (Refused Slots) → Closing t
   too-many-nodes : CloseGets t (Refused Nodes) → Closing t
-  too-many-ticks : CloseGets t (Refused Ticks) → Closing t
+  no-more-ticks : CloseGets t (Refused Ticks) → Closing t
 
 -- the close is all that is left: every board has sampled and every slot is stepped, so that no sample and no step is accepted
 pub record CloseLeft (t : List ℕ) : Type 0 where
