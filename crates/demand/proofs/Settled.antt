@@ -1,16 +1,17 @@
--- The run program's tick. Until a verdict, settling under an event that the boards' masks cover is accepted, whatever outcome its promise
--- allows; then the boards have seen the event and the close is all that is left (`settle-reaches`). So settling that was accepted and a close
--- that was accepted are a tick under that event (`settle-ticks`). Assumes nothing.
+-- The run program's tick. Until a verdict, settling under an event that the boards' masks cover is accepted (`settle-gets`), and any other
+-- event gets 12 (`settle-outside`). Where it is accepted the boards have seen the event and the close is all that is left (`settle-reaches`).
+-- So settling that was accepted and a close that was accepted are a tick under that event (`settle-ticks`). Assumes nothing.
 use mathlib.Core.Path.{_≡_, refl, sym, ap, _∙_, subst}
 use mathlib.Core.Bool.{true, false}
 use mathlib.Core.List.{List, []}
 use Prim.Native.Nat.{ℕ, zero, suc, _+_, _-_, _≤_}
 use native.Mathlib.Omega.{arith}
 use lib.Dec.{eqb}
-use borrow.Author.Tests.{eqb-true}
+use borrow.Author.Tests.{eqb-true, eqb-false}
 use Rattle.lists.proofs.Tests.{pick-elim}
 use Rattle.answers.specs.declared.Outcome.{Outcome}
-use Rattle.answers.specs.declared.Outcome.the-variants.{Done}
+use Rattle.answers.specs.declared.Refusal.the-variants.{Outside}
+use Rattle.answers.specs.declared.Outcome.the-variants.{Refused, Done}
 use Rattle.answers.specs.declared.Verdict.the-variants.{Pending}
 use Rattle.answers.specs.Said.{Said, accepted}
 use Rattle.answers.proofs.Answers.{order-passed}
@@ -25,7 +26,7 @@ use Rattle.loading.specs.Load.{ruleIn}
 use Rattle.closing.specs.Close.{Closes}
 use Rattle.settling.specs.Settle.{After, follow, sampledFrom, steppedBelow, takenBy, settledUnder, Comes}
 use Rattle.settling.proofs.Determined.{comes-determined}
-use Rattle.settling.proofs.Following.{sampled-more, sampled-all, stepped-more, stepped-all, settled-stepped}
+use Rattle.settling.proofs.Following.{sampled-more, sampled-all, stepped-more, stepped-all, settled-outside, settled-stepped}
 use Rattle.watching.specs.Watch.{Calls, none, sample, step}
 use Rattle.watching.specs.Claims.{Accepted}
 use Rattle.watching.proofs.Started.{Started}
@@ -136,6 +137,12 @@ module _ (file : List ℕ) (us : List Event) (s : List ℕ) (w : Watched file us
     pub settle-reaches : (t : List ℕ) (answer : Outcome) → Comes (settledUnder s e) t answer → Reaches s e t
     settle-reaches t answer c =
         subst (λ (u : List ℕ). Reaches s e u) (comes-determined (settledUnder s e) (far .last) t Done answer (far .comes) c .1) (reaches p masks (ruleIn file) us s start unfinished e far)
+
+  -- an event with a bit in no mask gets 12
+  pub settle-outside : inMask e (unionWith 0 (masksIn s)) ≡ false → Gets (Comes (settledUnder s e)) (Refused Outside)
+  settle-outside outside =
+      let c = settled-outside s e (start .passes) (boardsIn s) refl (unionWith 0 (masksIn s)) refl (eqb-false _ _ outside) in
+      record { leaves = s; allowed = c; only = λ t answer d. comes-determined (settledUnder s e) t s answer (Refused Outside) d c .0 }
 
   pub settle-ticks : (t second s′ : List ℕ) → Comes (settledUnder s e) t Done → Closes t second s′ Done → Ticked s e s′
   settle-ticks t second s′ c k =
