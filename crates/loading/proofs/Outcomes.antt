@@ -26,8 +26,7 @@ use Rattle.cutting.specs.Cuts.{Parted}
 use Rattle.ltl.specs.Limits.{boardsMost, ruleNodesMost}
 use Rattle.masks.specs.Masks.{masksRule}
 use Rattle.ltl.specs.Text.{textOf, ruleText}
-use Rattle.ltl.proofs.Texts.{rule-is, text-of, wider}
-use Rattle.nodes.specs.Begins.{Front}
+use Rattle.ltl.proofs.Texts.{RuleText, rule-is, text-of, wider}
 use Rattle.rules.specs.declared.reading.Counts.{Counts}
 use Rattle.rules.specs.declared.reading.ReadAnswer.{ReadAnswer}
 use Rattle.rules.specs.declared.reading.ReadAnswer.the-variants.{Rule}
@@ -131,14 +130,24 @@ module _ (file state : List ℕ) where
 
 -- ---- what was read
 module _ (file : List ℕ) (passed : ReadPassed file boardsMost ruleNodesMost) where
+  told : RuleText (propositionsIn file) (formulaIn file)
+  told = rule-is (propositionsIn file) (formulaIn file) (passed .formula)
+
+  coded : (f : Formula) → Within (propositionsIn file) 0 f → Within 64 64 f
+  coded f = let c = counted (boardsIn file) (propositionsIn file) (nodesIn file) (passed .counts) in wider (propositionsIn file) 0 64 64 (c .propositions-few) (omega arith) f
+
+  same : ruleIn file ≡ told .formula
+  same = ap someFormula (ap textOf (told .bytes) ∙ text-of (told .formula) (coded (told .formula) (told .within)))
+
+  -- the rule is one of the file's propositions
+  pub read-within : Within (propositionsIn file) 0 (ruleIn file)
+  read-within = subst (Within (propositionsIn file) 0) (sym same) (told .within)
+
   pub read-ruled : Ruled (masksIn file) (formulaIn file) (ruleIn file)
   read-ruled =
       let z = sized file boardsMost ruleNodesMost (passed .lengths) in
       let c = counted (boardsIn file) (propositionsIn file) (nodesIn file) (passed .counts) in
       let o = placed file (passed .offsets) in
-      let t = rule-is (propositionsIn file) (formulaIn file) (passed .formula) in
-      let w = wider (propositionsIn file) 0 64 64 (c .propositions-few) (omega arith) (t .formula) (t .within) in
-      let same : ruleIn file ≡ t .formula = ap someFormula (ap textOf (t .bytes) ∙ text-of (t .formula) w) in
       let a = z .whole in
       let b = o .total in
       let d = length-drop (formulaAt (boardsIn file)) file in
@@ -150,8 +159,8 @@ module _ (file : List ℕ) (passed : ReadPassed file boardsMost ruleNodesMost) w
         few-propositions = c .propositions-few;
         few-boards = omega arith;
         follow = passed .masks;
-        within = subst (Within (propositionsIn file) 0) (sym same) (t .within);
-        front = subst (λ (f : Formula). Front (formulaIn file) f []) (sym same) (record { coded = w; bytes = t .bytes ∙ sym (append-nil (encode (t .formula))) });
+        within = read-within;
+        front = record { coded = coded (ruleIn file) read-within; bytes = told .bytes ∙ ap encode (sym same) ∙ sym (append-nil (encode (ruleIn file))) };
         few-nodes = omega arith;
       }
 

@@ -1,4 +1,4 @@
--- Every state that passes its check has seen an event: the union of its boards' samples (`eventOf`). So whatever was
+-- Every state that passes its check has seen an event: the union of its boards' samples (`eventOf`, `saw-event`). So whatever was
 -- sampled, an accepted close is a tick (`tick-of`). Assumes nothing.
 use mathlib.Core.Path.{_≡_, refl, sym, ap₂, _∙_}
 use mathlib.Core.Bool.{true}
@@ -39,7 +39,7 @@ module _ (t : List ℕ) (ok : stateOk t ≡ true) where
       let o : owners (masksIn t) i ≡ 1 = exact p (masksIn t) (c .masks-rule) few i (omega arith) ∙ rw (lt-ltb i p h) in
       omega arith
 
-  saw-event : Saw t (eventOf t)
+  pub saw-event : Saw t (eventOf t)
   unfolding sampleOf
   saw-event b l =
       let xs = listed (sampleIn t) (boardsIn t) in

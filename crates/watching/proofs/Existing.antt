@@ -1,5 +1,6 @@
 -- A tick exists: from a watch's state that is not finished, and for every event, calls that are all accepted lead to a state where the close
--- is all that is left and every board has seen the event (`tick-reached`). Boards sample from the first up, slots step from the last down.
+-- is all that is left and every board has seen the event (`tick-reached`). Boards sample from the first up, slots step from the last down:
+-- `Progress` is how far that has come, and one more board or slot is `sample-says` and `sample-more`, `step-says` and `step-more`.
 -- Assumes nothing.
 use mathlib.Core.Path.{_≡_, sym, ap, _∙_, subst}
 use mathlib.Core.Bool.{true, false}
@@ -19,11 +20,11 @@ use Rattle.ltl.specs.Meaning.{Event}
 use Rattle.network.specs.Scores.{sampleOf}
 use Rattle.state.specs.Fields.{boardsIn, slotsIn, maskIn, sampleIn, sampledIn, masksIn, boardOfIn, steppedIn}
 use Rattle.state.specs.Clauses.{inMask, stateOk}
-use Rattle.state.specs.Calls.{finishedIn, sampleSays, sampleLeaves, stepSays, stepLeaves}
+use Rattle.state.specs.Calls.{finishedIn, sampleSays, sampleLeaves, stepSays, stepLeaves, doneIn}
 use Rattle.state.proofs.Rows.{masks-at}
 use Rattle.passing.proofs.Passing.{passing}
-use Rattle.watching.specs.Watch.{Calls, none, sample, step}
-use Rattle.watching.specs.Claims.{Accepted, Reached}
+use Rattle.watching.specs.Watch.{Calls, none, sample, step, Saw}
+use Rattle.watching.specs.Claims.{Accepted, Closing, Reached}
 use Rattle.watching.proofs.Bits.{and-twice}
 use Rattle.watching.proofs.Sampling.{sampled, sample-slot, sample-other, sample-other-flag, sample-bits, sample-flag}
 use Rattle.watching.proofs.Stepping.{after, step-sample, step-flag, step-slot, step-mark}
@@ -39,15 +40,15 @@ accepted-leaves a output before e = ap (λ (b : Said). left b output before) e �
 
 module _ (p : ℕ) (masks : List ℕ) (rule : Formula) (us : List Event) (s : List ℕ) (x : Started p masks rule us s) (unfinished : finishedIn s ≡ false) (e : Event) where
   -- a board's sample of the event
-  abbrev due : ℕ → Event
+  abbrev pub due : ℕ → Event
   due b = sampleOf (masksIn s) e b
 
   -- boards below n have sampled, slots from d on are stepped
-  record Progress (n d : ℕ) (t : List ℕ) : Type 0 where
-    given : (b : ℕ) → b < n → b < boardsIn s → (sampledIn t b ≡ 1) × (sampleIn t b ≡ due b)
-    waiting : (b : ℕ) → n ≤ b → b < boardsIn s → sampledIn t b ≡ 0
-    stepped : (k : ℕ) → d ≤ k → k < slotsIn s → steppedIn t k ≡ 1
-    fresh : (k : ℕ) → k < d → k < slotsIn s → steppedIn t k ≡ 0
+  pub record Progress (n d : ℕ) (t : List ℕ) : Type 0 where
+    pub given : (b : ℕ) → b < n → b < boardsIn s → (sampledIn t b ≡ 1) × (sampleIn t b ≡ due b)
+    pub waiting : (b : ℕ) → n ≤ b → b < boardsIn s → sampledIn t b ≡ 0
+    pub stepped : (k : ℕ) → d ≤ k → k < slotsIn s → steppedIn t k ≡ 1
+    pub fresh : (k : ℕ) → k < d → k < slotsIn s → steppedIn t k ≡ 0
 
   record Made (n d : ℕ) : Type 0 where
     last : List ℕ
@@ -66,19 +67,25 @@ module _ (p : ℕ) (masks : List ℕ) (rule : Formula) (us : List Event) (s : Li
     there : n < boardsIn t
     there = omega (arith, boards-kept s (x .passes) (started-laid p masks rule us s x) t (in-tick t c))
 
+    mask-is : maskIn t n ≡ getD (masksIn s) n 0
+    mask-is = sym (masks-at t n there) ∙ ap (λ (ms : List ℕ). getD ms n 0) (in-tick t c .masks-kept)
+
+    -- its sample of the event is what its mask in this state lets through
+    pub due-is : due n ≡ bitAnd e (maskIn t n)
+    unfolding sampleOf
+    due-is = ap (bitAnd e) (sym mask-is)
+
     inside : inMask (due n) (maskIn t n) ≡ true
     unfolding sampleOf
-    inside =
-        let m : maskIn t n ≡ getD (masksIn s) n 0 = sym (masks-at t n there) ∙ ap (λ (ms : List ℕ). getD ms n 0) (in-tick t c .masks-kept) in
-        eq-eqb _ _ (ap (bitAnd (bitAnd e (getD (masksIn s) n 0))) m ∙ and-twice e (getD (masksIn s) n 0))
+    inside = eq-eqb _ _ (ap (bitAnd (bitAnd e (getD (masksIn s) n 0))) mask-is ∙ and-twice e (getD (masksIn s) n 0))
 
     unsampled : sampledIn t n ≡ 0
     unsampled = made .waiting n (omega arith) l
 
-    sample-says : sampleSays t n (due n) ≡ accepted []
+    pub sample-says : sampleSays t n (due n) ≡ accepted []
     sample-says = sample-accepted t ok (calls-unfinished p masks rule us s x t c unfinished) n (due n) there inside unsampled
 
-    sample-more : Progress (suc n) (slotsIn s) (sampleLeaves t n (due n))
+    pub sample-more : Progress (suc n) (slotsIn s) (sampleLeaves t n (due n))
     sample-more =
         let t′ = sampled t ok n (due n) there inside unsampled in
         let q = slots-kept s (x .passes) (started-laid p masks rule us s x) t (in-tick t c) in
@@ -102,14 +109,11 @@ module _ (p : ℕ) (masks : List ℕ) (rule : Formula) (us : List Event) (s : Li
             under : (b ≡ n → ⊥) → b < suc n → b < n
             under z h = omega arith
 
+  pub progress-none : Progress 0 (slotsIn s) s
+  progress-none = record { given = λ b h i. absurd (omega arith); waiting = λ b h i. x .unsampled b i; stepped = λ k h i. absurd (omega arith); fresh = λ k h i. x .unstepped k i }
+
   all-sampled : (n : ℕ) → n ≤ boardsIn s → Made n (slotsIn s)
-  all-sampled zero l =
-      record {
-        last = s;
-        calls = none;
-        all = tt;
-        progress = record { given = λ b h i. absurd (omega arith); waiting = λ b h i. x .unsampled b i; stepped = λ k h i. absurd (omega arith); fresh = λ k h i. x .unstepped k i };
-      }
+  all-sampled zero l = record { last = s; calls = none; all = tt; progress = progress-none }
   all-sampled (suc n) l =
       let m = all-sampled n (omega arith) in
       record {
@@ -127,7 +131,7 @@ module _ (p : ℕ) (masks : List ℕ) (rule : Formula) (us : List Event) (s : Li
     slot-there : k < slotsIn t
     slot-there = omega (arith, slots-kept s (x .passes) (started-laid p masks rule us s x) t (in-tick t c))
 
-    step-says : stepSays t k ≡ accepted []
+    pub step-says : stepSays t k ≡ accepted []
     step-says =
         let q = slots-kept s (x .passes) (started-laid p masks rule us s x) t (in-tick t c) in
         let n = boards-kept s (x .passes) (started-laid p masks rule us s x) t (in-tick t c) in
@@ -135,7 +139,7 @@ module _ (p : ℕ) (masks : List ℕ) (rule : Formula) (us : List Event) (s : Li
         step-accepted t passes (calls-unfinished p masks rule us s x t c unfinished) k slot-there (made .fresh k (omega arith) l)
         (made .given (boardOfIn t k) (omega arith) (omega arith) .0) (λ m h i. made .stepped m (omega arith) (omega arith))
 
-    step-more : Progress (boardsIn s) k (stepLeaves t k)
+    pub step-more : Progress (boardsIn s) k (stepLeaves t k)
     step-more =
         let t′ = after t passes k slot-there in
         let q = slots-kept s (x .passes) (started-laid p masks rule us s x) t (in-tick t c) in
@@ -163,21 +167,37 @@ module _ (p : ℕ) (masks : List ℕ) (rule : Formula) (us : List Event) (s : Li
         progress = step-more (m .last) (m .calls) k (omega arith) (m .progress);
       })
 
+  -- ---- all boards have sampled and all slots are stepped
+  module _ (t : List ℕ) (c : Calls s t) (made : Progress (boardsIn s) 0 t) where
+    same-boards : boardsIn t ≡ boardsIn s
+    same-boards = boards-kept s (x .passes) (started-laid p masks rule us s x) t (in-tick t c)
+
+    same-slots : slotsIn t ≡ slotsIn s
+    same-slots = slots-kept s (x .passes) (started-laid p masks rule us s x) t (in-tick t c)
+
+    still-unfinished : finishedIn t ≡ false
+    still-unfinished = calls-unfinished p masks rule us s x t c unfinished
+
+    pub progress-saw : Saw t e
+    progress-saw b h = let n = same-boards in made .given b (omega arith) (omega arith) .1 ∙ ap (λ (ms : List ℕ). sampleOf ms e b) (sym (in-tick t c .masks-kept))
+
+    pub progress-done : doneIn t ≡ true
+    progress-done =
+        let n = same-boards in
+        let q = same-slots in
+        done-of t (in-tick t c .passes) still-unfinished (λ b h. made .given b (omega arith) (omega arith) .0) (λ k h. made .stepped k (omega arith) (omega arith))
+
+    pub progress-closing : Closing t
+    progress-closing = close-left t (in-tick t c .passes) still-unfinished progress-done
+
   pub tick-reached : Reached s e
   tick-reached =
       let m = all-stepped (slotsIn s) (omega arith) (all-sampled (boardsIn s) (omega arith)) in
-      let t = m .last in
-      let i = in-tick t (m .calls) in
-      let laid = started-laid p masks rule us s x in
-      let q = slots-kept s (x .passes) laid t i in
-      let n = boards-kept s (x .passes) laid t i in
-      let going = calls-unfinished p masks rule us s x t (m .calls) unfinished in
-      let done = done-of t (i .passes) going (λ b h. m .progress .given b (omega arith) (omega arith) .0) (λ k h. m .progress .stepped k (omega arith) (omega arith)) in
       record {
-        last = t;
+        last = m .last;
         calls = m .calls;
         all = m .all;
-        saw = λ b h. m .progress .given b (omega arith) (omega arith) .1 ∙ ap (λ (ms : List ℕ). sampleOf ms e b) (sym (i .masks-kept));
-        done = done;
-        closing = close-left t (i .passes) going done;
+        saw = progress-saw (m .last) (m .calls) (m .progress);
+        done = progress-done (m .last) (m .calls) (m .progress);
+        closing = progress-closing (m .last) (m .calls) (m .progress);
       }

@@ -1,0 +1,85 @@
+-- A call gets the answer that its definition gives: `sample-gets`, `step-gets`, `close-gets`, `ask-gets`. So what goes on over the
+-- definitions goes on by the promises (`going-on`, with `closing` and `close-left`). Assumes nothing.
+use mathlib.Core.Path.{_≡_, refl, sym, ap, _∙_}
+use mathlib.Core.Bool.{true}
+use mathlib.Core.List.{List, []}
+use mathlib.Core.Logic.{inl, inr}
+use Prim.Native.Nat.{ℕ, _<_}
+use native.Mathlib.Omega.{arith}
+use lib.Dec.{eqb}
+use borrow.Author.Tests.{eqb-true, ltb-true}
+use Rattle.lists.proofs.Tests.{both-0, both-1}
+use Rattle.answers.specs.declared.Refusal.the-variants.{Slots, Nodes, Ticks}
+use Rattle.answers.specs.declared.Outcome.{Outcome}
+use Rattle.answers.specs.declared.Outcome.the-variants.{Refused, Done}
+use Rattle.answers.specs.Said.{Said, accepted, refused, saidOutcome}
+use Rattle.answers.proofs.Answers.{saidOutcome-injective, order-passed}
+use Rattle.state.specs.Fields.{stateLength, boardsIn, slotsIn, sampledIn, steppedIn}
+use Rattle.state.specs.Calls.{askSays, sampleSays, sampleLeaves, stepSays, stepLeaves, doneIn, closeSays, closeLeaves}
+use Rattle.checking.proofs.Each.{each-at}
+use Rattle.watching.specs.Claims as definition
+use Rattle.asking.specs.declared.Standing.{Standing}
+use Rattle.asking.specs.declared.AskAnswer.the-variants.{Told}
+use Rattle.asking.specs.Ask.{saidAsk}
+use Rattle.asking.proofs.Determined.{saidAsk-injective}
+use Rattle.sampling.specs.Sample.{Samples}
+use Rattle.stepping.specs.Step.{StepsSlot}
+use Rattle.demand.specs.Claims.{Gets, CloseGets, Closing, accepts, too-many-slots, too-many-nodes, no-more-ticks, CloseLeft, GoesOn, samples, steps, closes, AskGets}
+
+module _ (t : List ℕ) where
+  sample-gets : (board bits : ℕ) (wanted : Outcome) → saidOutcome wanted ≡ sampleSays t board bits → Gets (Samples t board bits) wanted
+  sample-gets board bits wanted e =
+      record { leaves = sampleLeaves t board bits; allowed = record { says = e; leaves = refl }; only = λ s′ answer p. saidOutcome-injective answer wanted (p .says ∙ sym e) }
+
+  step-gets : (slot : ℕ) (wanted : Outcome) → saidOutcome wanted ≡ stepSays t slot → Gets (StepsSlot t slot) wanted
+  step-gets slot wanted e =
+      record { leaves = stepLeaves t slot; allowed = record { says = e; leaves = refl }; only = λ s′ answer p. saidOutcome-injective answer wanted (p .says ∙ sym e) }
+
+  close-gets : (wanted : Outcome) → saidOutcome wanted ≡ closeSays t stateLength → CloseGets t wanted
+  close-gets wanted e second long =
+      let f = e ∙ ap (closeSays t) (sym long) in
+      record { leaves = closeLeaves t second; allowed = record { says = f; leaves = refl }; only = λ s′ answer p. saidOutcome-injective answer wanted (p .says ∙ sym f) }
+
+  pub ask-gets : (wanted : Standing) → saidAsk (Told wanted) ≡ askSays t → AskGets t wanted
+  ask-gets wanted e = record { allowed = record { says = e }; only = λ answer p. saidAsk-injective answer (Told wanted) (p .says ∙ sym e) }
+
+  -- ---- within a tick
+  pub closing : definition.Closing t → Closing t
+  closing (definition.accepts e) = accepts (close-gets Done (sym e))
+  closing (definition.refuses n (inl h) e) = too-many-slots (close-gets (Refused Slots) (sym (e ∙ ap refused h)))
+  closing (definition.refuses n (inr (inl h)) e) = too-many-nodes (close-gets (Refused Nodes) (sym (e ∙ ap refused h)))
+  closing (definition.refuses n (inr (inr h)) e) = no-more-ticks (close-gets (Refused Ticks) (sym (e ∙ ap refused h)))
+
+  -- an accepted sample is a board's first, and an accepted step a slot's
+  sample-fresh : (board bits : ℕ) → sampleSays t board bits ≡ accepted [] → (board < boardsIn t) × (sampledIn t board ≡ 0)
+  unfolding sampleSays
+  sample-fresh board bits e =
+      let q = order-passed _ (accepted []) (omega arith, (omega arith, (omega arith, (omega arith, (omega arith, tt))))) (ap (λ (a : Said). a .number) e) in
+      (ltb-true _ _ (q .1 .1 .0), eqb-true _ _ (q .1 .1 .1 .1 .0))
+
+  step-fresh : (slot : ℕ) → stepSays t slot ≡ accepted [] → (slot < slotsIn t) × (steppedIn t slot ≡ 0)
+  unfolding stepSays
+  step-fresh slot e =
+      let q = order-passed _ (accepted []) (omega arith, (omega arith, (omega arith, (omega arith, (omega arith, tt))))) (ap (λ (a : Said). a .number) e) in
+      (ltb-true _ _ (q .1 .1 .0), eqb-true _ _ (q .1 .1 .1 .0))
+
+  done-boards : doneIn t ≡ true → (b : ℕ) → b < boardsIn t → sampledIn t b ≡ 1
+  unfolding doneIn
+  done-boards done b l = eqb-true _ _ (each-at (λ i. eqb (sampledIn t i) 1) (boardsIn t) b (both-0 _ _ done) l)
+
+  done-slots : doneIn t ≡ true → (k : ℕ) → k < slotsIn t → steppedIn t k ≡ 1
+  unfolding doneIn
+  done-slots done k l = eqb-true _ _ (each-at (λ k. eqb (steppedIn t k) 1) (slotsIn t) k (both-1 _ _ done) l)
+
+  pub close-left : doneIn t ≡ true → CloseLeft t
+  close-left done =
+      record {
+        done = done;
+        no-sample = λ board bits t′ p. let f = sample-fresh board bits (sym (p .says)) in omega (arith, done-boards done board (f .0));
+        no-step = λ slot t′ p. let f = step-fresh slot (sym (p .says)) in omega (arith, done-slots done slot (f .0));
+      }
+
+  pub going-on : definition.GoesOn t → GoesOn t
+  going-on (definition.samples board bits e) = samples board bits (sample-gets board bits Done (sym e))
+  going-on (definition.steps k e) = steps k (step-gets k Done (sym e))
+  going-on (definition.closes done c) = closes (close-left done) (closing c)

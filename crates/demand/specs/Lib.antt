@@ -1,0 +1,4 @@
+-- The third demand: what a reader has to believe of calls by their promises, of a watch of them, and of what is claimed of it.
+pub mod Called
+pub mod Claims
+pub mod Demanded

@@ -1,0 +1,1 @@
+// No code: the workshop's third demand, about whatever programs meet the calls' promises.
