@@ -1,2 +1,3 @@
--- Laws of the values behind references.
+-- Laws of the values behind references, and that the promises leave no choice.
 pub mod Values
+pub mod Determined

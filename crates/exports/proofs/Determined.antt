@@ -1,0 +1,40 @@
+-- The promises of the exported calls leave no choice: any two outcomes that one allows of the same inputs are equal. Assumes nothing.
+use mathlib.Core.Path.{_≡_, sym, _∙_}
+use mathlib.Core.List.{List}
+use Prim.Native.Nat.{ℕ}
+use Rattle.exports.specs.Exported.{ReadExported, WriteExported, CentralExported, LoadExported, SampleExported, StepExported, CloseExported, AskExported}
+
+pub read-determined : {file masks formula m m₂ f f₂ : List ℕ} {boards propositions nodes b b₂ p p₂ n n₂ a a₂ : ℕ}
+    → ReadExported file masks formula m f boards propositions nodes b p n a → ReadExported file masks formula m₂ f₂ boards propositions nodes b₂ p₂ n₂ a₂
+    → (a ≡ a₂) × (m ≡ m₂) × (f ≡ f₂) × (b ≡ b₂) × (p ≡ p₂) × (n ≡ n₂)
+read-determined x y =
+    (x .says ∙ sym (y .says), x .leaves-masks ∙ sym (y .leaves-masks), x .leaves-formula ∙ sym (y .leaves-formula), x .gives-boards ∙ sym (y .gives-boards),
+    x .gives-propositions ∙ sym (y .gives-propositions), x .gives-nodes ∙ sym (y .gives-nodes))
+
+pub write-determined : {masks formula file f f₂ : List ℕ} {p written w w₂ a a₂ : ℕ}
+    → WriteExported masks p formula file f written w a → WriteExported masks p formula file f₂ written w₂ a₂ → (a ≡ a₂) × (f ≡ f₂) × (w ≡ w₂)
+write-determined x y = (x .says ∙ sym (y .says), x .leaves ∙ sym (y .leaves), x .gives-length ∙ sym (y .gives-length))
+
+pub central-determined : {formula output o o₂ : List ℕ} {event verdict nodes v v₂ n n₂ a a₂ : ℕ}
+    → CentralExported formula event output o verdict nodes v n a → CentralExported formula event output o₂ verdict nodes v₂ n₂ a₂ → (a ≡ a₂) × (o ≡ o₂) × (v ≡ v₂) × (n ≡ n₂)
+central-determined x y =
+    (x .says ∙ sym (y .says), x .leaves ∙ sym (y .leaves), x .gives-verdict ∙ sym (y .gives-verdict), x .gives-length ∙ sym (y .gives-length))
+
+pub load-determined : {file state s s₂ : List ℕ} {a a₂ : ℕ} → LoadExported file state s a → LoadExported file state s₂ a₂ → (a ≡ a₂) × (s ≡ s₂)
+load-determined x y = (x .says ∙ sym (y .says), x .leaves ∙ sym (y .leaves))
+
+pub sample-determined : {state s s₂ : List ℕ} {board bits a a₂ : ℕ} → SampleExported state board bits s a → SampleExported state board bits s₂ a₂ → (a ≡ a₂) × (s ≡ s₂)
+sample-determined x y = (x .says ∙ sym (y .says), x .leaves ∙ sym (y .leaves))
+
+pub step-determined : {state s s₂ : List ℕ} {slot a a₂ : ℕ} → StepExported state slot s a → StepExported state slot s₂ a₂ → (a ≡ a₂) × (s ≡ s₂)
+step-determined x y = (x .says ∙ sym (y .says), x .leaves ∙ sym (y .leaves))
+
+pub close-determined : {state second s s₂ : List ℕ} {a a₂ : ℕ} → CloseExported state second s a → CloseExported state second s₂ a₂ → (a ≡ a₂) × (s ≡ s₂)
+close-determined x y = (x .says ∙ sym (y .says), x .leaves ∙ sym (y .leaves))
+
+pub ask-determined : {state : List ℕ} {verdict ticks slots nodes v v₂ t t₂ k k₂ n n₂ a a₂ : ℕ}
+    → AskExported state verdict ticks slots nodes v t k n a → AskExported state verdict ticks slots nodes v₂ t₂ k₂ n₂ a₂
+    → (a ≡ a₂) × (v ≡ v₂) × (t ≡ t₂) × (k ≡ k₂) × (n ≡ n₂)
+ask-determined x y =
+    (x .says ∙ sym (y .says), x .gives-verdict ∙ sym (y .gives-verdict), x .gives-ticks ∙ sym (y .gives-ticks), x .gives-slots ∙ sym (y .gives-slots),
+    x .gives-nodes ∙ sym (y .gives-nodes))
