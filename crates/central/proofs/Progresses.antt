@@ -1,5 +1,6 @@
 -- Unfolding into the output, resolving there, moving the result to the front and clearing the rest is progression:
--- `progress-done`. `verdict-first`: the first byte of a formula says its verdict. Assumes nothing.
+-- `progress-done`. `verdict-first`: the first byte of a formula says its verdict. `settled-alone`: where nothing is seen of a slot, settling
+-- is resolving. Assumes nothing.
 use mathlib.Core.Path.{_≡_, refl, ap, ap₂, _∙_, subst}
 use mathlib.Core.Bool.{true, false}
 use mathlib.Core.List.{List, _++_}
@@ -62,7 +63,7 @@ no-bit k = rw (zero-div (2 ^ k))
 abbrev pub alone : Event → Seen
 alone event = record { event = event; yes = 0; no = 0 }
 
-settled-alone : (event : Event) (f : Formula) → settled (alone event) f ≡ resolved event f
+pub settled-alone : (event : Event) (f : Formula) → settled (alone event) f ≡ resolved event f
 unfolding pick
 settled-alone event f = ap (resolved event) (filled-none (heldBy (alone event)) (λ k. rw (no-bit k)) f)
 

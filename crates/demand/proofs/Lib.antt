@@ -6,6 +6,7 @@ pub mod Agreeing
 pub mod Repeating
 pub mod Demand
 pub mod Ticks
+pub mod OnePlace
 pub mod Allowed
 pub mod Settling
 pub mod Settled

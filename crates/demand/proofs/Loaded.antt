@@ -1,9 +1,9 @@
--- What an accepted load of a rule file tells, by its promise alone: the file's counts, masks and rule are those of a watch, and the state
--- is the rule's first layout (`load-accepted`). Assumes nothing.
+-- What an accepted load of a rule file tells, by its promise alone: the file's counts, masks and rule are those of a watch, its formula's
+-- bytes are the rule's, and the state is the rule's first layout (`load-accepted`). Assumes nothing.
 use mathlib.Core.Path.{_≡_, refl, sym, ap, _∙_}
 use mathlib.Core.Bool.{true}
 use mathlib.Core.List.{List, []}
-use Prim.Native.Nat.{ℕ}
+use Prim.Native.Nat.{ℕ, _≤_}
 use native.Mathlib.Omega.{arith}
 use lib.ListN.{length}
 use borrow.Author.Tests.{leb-true}
@@ -11,14 +11,17 @@ use Rattle.lists.proofs.Tests.{both-1, both-true}
 use Rattle.answers.specs.declared.Outcome.the-variants.{Done}
 use Rattle.answers.specs.Said.{Said, accepted, left}
 use Rattle.answers.proofs.Answers.{left-accepted, order-passed}
-use Rattle.ltl.specs.Limits.{boardsMost, ruleNodesMost}
-use Rattle.rules.specs.RuleFile.{masksAt, boardsIn, propositionsIn, nodesIn, masksIn}
+use Rattle.ltl.specs.Limits.{boardsMost, ruleNodesMost, nodesMost}
+use Rattle.nodes.specs.Begins.{Front}
+use Rattle.rules.specs.RuleFile.{masksAt, boardsIn, propositionsIn, nodesIn, masksIn, formulaIn}
 use Rattle.rules.specs.Read as read
 use Rattle.rules.proofs.Files.{masksFrom-length}
 use Rattle.rules.proofs.Outcomes.{counted, ReadPassed}
-use Rattle.state.specs.Calls.{loadedState}
+use Rattle.state.specs.Clauses.{slotsMost}
+use Rattle.state.specs.Bytes.{nodesOf}
+use Rattle.state.specs.Calls.{firstOf, loadedState}
 use Rattle.loading.specs.Load.{ruleIn, lengthsOk, loadSays, LoadsRule}
-use Rattle.loading.proofs.Outcomes.{read-within}
+use Rattle.loading.proofs.Outcomes.{read-within, read-ruled}
 use Rattle.watching.specs.Watch.{Loads}
 
 -- the lengths that loading checks are those that reading checks, with outputs of their lengths
@@ -26,13 +29,25 @@ lengths-read : (file : List ℕ) (room : ℕ) → lengthsOk file room ≡ true �
 unfolding lengthsOk read.lengthsOk
 lengths-read file room e = both-true _ _ refl (both-true _ _ refl (both-1 _ _ e))
 
-load-passed : (file : List ℕ) (room : ℕ) → loadSays file room ≡ accepted [] → Loads (propositionsIn file) (masksIn file) (ruleIn file)
+-- what an accepted load's checks told
+record LoadPassed (file : List ℕ) : Type 0 where
+  file-passed : ReadPassed file boardsMost ruleNodesMost
+  few-slots : length (firstOf (masksIn file) (ruleIn file)) ≤ slotsMost
+  few-nodes : nodesOf (firstOf (masksIn file) (ruleIn file)) ≤ nodesMost
+
+load-passed : (file : List ℕ) (room : ℕ) → loadSays file room ≡ accepted [] → LoadPassed file
 unfolding loadSays
 load-passed file room e =
     let q = order-passed _ (accepted []) (omega arith, (omega arith, (omega arith, (omega arith, (omega arith, (omega arith, (omega arith, (omega arith, tt)))))))) (ap (λ (a : Said). a .number) e) in
-    let passed : ReadPassed file boardsMost ruleNodesMost =
-    record { lengths = lengths-read file room (q .0); version = q .1 .0; counts = q .1 .1 .0; offsets = q .1 .1 .1 .0; masks = q .1 .1 .1 .1 .0; formula = q .1 .1 .1 .1 .1 .0 } in
-    let c = counted (boardsIn file) (propositionsIn file) (nodesIn file) (passed .counts) in
+    record {
+      file-passed = record { lengths = lengths-read file room (q .0); version = q .1 .0; counts = q .1 .1 .0; offsets = q .1 .1 .1 .0; masks = q .1 .1 .1 .1 .0; formula = q .1 .1 .1 .1 .1 .0 };
+      few-slots = leb-true _ _ (q .1 .1 .1 .1 .1 .1 .0);
+      few-nodes = leb-true _ _ (q .1 .1 .1 .1 .1 .1 .1 .0);
+    }
+
+loads-of : (file : List ℕ) → LoadPassed file → Loads (propositionsIn file) (masksIn file) (ruleIn file)
+loads-of file x =
+    let c = counted (boardsIn file) (propositionsIn file) (nodesIn file) (x .file-passed .counts) in
     let n = masksFrom-length file masksAt (boardsIn file) in
     let a = c .boards-some in
     let b = c .boards-few in
@@ -41,18 +56,24 @@ load-passed file room e =
       few-propositions = c .propositions-few;
       some-boards = omega arith;
       few-boards = omega arith;
-      follow = passed .masks;
-      within = read-within file passed;
-      few-slots = leb-true _ _ (q .1 .1 .1 .1 .1 .1 .0);
-      few-nodes = leb-true _ _ (q .1 .1 .1 .1 .1 .1 .1 .0);
+      follow = x .file-passed .masks;
+      within = read-within file (x .file-passed);
+      few-slots = x .few-slots;
+      few-nodes = x .few-nodes;
     }
 
 pub record LoadAccepted (file s : List ℕ) : Type 0 where
   pub loads : Loads (propositionsIn file) (masksIn file) (ruleIn file)
+  pub spelt : Front (formulaIn file) (ruleIn file) []
   pub state-is : s ≡ loadedState (masksIn file) (ruleIn file)
 
 pub load-accepted : (file before s : List ℕ) → LoadsRule file before s Done → LoadAccepted file s
 load-accepted file before s l =
     let e = sym (l .says) in
+    let x = load-passed file (length before) e in
     let next = loadedState (masksIn file) (ruleIn file) in
-    record { loads = load-passed file (length before) e; state-is = l .leaves ∙ ap (λ (a : Said). left a next before) e ∙ left-accepted [] next before }
+    record {
+      loads = loads-of file x;
+      spelt = read-ruled file (x .file-passed) .front;
+      state-is = l .leaves ∙ ap (λ (a : Said). left a next before) e ∙ left-accepted [] next before;
+    }

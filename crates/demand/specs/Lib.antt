@@ -2,3 +2,4 @@
 pub mod Called
 pub mod Claims
 pub mod Demanded
+pub mod OnePlace

@@ -1,0 +1,103 @@
+-- The verdict that ask tells of a watch is the one that the call `central` answers for the same events, where it has room for the rule
+-- (`one-place`). Assumes nothing.
+use mathlib.Core.Path.{_≡_, refl, sym, ap, _∙_, subst}
+use mathlib.Core.List.{List, [], _∷_, _++_, append-nil}
+use Prim.Native.Nat.{ℕ, _-_}
+use native.Mathlib.Omega.{arith}
+use lib.ListN.{length, getD, take, replicate}
+use lib.Seq.{take-at}
+use Rattle.lists.specs.Runs.{padded}
+use Rattle.answers.specs.Said.{Said, accepted, left}
+use Rattle.answers.proofs.Answers.{left-accepted, verdict-injective, order-ok, order-done, order-passed}
+use Rattle.ltl.specs.Limits.{nodesMost}
+use Rattle.ltl.specs.Formula.{Formula, size, encode, Within}
+use Rattle.ltl.specs.Meaning.{Event}
+use Rattle.ltl.specs.Progression as ltl
+use Rattle.ltl.specs.Progression.{unfolded, progressedOver, verdictOf}
+use Rattle.ltl.specs.Text.{textOf}
+use Rattle.ltl.proofs.Texts.{length-encode, text-of, unfolded-coded}
+use Rattle.nodes.specs.Begins.{Front}
+use Rattle.resolving.proofs.Coded.{settled-coded}
+use Rattle.central.specs.declared.Progress.{Progress}
+use Rattle.central.specs.declared.CentralAnswer.the-variants.{Progressed}
+use Rattle.central.specs.Central.{someFormula, formulaOf, answerOf, centralSays, Centrally}
+use Rattle.central.proofs.Progresses.{alone, settled-alone}
+use Rattle.rules.specs.RuleFile.{formulaIn}
+use Rattle.asking.specs.declared.Standing.{Standing}
+use Rattle.asking.specs.declared.AskAnswer.the-variants.{Told}
+use Rattle.asking.specs.Ask.{Asks}
+use Rattle.loading.specs.Load.{ruleIn}
+use Rattle.demand.specs.Called.{nothing, Watched, begun, ticked}
+use Rattle.demand.specs.Claims.{standing}
+use Rattle.demand.specs.OnePlace.{InOnePlace, given, progressed}
+use Rattle.demand.proofs.Loaded.{load-accepted}
+use Rattle.demand.proofs.Demand.{demanded}
+
+-- ---- progression
+-- one more event
+over-more : (us : List Event) (e : Event) (f : Formula) → progressedOver (us ++ (e ∷ [])) f ≡ ltl.progressed e (progressedOver us f)
+over-more [] e f = refl
+over-more (u ∷ us) e f = over-more us e (ltl.progressed u f)
+
+progressed-coded : (e : Event) (f : Formula) → Within 64 64 f → Within 64 64 (ltl.progressed e f)
+progressed-coded e f w = subst (λ (g : Formula). Within 64 64 g) (settled-alone e (unfolded f)) (settled-coded (alone e) (unfolded f) (unfolded-coded 64 64 f w))
+
+-- ---- an accepted call on a formula's bytes
+record Tells (f : Formula) (e : Event) (output′ : List ℕ) (p : Progress) : Type 0 where
+  verdict-is : p .verdict ≡ verdictOf (ltl.progressed e f)
+  bytes-are : take (p .length) output′ ≡ encode (ltl.progressed e f)
+
+-- where the answer is accepted, it is this
+central-says : (bytes : List ℕ) (e : Event) (room : ℕ) → centralSays bytes e room .number ≡ 0 → centralSays bytes e room ≡ accepted (answerOf (ltl.progressed e (formulaOf bytes)))
+unfolding centralSays
+central-says bytes e room h =
+    let q = order-passed _ _ (omega arith, (omega arith, (omega arith, tt))) h in
+    order-ok 1 _ _ _ (q .0) ∙ order-ok 6 _ _ _ (q .1 .0) ∙ order-ok 8 _ _ _ (q .1 .1 .0) ∙ order-done _
+
+tells : (f : Formula) → Within 64 64 f → (bytes : List ℕ) → bytes ≡ encode f → (e : Event) (output output′ : List ℕ) (p : Progress) → Centrally bytes e output output′ (Progressed p) → Tells f e output′ p
+tells f w bytes b e output output′ p c =
+    let g = ltl.progressed e f in
+    let same : formulaOf bytes ≡ f = ap someFormula (ap textOf b ∙ text-of f w) in
+    let says = central-says bytes e (length output) (ap (λ (a : Said). a .number) (sym (c .says))) ∙ ap (λ (x : Formula). accepted (answerOf (ltl.progressed e x))) same in
+    let long : p .length ≡ size g = ap (λ (a : Said). getD (a .values) 1 0) (c .says ∙ says) in
+    let next : output′ ≡ padded nodesMost (encode g) =
+    c .leaves
+    ∙ ap (λ (x : Formula). left (centralSays bytes e (length output)) (padded nodesMost (encode (ltl.progressed e x))) output) same
+    ∙ ap (λ (a : Said). left a (padded nodesMost (encode g)) output) says
+    ∙ left-accepted (answerOf g) (padded nodesMost (encode g)) output in
+    record {
+      verdict-is = verdict-injective (p .verdict) (verdictOf g) (ap (λ (a : Said). getD (a .values) 0 0) (c .says ∙ says));
+      bytes-are = ap (take (p .length)) next ∙ take-at (encode g) (replicate (nodesMost - length (encode g)) 0) (p .length) (length-encode g ∙ sym long);
+    }
+
+-- ---- the whole rule
+record Spells (file : List ℕ) (us : List Event) (bytes : List ℕ) : Type 0 where
+  coded : Within 64 64 (progressedOver us (ruleIn file))
+  bytes-are : bytes ≡ encode (progressedOver us (ruleIn file))
+
+spells : {file : List ℕ} {us : List Event} {bytes : List ℕ} → Front (formulaIn file) (ruleIn file) [] → InOnePlace file us bytes → Spells file us bytes
+spells {file} l given = record { coded = l .coded; bytes-are = l .bytes ∙ append-nil (encode (ruleIn file)) }
+spells {file} l (progressed {us = us} {bytes = bytes} x e output output′ p c) =
+    let f = progressedOver us (ruleIn file) in
+    let i = spells l x in
+    let t = tells f (i .coded) bytes (i .bytes-are) e output output′ p c in
+    let more = over-more us e (ruleIn file) in
+    record {
+      coded = subst (λ (g : Formula). Within 64 64 g) (sym more) (progressed-coded e f (i .coded));
+      bytes-are = t .bytes-are ∙ ap encode (sym more);
+    }
+
+-- a watch's file was loaded
+watch-spelt : {file : List ℕ} {us : List Event} {s : List ℕ} → Watched file us s → Front (formulaIn file) (ruleIn file) []
+watch-spelt {file} (begun {before = before} {s = s} l) = load-accepted file before s l .spelt
+watch-spelt (ticked w e t) = watch-spelt w
+
+pub one-place : {file : List ℕ} {us : List Event} {bytes : List ℕ} → InOnePlace file us bytes → (e : Event) (output output′ : List ℕ) (p : Progress) → Centrally bytes e output output′ (Progressed p)
+    → {s : List ℕ} → Watched file (us ++ (e ∷ [])) s → (x : Standing) → Asks s (Told x) → x .verdict ≡ p .verdict
+one-place {file} {us} {bytes} i e output output′ p c {s} w x a =
+    let h = spells (watch-spelt w) i in
+    let t = tells (progressedOver us (ruleIn file)) (h .coded) bytes (h .bytes-are) e output output′ p c in
+    let told = a .says ∙ sym (demanded w .asks s nothing .allowed .says) in
+    verdict-injective (x .verdict) (standing file (us ++ (e ∷ [])) s .verdict) (ap (λ (b : Said). getD (b .values) 0 0) told)
+    ∙ ap verdictOf (over-more us e (ruleIn file))
+    ∙ sym (t .verdict-is)
