@@ -1,16 +1,15 @@
--- Unfolding into the output, resolving there, moving the result to the front and clearing the rest is progression:
--- `progress-done`. `verdict-first`: the first byte of a formula says its verdict. `settled-alone`: where nothing is seen of a slot, settling
--- is resolving. Assumes nothing.
-use mathlib.Core.Path.{_≡_, refl, ap, ap₂, _∙_, subst}
+-- Unfolding into the output and rewriting what stands there is progression: `progress-done`. `verdict-first`: the first byte of a
+-- formula says its verdict. `settled-alone`: where nothing is seen of a slot, settling is resolving. Assumes nothing.
+use mathlib.Core.Path.{_≡_, refl, ap, ap₂, _∙_}
 use mathlib.Core.Bool.{true, false}
 use mathlib.Core.List.{List, _++_}
-use Prim.Native.Nat.{ℕ, _+_, _-_, _^_}
+use Prim.Native.Nat.{ℕ, _+_, _^_}
 use native.Mathlib.Nat.{zero-div}
 use native.Mathlib.Omega.{arith}
-use lib.ListN.{length, getD, take, drop, replicate}
+use lib.ListN.{length, getD, drop}
 use borrow.Author.Tests.{ne-eqb}
 use Rattle.lists.specs.Tests.{pick, bit}
-use Rattle.lists.specs.Runs.{tail, padded}
+use Rattle.lists.specs.Runs.{padded}
 use Rattle.kinds.specs.declared.Leaf.the-variants.{Const, Prop, Hold}
 use Rattle.kinds.specs.declared.Unary.the-variants.{Not, Next, Eventually, Always}
 use Rattle.kinds.specs.declared.Binary.the-variants.{Joined, Until}
@@ -20,13 +19,10 @@ use Rattle.ltl.specs.Formula.{Formula, leaf, one, two, join, size, encode, With
 use Rattle.ltl.specs.Meaning.{Event}
 use Rattle.ltl.specs.Progression.{unfolded, resolved, progressed, verdictOf, filled, filledBy}
 use Rattle.ltl.proofs.Texts.{unfolded-coded}
-use Rattle.nodes.specs.Begins.{Front}
+use Rattle.nodes.specs.Begins.{Front, Begins}
 use Rattle.resolving.specs.declared.Seen.{Seen}
-use Rattle.resolving.specs.declared.Settled.{Settled}
-use Rattle.resolving.specs.Settles.{heldBy, settled, Stands, Makes}
+use Rattle.resolving.specs.Settles.{heldBy, settled, Rewritten}
 use Rattle.resolving.proofs.Firsts.{first, first-is, unary-high, binary-high}
-use Rattle.resolving.proofs.Results.{Result, result-done}
-use Rattle.resolving.proofs.Results as standing
 use Rattle.unfolding.specs.Unfolds.{UnfoldedTo}
 use Rattle.central.specs.Central.{verdictByte}
 
@@ -68,26 +64,15 @@ unfolding pick
 settled-alone event f = ap (resolved event) (filled-none (heldBy (alone event)) (λ k. rw (no-bit k)) f)
 
 -- ---- from the unfolded formula in the output to the progressed one, and zeros
-module _ (event : Event) (f : Formula) (out out₁ out₂ : List ℕ) (at : Settled) (coded : Within 64 64 f) (read written : ℕ)
-    (u : UnfoldedTo f out out₁ read written) (m : Makes (settled (alone event)) 0 out₁ out₂ at) where
-  abbrev rest : List ℕ
-  rest = drop (size (unfolded f)) out
-
-  pub unfolded-front : Front (drop 0 out₁) (unfolded f) rest
+module _ (f : Formula) {out out₁ : List ℕ} {read written : ℕ} (coded : Within 64 64 f) (u : UnfoldedTo f out out₁ read written) where
+  unfolded-front : Front out₁ (unfolded f) (drop (size (unfolded f)) out)
   unfolded-front = record { coded = unfolded-coded 64 64 f coded; bytes = u .leaves }
 
-  stood : Stands (progressed event f) out₂ rest at
-  stood = subst (λ (g : Formula). Stands g out₂ rest at) (settled-alone event (unfolded f)) (m (unfolded f) rest unfolded-front .stands)
+  pub unfolded-begins : Begins out₁
+  unfolded-begins = record { formula = unfolded f; rest = drop (size (unfolded f)) out; front = unfolded-front }
 
-  pub result : Result (progressed event f) out₂ at
-  result = standing.result (progressed event f) out₂ rest at stood
-
--- all of it: the result at the front, and zeros up to the output's end
-pub progress-done : (event : Event) (f : Formula) (out out₁ out₂ out₃ z : List ℕ) (at : Settled) (n read written : ℕ) → Within 64 64 f
-    → UnfoldedTo f out out₁ read written → Makes (settled (alone event)) 0 out₁ out₂ at
-    → n ≡ at .end - at .start → out₃ ≡ take n (drop (at .start) out₂) ++ drop n out₂ → z ≡ replicate (length (tail n out₃)) 0 → length out₃ ≡ length out
-    → (take n out₃ ++ (z ++ drop (length out₃ - n) (drop n out₃)) ≡ padded (length out) (encode (progressed event f))) × (n ≡ size (progressed event f))
-progress-done event f out out₁ out₂ out₃ z at n read written c u m k e q l =
-    let g = progressed event f in
-    let d = result-done g out₂ out₃ z (drop (size (unfolded f)) out) at n (stood event f out out₁ out₂ at c read written u m) k e q in
-    (d .0 ∙ ap (λ (j : ℕ). padded j (encode g)) l, d .1)
+  pub progress-done : (event : Event) {out₂ : List ℕ} (n : ℕ) → Rewritten (alone event) out₁ out₂ n → length out₁ ≡ length out
+      → (out₂ ≡ padded (length out) (encode (progressed event f))) × (n ≡ size (progressed event f))
+  progress-done event n r l =
+      let e = settled-alone event (unfolded f) in
+      (r .bytes (unfolded f) _ unfolded-front ∙ ap₂ (λ (j : ℕ) (g : Formula). padded j (encode g)) l e, r .count (unfolded f) _ unfolded-front ∙ ap size e)

@@ -54,20 +54,14 @@ fn progress_into(output: &mut [u8], formula: &[u8], event: u64) -> usize
     ensures { λ r. ⌜ ProgressedTo (now (formula .entry)) event (now (output .entry)) (now (output .exit)) r ⌝ }
 {
     unfolding::unfold_into(output, formula);
-    let at = resolving::resolve(
+    resolving::rewrite(
         output,
-        0,
         Seen {
             event: event,
             yes: 0,
             no: 0,
         },
-    );
-    let start = at.start;
-    let n = at.end - start;
-    runs::slide(output, start, n);
-    runs::clear(&mut output[n..]);
-    n
+    )
 }
 
 // Progresses a formula over one event.

@@ -1,5 +1,5 @@
--- What a step writes. It is never longer than the slot was (`step-no-longer`, over any formula `resolved-no-longer`), so that it fits
--- the slot's bytes (`step-fits`, `step-room`). It depends only on the slot's nodes, its board's sample and, for each held slot,
+-- What a step writes. It is never longer than the slot was (`step-no-longer`), so that it fits the slot's bytes (`step-fits`, `step-room`;
+-- whatever is sampled and held, `result-fits`, `result-room`). It depends only on the slot's nodes, its board's sample and, for each held slot,
 -- whether it is true, false or neither (`step-depends`), and so do the bytes that are written (`step-writes`). Assumes nothing.
 use mathlib.Core.Path.{_≡_, refl, sym, ap, ap₂, _∙_}
 use mathlib.Core.Bool.{true}
@@ -52,7 +52,7 @@ filled-size held (one Always f) = refl
 filled-size held (two (Joined j) f g) = omega (arith, filled-size held f, filled-size held g)
 filled-size held (two Until f g) = refl
 
-pub resolved-no-longer : (e : Event) (held : ℕ → Verdict) (f : Formula) → size (resolved e (filled held f)) ≤ size f
+resolved-no-longer : (e : Event) (held : ℕ → Verdict) (f : Formula) → size (resolved e (filled held f)) ≤ size f
 resolved-no-longer e held f = omega (arith, resolved-size e (filled held f), filled-size held f)
 
 -- ---- in a state
@@ -61,15 +61,27 @@ unfolding steppedTo
 step-no-longer s k = resolved-no-longer (sampleIn s (boardOfIn s k)) (λ m. verdictOf (formulaAt s m)) (formulaAt s k)
 
 module _ (s : List ℕ) (ok : stateOk s ≡ true) (k : ℕ) (l : k < slotsIn s) where
-  pub step-fits : size (steppedTo s k) ≤ lengthIn s k
-  step-fits = omega (arith, step-no-longer s k, passing s ok .slots k l .length-is)
+  -- whatever is sampled and held
+  module _ (e : Event) (held : ℕ → Verdict) where
+    abbrev result : Formula
+    result = resolved e (filled held (formulaAt s k))
 
-  -- the bytes that are written are as many as the slot had
+    pub result-fits : size result ≤ lengthIn s k
+    result-fits = omega (arith, resolved-no-longer e held (formulaAt s k), passing s ok .slots k l .length-is)
+
+    -- the bytes that are written are as many as the slot had
+    pub result-room : length (padded (lengthIn s k) (encode result)) ≡ lengthIn s k
+    result-room =
+        let n = lengthIn s k - length (encode result) in
+        omega (arith, result-fits, length-encode result, length-append (encode result) (replicate n 0), length-replicate {A = ℕ} n 0)
+
+  pub step-fits : size (steppedTo s k) ≤ lengthIn s k
+  unfolding steppedTo
+  step-fits = result-fits (sampleIn s (boardOfIn s k)) (λ m. verdictOf (formulaAt s m))
+
   pub step-room : length (padded (lengthIn s k) (encode (steppedTo s k))) ≡ lengthIn s k
-  step-room =
-      let f = steppedTo s k in
-      let n = lengthIn s k - length (encode f) in
-      omega (arith, step-fits, length-encode f, length-append (encode f) (replicate n 0), length-replicate {A = ℕ} n 0)
+  unfolding steppedTo
+  step-room = result-room (sampleIn s (boardOfIn s k)) (λ m. verdictOf (formulaAt s m))
 
 -- ---- what it depends on
 module _ (s t : List ℕ) (k l : ℕ) (bytes : slotBytes s k ≡ slotBytes t l) where

@@ -1,5 +1,5 @@
--- A result that stands somewhere in a buffer, moved to the front and the rest cleared: `result-done`. `Result`, made by `result`, has
--- the numbers of where it stands. Assumes nothing.
+-- A result that stands somewhere in a buffer, moved to the front and the rest cleared: `rewrite-done`. `Result`, made by
+-- `rewrite-result`, has the numbers of where it stands. Assumes nothing.
 use mathlib.Core.Path.{_≡_, sym, ap, _∙_}
 use mathlib.Core.List.{List, _++_}
 use Prim.Native.Nat.{ℕ, _-_, _<_, _≤_}
@@ -10,8 +10,10 @@ use Rattle.lists.specs.Runs.{tail, padded}
 use Rattle.lists.proofs.Parts.{tail-is, handed-tail}
 use Rattle.ltl.specs.Formula.{Formula, size, encode}
 use Rattle.ltl.proofs.Texts.{size-some, length-encode}
+use Rattle.nodes.specs.Begins.{Front, Begins}
+use Rattle.resolving.specs.declared.Seen.{Seen}
 use Rattle.resolving.specs.declared.Settled.{Settled}
-use Rattle.resolving.specs.Settles.{Stands}
+use Rattle.resolving.specs.Settles.{settled, Stands, Makes, Rewritten}
 use Rattle.resolving.proofs.Places.{stands-length, stands-bounds}
 
 pub record Result (g : Formula) (p : List ℕ) (at : Settled) : Type 0 where
@@ -21,7 +23,7 @@ pub record Result (g : Formula) (p : List ℕ) (at : Settled) : Type 0 where
   pub some : 0 < at .end - at .start
 
 module _ (g : Formula) (p rest : List ℕ) (at : Settled) (stood : Stands g p rest at) where
-  pub result : Result g p at
+  result : Result g p at
   result =
       let b = stands-bounds g p rest at stood in
       let l = stands-length g p rest at stood in
@@ -47,10 +49,21 @@ cleared g p z more n e k q =
     let t : length (tail n p) ≡ length p - length (encode g) = ap length (tail-is n p) ∙ length-drop n p ∙ ap (length p -_) (k ∙ sym l) in
     a ∙ ap (encode g ++_) (q ∙ ap (λ (i : ℕ). replicate i 0) t)
 
--- all of it: the result at the front, and zeros up to the buffer's end
-pub result-done : (g : Formula) (p p₁ z rest : List ℕ) (at : Settled) (n : ℕ) → Stands g p rest at
-    → n ≡ at .end - at .start → p₁ ≡ take n (drop (at .start) p) ++ drop n p → z ≡ replicate (length (tail n p₁)) 0
-    → (take n p₁ ++ (z ++ drop (length p₁ - n) (drop n p₁)) ≡ padded (length p₁) (encode g)) × (n ≡ size g)
-result-done g p p₁ z rest at n stood k e q =
-    let i : n ≡ size g = k ∙ result g p rest at stood .length-is in
-    (cleared g p₁ z (drop (size g) p) n (moved g p rest at stood n p₁ k e) i q, i)
+-- ---- a formula's bytes, resolved from their front on
+module _ (seen : Seen) (p p₁ : List ℕ) (at : Settled) (m : Makes (settled seen) 0 p p₁ at) where
+  -- where the result stands
+  pub rewrite-result : (b : Begins p) → Result (settled seen (b .formula)) p₁ at
+  rewrite-result b = result (settled seen (b .formula)) p₁ (b .rest) at (m (b .formula) (b .rest) (b .front) .stands)
+
+  -- all of it: the result at the front, and zeros up to the end
+  pub rewrite-done : (n : ℕ) (p₂ z : List ℕ) → n ≡ at .end - at .start → p₂ ≡ take n (drop (at .start) p₁) ++ drop n p₁
+      → z ≡ replicate (length (tail n p₂)) 0 → length p₂ ≡ length p → Rewritten seen p (take n p₂ ++ (z ++ drop (length p₂ - n) (drop n p₂))) n
+  rewrite-done n p₂ z k e q l = record { bytes = λ f rest x. done f rest x .0; count = λ f rest x. done f rest x .1 }
+    where
+      done : (f : Formula) (rest : List ℕ) → Front p f rest
+          → (take n p₂ ++ (z ++ drop (length p₂ - n) (drop n p₂)) ≡ padded (length p) (encode (settled seen f))) × (n ≡ size (settled seen f))
+      done f rest x =
+          let g = settled seen f in
+          let stood = m f rest x .stands in
+          let i : n ≡ size g = k ∙ result g p₁ rest at stood .length-is in
+          (cleared g p₂ z (drop (size g) p₁) n (moved g p₁ rest at stood n p₂ k e) i q ∙ ap (λ (j : ℕ). padded j (encode g)) l, i)

@@ -5,6 +5,7 @@ use mathlib.Core.Bool.{Bool, false}
 use mathlib.Core.List.{List, [], _++_}
 use lib.ListN.{length, drop}
 use Rattle.lists.specs.Tests.{pick, bit}
+use Rattle.lists.specs.Runs.{padded}
 use Rattle.kinds.specs.declared.Join.{Join}
 use Rattle.kinds.specs.declared.Leaf.{Leaf}
 use Rattle.kinds.specs.declared.Leaf.the-variants.{Const, Prop, Hold}
@@ -113,3 +114,8 @@ pub record Comparable (l r : List ℕ) (op : ℕ) : Type 0 where
 
 abbrev pub IsMember : List ℕ → List ℕ → ℕ → Bool → Type 0
 IsMember l r op x = (j : Join) (f g : Formula) → Compared l r op j f g → x ≡ member j f g
+
+-- ---- a formula's bytes rewritten as what it becomes, zero past the result
+pub record Rewritten (seen : Seen) (p p′ : List ℕ) (n : ℕ) : Type 0 where
+  pub bytes : (f : Formula) (rest : List ℕ) → Front p f rest → p′ ≡ padded (length p) (encode (settled seen f))
+  pub count : (f : Formula) (rest : List ℕ) → Front p f rest → n ≡ size (settled seen f)

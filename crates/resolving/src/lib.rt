@@ -9,7 +9,7 @@ ghost use Rattle.lists.specs.Tests as tests;
 ghost use Rattle.kinds.specs.declared.Leaf.the-variants.{Const, Hold};
 ghost use Rattle.kinds.specs.Kinds.{leafCode, leafWithin};
 ghost use Rattle.nodes.specs.Begins.{Begins};
-ghost use Rattle.resolving.specs.Settles.{settled, settledLeaf, Makes, NotMakes, Pairs, PairMakes, Joinable, Joins, Comparable, IsMember};
+ghost use Rattle.resolving.specs.Settles.{settled, settledLeaf, Makes, NotMakes, Pairs, PairMakes, Joinable, Joins, Comparable, IsMember, Rewritten};
 use kinds::Binary;
 use kinds::Join;
 use kinds::Kind;
@@ -107,7 +107,7 @@ fn keep(p: &mut [u8], at: usize) -> Settled
 }
 
 // Resolves the formula that stands from `from` on.
-pub fn resolve(p: &mut [u8], from: usize, seen: Seen) -> Settled
+fn resolve(p: &mut [u8], from: usize, seen: Seen) -> Settled
     requires { ⌜ Begins (drop from (now p)) ⌝ }
     ensures { λ r. ⌜ Makes (settled seen) from (now (p .entry)) (now (p .exit)) r ⌝ }
 {
@@ -233,4 +233,17 @@ fn join(p: &mut [u8], op: u8, decide: u8, start: usize, end: usize, right: Settl
         start: top,
         end: end + n,
     }
+}
+
+// Resolves the formula that p begins with, moves the result to the front, clears the rest and answers the result's length.
+pub fn rewrite(p: &mut [u8], seen: Seen) -> usize
+    requires { ⌜ Begins (now p) ⌝ }
+    ensures { λ r. ⌜ Rewritten seen (now (p .entry)) (now (p .exit)) r ⌝ }
+{
+    let at = resolve(p, 0, seen);
+    let start = at.start;
+    let n = at.end - start;
+    runs::slide(p, start, n);
+    runs::clear(&mut p[n..]);
+    n
 }

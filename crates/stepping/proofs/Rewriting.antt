@@ -1,13 +1,12 @@
--- What the writers leave: a formula rewritten at the front of its bytes (`rewrite-done`), and a slot marked, rewritten and its length
--- put (`put-done`). Assumes nothing.
+-- What the writer leaves: a slot marked, its formula rewritten and its length put (`put-done`). Assumes nothing.
 use mathlib.Core.Path.{_≡_, sym, ap, ap₂, _∙_}
 use mathlib.Core.List.{List, [], _++_, append-assoc, append-nil}
 use Prim.Native.Nat.{ℕ, _+_, _-_, _*_, _<_, _≤_}
 use native.Mathlib.Omega.{arith}
 use native.Mathlib.Nat.{zero-add}
-use lib.ListN.{length, take, drop, set, replicate, length-append, length-replicate, length-set}
+use lib.ListN.{length, take, drop, set, length-append, length-set}
 use lib.Seq.{drop-at, drop-drop, drop-set-lt, length-take-le, take-take, take-append-le, drop-append-le, take-append-add, drop-append-add}
-use Rattle.lists.specs.Runs.{tail, padded}
+use Rattle.lists.specs.Runs.{padded}
 use Rattle.lists.proofs.Stretches.{take-two}
 use Rattle.le.specs.Le.{le}
 use Rattle.le.proofs.Laws.{le-length}
@@ -18,31 +17,12 @@ use Rattle.state.specs.Fields.{boardsIn, slotsIn, nodesAt, slotRecordAt, startI
 use Rattle.state.specs.Bytes.{formulaAt}
 use Rattle.state.specs.Calls.{putAt}
 use Rattle.checking.specs.Slotted.{Spans}
-use Rattle.passing.proofs.Stepping.{resolved-no-longer}
+use Rattle.passing.proofs.Stepping.{result-fits, result-room}
 use Rattle.resolving.specs.declared.Seen.{Seen}
-use Rattle.resolving.specs.declared.Settled.{Settled}
-use Rattle.resolving.specs.Settles.{heldBy, settled, Makes}
-use Rattle.resolving.proofs.Results.{Result, result-done}
-use Rattle.resolving.proofs.Results as standing
+use Rattle.resolving.specs.Settles.{heldBy, settled, Rewritten}
 use Rattle.stepping.specs.Seeing.{Counted}
-use Rattle.stepping.specs.Step.{Rewritten, steppedAs}
+use Rattle.stepping.specs.Step.{steppedAs}
 use Rattle.stepping.proofs.Counting.{slot-passing, lying, lent-is}
-
--- ---- a formula's bytes
-module _ (seen : Seen) (p p₁ : List ℕ) (at : Settled) (m : Makes (settled seen) 0 p p₁ at) where
-  -- where the result stands
-  pub rewrite-result : (b : Begins p) → Result (settled seen (b .formula)) p₁ at
-  rewrite-result b = standing.result (settled seen (b .formula)) p₁ (b .rest) at (m (b .formula) (b .rest) (b .front) .stands)
-
-  pub rewrite-done : (n : ℕ) (p₂ z : List ℕ) → n ≡ at .end - at .start → p₂ ≡ take n (drop (at .start) p₁) ++ drop n p₁
-      → z ≡ replicate (length (tail n p₂)) 0 → length p₂ ≡ length p → Rewritten seen p (take n p₂ ++ (z ++ drop (length p₂ - n) (drop n p₂))) n
-  rewrite-done n p₂ z k e q l =
-      record {
-        bytes = λ f rest x.
-            (let d = result-done (settled seen f) p₁ p₂ z rest at n (m f rest x .stands) k e q in
-            d .0 ∙ ap (λ (i : ℕ). padded i (encode (settled seen f))) l);
-        count = λ f rest x. result-done (settled seen f) p₁ p₂ z rest at n (m f rest x .stands) k e q .1;
-      }
 
 -- ---- bytes put in two places, in either order
 module _ (s xs ys : List ℕ) (a b : ℕ) (apart : a + length xs ≤ b) (room : b + length ys ≤ length s) where
@@ -96,8 +76,8 @@ module _ {s : List ℕ} {b n m k : ℕ} (c : Counted s b n m) (l : k < n) (seen 
   abbrev result : Formula
   result = settled seen (formulaAt s k)
 
-  pub result-fits : size result ≤ lengthIn s k
-  result-fits = omega (arith, resolved-no-longer (seen .event) (heldBy seen) (formulaAt s k), slot-passing c l .length-is)
+  there : k < slotsIn s
+  there = let e = c .header .slots-are in omega arith
 
   module _ {from to : ℕ} (span : Spans s k from to) where
     abbrev lent : List ℕ
@@ -120,7 +100,7 @@ module _ {s : List ℕ} {b n m k : ℕ} (c : Counted s b n m) (l : k < n) (seen 
       count-is = r .count (formulaAt s k) [] lent-front
 
       pub count-few : w ≤ 4096
-      count-few = let x = lying c l in omega (arith, count-is, result-fits)
+      count-few = let x = lying c l in omega (arith, count-is, result-fits s (c .passes) k there (seen .event) (heldBy seen))
 
       bytes-are : y ≡ padded (lengthIn s k) (encode result)
       bytes-are =
@@ -128,9 +108,7 @@ module _ {s : List ℕ} {b n m k : ℕ} (c : Counted s b n m) (l : k < n) (seen 
           ∙ ap (λ (i : ℕ). padded i (encode result)) (ap length marked-is ∙ length-encode (formulaAt s k) ∙ sym (slot-passing c l .length-is))
 
       bytes-many : length (padded (lengthIn s k) (encode result)) ≡ lengthIn s k
-      bytes-many =
-          let z = lengthIn s k - length (encode result) in
-          omega (arith, result-fits, length-encode result, length-append (encode result) (replicate z 0), length-replicate {A = ℕ} z 0)
+      bytes-many = result-room s (c .passes) k there (seen .event) (heldBy seen)
 
       pub put-done : (s₁ : List ℕ) → s₁ ≡ take from marked ++ (y ++ drop (to - from) (drop from marked))
           → take (16 + 17 * b + 6 * k + 4) s₁ ++ (le 2 w ++ drop (16 + 17 * b + 6 * k + 4 + 2) s₁) ≡ steppedAs result s k

@@ -2,15 +2,12 @@
 use mathlib.Core.Path.{_≡_}
 use mathlib.Core.List.{List}
 use Prim.Native.Nat.{ℕ, _+_}
-use lib.ListN.{length, set}
+use lib.ListN.{set}
 use Rattle.lists.specs.Runs.{padded}
 use Rattle.le.specs.Le.{le}
 use Rattle.answers.specs.declared.Outcome.{Outcome}
 use Rattle.answers.specs.Said.{saidOutcome}
 use Rattle.ltl.specs.Formula.{Formula, size, encode}
-use Rattle.nodes.specs.Begins.{Front}
-use Rattle.resolving.specs.declared.Seen.{Seen}
-use Rattle.resolving.specs.Settles.{settled}
 use Rattle.state.specs.Fields.{boardsIn, slotsIn, nodesAt, slotRecordAt, startIn, lengthIn}
 use Rattle.state.specs.Calls.{putAt, stepSays, stepLeaves}
 
@@ -20,11 +17,6 @@ pub record StepsSlot (s : List ℕ) (slot : ℕ) (s′ : List ℕ) (answer : Out
   pub leaves : s′ ≡ stepLeaves s slot
 
 -- ---- what the functions below the call give
--- a formula's bytes rewritten as what it becomes, zero past the result
-pub record Rewritten (seen : Seen) (p p′ : List ℕ) (n : ℕ) : Type 0 where
-  pub bytes : (f : Formula) (rest : List ℕ) → Front p f rest → p′ ≡ padded (length p) (encode (settled seen f))
-  pub count : (f : Formula) (rest : List ℕ) → Front p f rest → n ≡ size (settled seen f)
-
 -- slot k marked, its length that of g, and g with zeros behind it in place of its nodes
 abbrev pub steppedAs : Formula → List ℕ → ℕ → List ℕ
 steppedAs g s k =

@@ -3,11 +3,10 @@ mod seeing;
 
 ghost use mathlib.Core.Path.{_≡_};
 ghost use Prim.Native.Nat.{_<_};
-ghost use Rattle.nodes.specs.Begins.{Begins};
 ghost use Rattle.resolving.specs.Settles.{settled};
 ghost use Rattle.state.specs.Bytes.{formulaAt};
 ghost use Rattle.stepping.specs.Seeing.{Counted};
-ghost use Rattle.stepping.specs.Step.{Rewritten, steppedAs, StepsSlot};
+ghost use Rattle.stepping.specs.Step.{steppedAs, StepsSlot};
 use answers::Outcome;
 use answers::Refusal;
 use checking::Counts;
@@ -15,19 +14,6 @@ use checking::Span;
 use resolving::Seen;
 use seeing::Sight;
 use seeing::sight_of;
-
-// Resolves the formula that p begins with, moves the result to the front, clears the rest and answers the result's length.
-fn rewrite(p: &mut [u8], seen: Seen) -> usize
-    requires { ⌜ Begins (now p) ⌝ }
-    ensures { λ r. ⌜ Rewritten seen (now (p .entry)) (now (p .exit)) r ⌝ }
-{
-    let at = resolving::resolve(p, 0, seen);
-    let start = at.start;
-    let n = at.end - start;
-    runs::slide(p, start, n);
-    runs::clear(&mut p[n..]);
-    n
-}
 
 // Marks slot k and rewrites it, within its own bytes, as what it becomes.
 fn put_stepped(s: &mut [u8], c: Counts, k: usize, seen: Seen)
@@ -37,7 +23,7 @@ fn put_stepped(s: &mut [u8], c: Counts, k: usize, seen: Seen)
     let Span { from, to } = checking::span_of(s, c, k);
     let at = 16 + 17 * c.boards + 6 * k;
     s[at + 1] = 1;
-    let n = rewrite(&mut s[from..to], seen);
+    let n = resolving::rewrite(&mut s[from..to], seen);
     le::put_u16(s, at + 4, n as u16);
 }
 

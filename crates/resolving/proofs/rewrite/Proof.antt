@@ -1,11 +1,11 @@
 -- A result that stands somewhere is moved to the front, and the rest is cleared. Assumes nothing.
 use mathlib.Core.Path.{refl, _∙_}
 use Prim.Native.Nat.{_-_}
-use Rattle.stepping.proofs.Rewriting.{rewrite-result, rewrite-done}
+use Rattle.resolving.proofs.Results.{rewrite-result, rewrite-done}
 use native.Mathlib.Omega.{arith}
 use borrow.Author.Needs.{needs}
-use Rattle.stepping.proofs.rewrite.Statement.{statement}
-use Rattle.stepping.proofs.rewrite.Tie as tie
+use Rattle.resolving.proofs.rewrite.Statement.{statement}
+use Rattle.resolving.proofs.rewrite.Tie as tie
 
 resolve-requires : tie.Need-resolve-requires
 resolve-requires c κs = c .before .before .pre
