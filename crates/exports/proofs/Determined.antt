@@ -7,9 +7,14 @@ use Rattle.exports.specs.Exported.{ReadExported, WriteExported, CentralE
 pub read-determined : {file masks formula m m₂ f f₂ : List ℕ} {boards propositions nodes b b₂ p p₂ n n₂ a a₂ : ℕ}
     → ReadExported file masks formula m f boards propositions nodes b p n a → ReadExported file masks formula m₂ f₂ boards propositions nodes b₂ p₂ n₂ a₂
     → (a ≡ a₂) × (m ≡ m₂) × (f ≡ f₂) × (b ≡ b₂) × (p ≡ p₂) × (n ≡ n₂)
-read-determined x y =
-    (x .says ∙ sym (y .says), x .leaves-masks ∙ sym (y .leaves-masks), x .leaves-formula ∙ sym (y .leaves-formula), x .gives-boards ∙ sym (y .gives-boards),
-    x .gives-propositions ∙ sym (y .gives-propositions), x .gives-nodes ∙ sym (y .gives-nodes))
+read-determined x y = (
+  x .says ∙ sym (y .says),
+  x .leaves-masks ∙ sym (y .leaves-masks),
+  x .leaves-formula ∙ sym (y .leaves-formula),
+  x .gives-boards ∙ sym (y .gives-boards),
+  x .gives-propositions ∙ sym (y .gives-propositions),
+  x .gives-nodes ∙ sym (y .gives-nodes),
+)
 
 pub write-determined : {masks formula file f f₂ : List ℕ} {p written w w₂ a a₂ : ℕ}
     → WriteExported masks p formula file f written w a → WriteExported masks p formula file f₂ written w₂ a₂ → (a ≡ a₂) × (f ≡ f₂) × (w ≡ w₂)
@@ -35,6 +40,10 @@ close-determined x y = (x .says ∙ sym (y .says), x .leaves ∙ sym (y .leaves)
 pub ask-determined : {state : List ℕ} {verdict ticks slots nodes v v₂ t t₂ k k₂ n n₂ a a₂ : ℕ}
     → AskExported state verdict ticks slots nodes v t k n a → AskExported state verdict ticks slots nodes v₂ t₂ k₂ n₂ a₂
     → (a ≡ a₂) × (v ≡ v₂) × (t ≡ t₂) × (k ≡ k₂) × (n ≡ n₂)
-ask-determined x y =
-    (x .says ∙ sym (y .says), x .gives-verdict ∙ sym (y .gives-verdict), x .gives-ticks ∙ sym (y .gives-ticks), x .gives-slots ∙ sym (y .gives-slots),
-    x .gives-nodes ∙ sym (y .gives-nodes))
+ask-determined x y = (
+  x .says ∙ sym (y .says),
+  x .gives-verdict ∙ sym (y .gives-verdict),
+  x .gives-ticks ∙ sym (y .gives-ticks),
+  x .gives-slots ∙ sym (y .gives-slots),
+  x .gives-nodes ∙ sym (y .gives-nodes),
+)
