@@ -7,13 +7,16 @@ use mathlib.Core.Logic.{_⊎_, inl, inr}
 use mathlib.Core.Option.{Option, none, some}
 use Prim.Native.Nat.{ℕ, _+_, _<_, _≤_}
 use native.Mathlib.Omega.{arith}
+use native.Mathlib.Decide.{ℕ-discrete}
 use lib.Dec.{eqb}
 use borrow.Author.Tests.{eq-eqb, ne-eqb, eqb-true, eqb-false}
 use Rattle.lists.specs.Tests.{pick, either}
 use Rattle.ltl.specs.Limits.{boardsMost}
 use Rattle.ltl.specs.Formula.{Formula}
 use Rattle.network.specs.Scores.{highest}
-use Rattle.cutting.specs.Cuts.{lookedAs, codeOf, placeOf, staysOn, cutBy, Lies}
+use Rattle.scores.specs.Scored.{oneScored}
+use Rattle.scores.proofs.Alone.{alone-board, alone-stays}
+use Rattle.cutting.specs.Cuts.{lookedAs, codeOf, choiceOf, placeBy, placeOf, staysOn, cutBy, Lies}
 
 -- ---- a part stays or is cut
 pub stays-none : (board : ℕ) → staysOn boardsMost board ≡ true
@@ -84,16 +87,24 @@ cut-more c board n = go (staysOn c board)
     go false = refl
 
 -- ---- the board that a node is laid on
-pub place-own : (on : ℕ) (counts : List ℕ) → on ≡ boardsMost → placeOf on counts ≡ codeOf (highest none 0 0 counts)
-unfolding placeOf pick
-place-own on counts e = rw (eq-eqb on boardsMost e)
+pub place-own : (on choice : ℕ) → on ≡ boardsMost → placeBy on choice ≡ choice
+unfolding placeBy pick
+place-own on choice e = rw (eq-eqb on boardsMost e)
 
-pub place-given : (on : ℕ) (counts : List ℕ) → (on ≡ boardsMost → ⊥) → placeOf on counts ≡ on
-unfolding placeOf pick
-place-given on counts n = rw (ne-eqb on boardsMost n)
+pub place-given : (on choice : ℕ) → (on ≡ boardsMost → ⊥) → placeBy on choice ≡ on
+unfolding placeBy pick
+place-given on choice n = rw (ne-eqb on boardsMost n)
 
 pub place-is : (choose : Formula → Option ℕ) (f g : Formula) (on b : ℕ) (counts : List ℕ) → highest none 0 0 counts ≡ choose g
     → (choose g ≡ none → choose f ≡ none) → Lies choose g on b → (placeOf on counts ≡ b) ⊎ (choose f ≡ none)
 place-is choose f g on b counts e h (inl (o, inl z)) = inr (h z)
-place-is choose f g on b counts e h (inl (o, inr z)) = inl (place-own on counts o ∙ ap codeOf (e ∙ z))
-place-is choose f g on b counts e h (inr (o, l)) = inl (place-given on counts (λ q. omega arith) ∙ o)
+place-is choose f g on b counts e h (inl (o, inr z)) = inl (place-own on (choiceOf counts) o ∙ ap codeOf (e ∙ z))
+place-is choose f g on b counts e h (inr (o, l)) = inl (place-given on (choiceOf counts) (λ q. omega arith) ∙ o)
+
+-- ---- the choice of a node without operands
+pub choice-alone : (owner : ℕ) → owner ≤ boardsMost → owner ≡ choiceOf (oneScored owner)
+choice-alone owner l = go (ℕ-discrete owner boardsMost)
+  where
+    go : Dec (owner ≡ boardsMost) → owner ≡ choiceOf (oneScored owner)
+    go (yes e) = rw e (sym (ap codeOf alone-stays))
+    go (no n) = sym (ap codeOf (alone-board owner (omega arith)))

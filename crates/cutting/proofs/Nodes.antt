@@ -3,7 +3,7 @@ use mathlib.Core.Path.{_≡_, refl, sym, ap, ap₂, _∙_, subst}
 use mathlib.Core.List.{List}
 use mathlib.Core.Logic.{inl, inr}
 use mathlib.Core.Option.{none}
-use Prim.Native.Nat.{ℕ, _+_, _*_, _<_, _≤_, _^_}
+use Prim.Native.Nat.{ℕ, _+_, _*_, _<_, _≤_}
 use native.Mathlib.Omega.{arith}
 use Rattle.kinds.specs.declared.Leaf.{Leaf}
 use Rattle.kinds.specs.declared.Unary.the-variants.{Not, Next, Eventually, Always}
@@ -13,11 +13,12 @@ use Rattle.ltl.specs.Limits.{boardsMost}
 use Rattle.ltl.specs.Formula.{Formula, leaf, one, two, size, Within}
 use Rattle.ltl.specs.Progression.{unfolded}
 use Rattle.network.specs.Scores.{highest, chosen}
+use Rattle.scores.specs.Scored.{countsMost}
 use Rattle.scores.specs.Owned.{Owned}
 use Rattle.scores.specs.Tallies.{Counted}
 use Rattle.scores.proofs.Counting.{counted-one, counted-two, counted-chosen}
 use Rattle.cutting.specs.declared.Part.{Part}
-use Rattle.cutting.specs.Cuts.{lookedAs, cutsOn, codeOf, placeOf, cutBy, lookedCuts, Lies, Parted, Joinable, Joins}
+use Rattle.cutting.specs.Cuts.{lookedAs, cutsOn, codeOf, choiceOf, placeOf, cutBy, lookedCuts, Lies, Parted, Bare, Joinable, Joins}
 use Rattle.cutting.proofs.Choices.{chosen-below, chosen-one, chosen-left, chosen-right}
 use Rattle.cutting.proofs.Looking.{looked-by, cut-few, cut-more, place-is}
 
@@ -34,29 +35,33 @@ module _ {owner : List ℕ} {f : Formula} {x : Part} (h : Parted owner f boardsM
       (λ c z. sym (h .cuts-are p q masks o w c (inl (refl, z))))
       (λ c z. (let k = h .cuts-are p q masks o w c (inl (refl, inr z)) in omega arith))
       ∙ cut-more (codeOf (chosen masks f)) (placeOf on counts) (x .cuts)
-      ∙ ap (λ (i : ℕ). x .cuts + cutBy i (placeOf on counts)) (ap codeOf (sym c))
+      ∙ ap (λ (i : ℕ). x .cuts + cutBy i (placeOf on counts)) (sym (h .choice-is ∙ ap codeOf c))
 
   looked-few : (board : ℕ) → lookedCuts x board ≤ size f
-  looked-few board = let l = h .few in let c = cut-few (codeOf (highest none 0 0 (x .scores .counts))) board in omega arith
+  looked-few board = let l = h .few in let c = cut-few (x .choice) board in omega arith
 
 -- ---- by the top node
-module _ {owner counts : List ℕ} (on : ℕ) (x : Part) (e : (x .scores .counts ≡ counts) × (x .cuts ≡ 0)) where
+bare-chosen : {counts : List ℕ} (x : Part) → Bare x counts → x .choice ≡ choiceOf (x .scores .counts)
+bare-chosen x e = e .1 ∙ ap choiceOf (sym (e .0))
+
+module _ {owner counts : List ℕ} (on : ℕ) (x : Part) (e : Bare x counts) where
   pub parted-leaf : (a : Leaf) → Counted owner (leaf a) counts → Parted owner (leaf a) on x
   unfolding cutsOn
   parted-leaf a c =
-      record { scored = subst (Counted owner (leaf a)) (sym (e .0)) c; few = let z = e .1 in omega arith; cuts-are = λ p q masks o w b l. e .1 }
+      record { scored = subst (Counted owner (leaf a)) (sym (e .0)) c; choice-is = bare-chosen x e; few = let z = e .2 in omega arith; cuts-are = λ p q masks o w b l. e .2 }
 
   pub parted-next : (f : Formula) → Counted owner f counts → Parted owner (one Next f) on x
   unfolding cutsOn
   parted-next f c =
-      record { scored = subst (Counted owner (one Next f)) (sym (e .0)) (counted-one Next c); few = let z = e .1 in omega arith; cuts-are = λ p q masks o w b l. e .1 }
+      record { scored = subst (Counted owner (one Next f)) (sym (e .0)) (counted-one Next c); choice-is = bare-chosen x e; few = let z = e .2 in omega arith; cuts-are = λ p q masks o w b l. e .2 }
 
 pub parted-not : {owner : List ℕ} {f : Formula} {a : Part} (on : ℕ) (x : Part) → Parted owner f boardsMost a
-    → x .scores .counts ≡ a .scores .counts → x .cuts ≡ lookedCuts a (placeOf on (a .scores .counts)) → Parted owner (one Not f) on x
+    → x .scores .counts ≡ a .scores .counts → x .choice ≡ a .choice → x .cuts ≡ lookedCuts a (placeOf on (a .scores .counts)) → Parted owner (one Not f) on x
 unfolding cutsOn
-parted-not {owner} {f} {a} on x h s e =
+parted-not {owner} {f} {a} on x h s d e =
     record {
       scored = subst (Counted owner (one Not f)) (sym s) (counted-one Not (h .scored));
+      choice-is = d ∙ h .choice-is ∙ ap choiceOf (sym s);
       few = let l = looked-few h (placeOf on (a .scores .counts)) in omega arith;
       cuts-are = λ p q masks o w b l.
           e ∙ sym (looked-is h p q masks o w (one Not f) on b (a .scores .counts) (counted-chosen p q masks (counted-one Not (h .scored)) o w) (λ z. sym (chosen-one masks Not f) ∙ z) l);
@@ -69,6 +74,7 @@ parted-joined {owner} {f} {g} {a} {b} j on x h k e =
     let d = subst (Counted owner (two (Joined j) f g)) (sym (e .scores)) (counted-two (Joined j) (h .scored) (k .scored)) in
     record {
       scored = d;
+      choice-is = e .choice-is;
       few = let n = e .cuts in let l = looked-few h (placeOf on (x .scores .counts)) in let m = looked-few k (placeOf on (x .scores .counts)) in omega arith;
       cuts-are = λ p q masks o w i l.
           e .cuts
@@ -88,7 +94,7 @@ unfolded-few (one Always f) l = omega (arith, unfolded-few f (omega arith))
 unfolded-few (two (Joined j) f g) l = omega (arith, unfolded-few f (omega arith), unfolded-few g (omega arith))
 unfolded-few (two Until f g) l = omega (arith, unfolded-few f (omega arith), unfolded-few g (omega arith))
 
-pub joinable : {owner : List ℕ} {f g : Formula} {a b : Part} (on : ℕ) → Parted owner f boardsMost a → Parted owner g on b → size f + size g < 2 ^ 40 → Joinable a b
+pub joinable : {owner : List ℕ} {f g : Formula} {a b : Part} (on : ℕ) → Parted owner f boardsMost a → Parted owner g on b → size f + size g < countsMost → Joinable a b
 joinable {b = b} on h k l =
     record {
       scores = λ i. (let x = h .scored .few i in let y = k .scored .few i in omega arith);

@@ -15,26 +15,25 @@ use Rattle.kinds.specs.declared.Binary.{Binary}
 use Rattle.kinds.specs.declared.Binary.the-variants.{Joined, Until}
 use Rattle.kinds.specs.declared.Kind.the-variants.{Zero}
 use Rattle.ltl.specs.Limits.{boardsMost}
-use Rattle.ltl.specs.Formula.{Formula, leaf, one, two, join, size, encode}
+use Rattle.ltl.specs.Formula.{Formula, one, two, join, size, encode}
 use Rattle.ltl.specs.Progression.{unfolded}
 use Rattle.nodes.specs.Begins.{Front}
 use Rattle.nodes.proofs.Fronts.{Parts, isZero, Single, Double}
 use Rattle.nodes.proofs.Operands.{right-at}
-use Rattle.scores.specs.Scored.{added}
+use Rattle.scores.specs.Scored.{added, countsMost, Few}
+use Rattle.scores.specs.Owned.{ownerOf}
 use Rattle.scores.specs.Tallies as tallies
-use Rattle.scores.proofs.Counting.{counted-one, counted-two}
+use Rattle.scores.proofs.Counting.{counted-leaf, counted-one, counted-two}
 use Rattle.cutting.specs.declared.Part.{Part}
 use Rattle.cutting.specs.declared.Counted.{Counted}
-use Rattle.cutting.specs.Cuts.{placeOf, lookedCuts, Parted, Walked, Cutting, Joinable, Joins, OverOne, OverTwo}
+use Rattle.cutting.specs.Cuts.{placeOf, lookedCuts, Parted, Walked, Bare, OverNone, Cutting, Joinable, Joins, OverOne, OverTwo}
 use Rattle.cutting.proofs.Nodes.{parted-leaf, parted-next, parted-not, parted-joined, unfolded-few, joinable}
 
--- a part that takes its scores from elsewhere, and out of which nothing is cut
-abbrev pub Bare : Part → List ℕ → Type 0
-Bare x counts = (x .scores .counts ≡ counts) × (x .cuts ≡ 0)
-
-pub walked-leaf : {owner s rest : List ℕ} {f : Formula} {a : Leaf} (on : ℕ) (r : Counted) → Parts s rest f (Zero a) → tallies.Counted owner (leaf a) (r .raw .counts)
-    → r .read ≡ 1 → Bare (r .part) (r .raw .counts) → Walked owner f on r
-walked-leaf on r (isZero {a} w e) c n b = record { reads = n; raw = c; parted = parted-leaf on (r .part) b a c }
+pub walked-leaf : {owner s rest : List ℕ} {f : Formula} {a : Leaf} {i : ℕ} (on : ℕ) (r : Counted) → Parts s rest f (Zero a) → i ≡ ownerOf owner a → OverNone i r
+    → Walked owner f on r
+walked-leaf on r (isZero {a} w e) o x =
+    let c = counted-leaf o (x .1) in
+    record { reads = x .0; raw = c; parted = parted-leaf on (r .part) (x .2) a c }
 
 -- ---- one operand
 module _ {owner : List ℕ} {f : Formula} {a : Counted} (h : Walked owner f boardsMost a) (on : ℕ) (r : Counted) (n : r .read ≡ 1 + a .read) (e : r .raw .counts ≡ a .raw .counts) where
@@ -44,9 +43,9 @@ module _ {owner : List ℕ} {f : Formula} {a : Counted} (h : Walked owner f boar
   read-one : (o : Unary) → r .read ≡ size (one o f)
   read-one o = let x = h .reads in omega arith
 
-  pub walked-not : {o : Unary} → o ≡ Not → r .part .scores .counts ≡ a .part .scores .counts
+  pub walked-not : {o : Unary} → o ≡ Not → r .part .scores .counts ≡ a .part .scores .counts → r .part .choice ≡ a .part .choice
       → r .part .cuts ≡ lookedCuts (a .part) (placeOf on (a .part .scores .counts)) → Walked owner (one o f) on r
-  walked-not i s k = rw i (record { reads = read-one Not; raw = raw-one Not; parted = parted-not on (r .part) (h .parted) s k })
+  walked-not i s d k = rw i (record { reads = read-one Not; raw = raw-one Not; parted = parted-not on (r .part) (h .parted) s d k })
 
   pub walked-next : {o : Unary} → o ≡ Next → Bare (r .part) (a .raw .counts) → Walked owner (one o f) on r
   walked-next i b = rw i (record { reads = read-one Next; raw = raw-one Next; parted = parted-next on (r .part) b f (h .raw) })
@@ -91,12 +90,15 @@ module _ {owner : List ℕ} {f : Formula} {a : Counted} (h : Walked owner f boar
   pub walked-few : a .part .cuts + 1 < 2 ^ 64
   walked-few = let x = h .parted .few in let y = unfolded-few f (omega arith) in omega arith
 
+  pub raw-few : Few (a .raw .counts)
+  raw-few i = let x = h .raw .few i in omega arith
+
   pub ever-joinable : (x : Part) → Bare x (a .raw .counts) → Joinable (a .part) x
   ever-joinable x b =
       joinable boardsMost (h .parted) (parted-next boardsMost x b f (h .raw)) (let y = unfolded-few f (omega arith) in omega arith)
 
 module _ {owner : List ℕ} {f g : Formula} {a c : Counted} (h : Walked owner f boardsMost a) (k : Walked owner g boardsMost c) (l : size f + size g < 4096) where
-  pub raws-few : (i : ℕ) → getD (a .raw .counts) i 0 + getD (c .raw .counts) i 0 < 2 ^ 64
+  pub raws-few : (i : ℕ) → getD (a .raw .counts) i 0 + getD (c .raw .counts) i 0 < countsMost
   raws-few i = let x = h .raw .few i in let y = k .raw .few i in omega arith
 
   pub both-joinable : Joinable (a .part) (c .part)

@@ -18,7 +18,7 @@ use Rattle.ltl.specs.Formula.{Formula, leaf, one, two, size, Within}
 use Rattle.ltl.specs.Progression.{unfolded}
 use Rattle.network.specs.Scores.{highest, chosen}
 use Rattle.nodes.specs.Begins.{Front}
-use Rattle.scores.specs.Scored.{added}
+use Rattle.scores.specs.Scored.{oneScored, added, countsMost}
 use Rattle.scores.specs.Owned.{Owned}
 use Rattle.scores.specs.Tallies as tallies
 use Rattle.cutting.specs.declared.Part.{Part}
@@ -46,9 +46,16 @@ abbrev pub codeOf : Option ℕ → ℕ
 codeOf none = boardsMost
 codeOf (some b) = b
 
+-- the board that scores choose, as a number
+abbrev pub choiceOf : List ℕ → ℕ
+choiceOf counts = codeOf (highest none 0 0 counts)
+
 -- the board that a part is laid on: the one given or, where none is given, its own choice
-unfoldable pub placeOf : ℕ → List ℕ → ℕ
-placeOf on counts = pick (eqb on boardsMost) (codeOf (highest none 0 0 counts)) on
+unfoldable pub placeBy : ℕ → ℕ → ℕ
+placeBy on choice = pick (eqb on boardsMost) choice on
+
+abbrev pub placeOf : ℕ → List ℕ → ℕ
+placeOf on counts = placeBy on (choiceOf counts)
 
 -- a part of this choice stays in a slot on the board
 unfoldable pub staysOn : ℕ → ℕ → Bool
@@ -67,9 +74,10 @@ abbrev pub Lies : (Formula → Option ℕ) → Formula → ℕ → ℕ → Type 
 Lies choose f on b = ((on ≡ boardsMost) × Rests choose f b) ⊎ ((on ≡ b) × (b < boardsMost))
 
 -- ---- what is counted
--- a part's scores and cuts, by whatever masks the table of owners belongs to
+-- a part's scores, their choice and its cuts, by whatever masks the table of owners belongs to
 pub record Parted (owner : List ℕ) (g : Formula) (on : ℕ) (x : Part) : Type 0 where
   pub scored : tallies.Counted owner g (x .scores .counts)
+  pub choice-is : x .choice ≡ choiceOf (x .scores .counts)
   pub few : x .cuts < size g
   pub cuts-are : (p q : ℕ) (masks : List ℕ) → Owned p masks owner → Within p q g → (b : ℕ) → Lies (chosen masks) g on b → x .cuts ≡ cutsOn (chosen masks) g b
 
@@ -82,21 +90,30 @@ pub record Walked (owner : List ℕ) (f : Formula) (on : ℕ) (r : Counted) : Ty
 abbrev pub Cutting : List ℕ → List ℕ → ℕ → Counted → Type 0
 Cutting owner s on r = (f : Formula) (rest : List ℕ) → Front s f rest → Walked owner f on r
 
+-- a part of these counts, out of which nothing is cut
+abbrev pub Bare : Part → List ℕ → Type 0
+Bare x counts = (x .scores .counts ≡ counts) × (x .choice ≡ choiceOf counts) × (x .cuts ≡ 0)
+
 -- ---- two parts under a join
 -- their sums are no overflow
 pub record Joinable (a b : Part) : Type 0 where
-  pub scores : (i : ℕ) → getD (a .scores .counts) i 0 + getD (b .scores .counts) i 0 < 2 ^ 64
+  pub scores : (i : ℕ) → getD (a .scores .counts) i 0 + getD (b .scores .counts) i 0 < countsMost
   pub cuts : a .cuts + b .cuts + 2 < 2 ^ 64
 
 -- the cuts of a part that is looked at by a slot on the board
 abbrev pub lookedCuts : Part → ℕ → ℕ
-lookedCuts a board = a .cuts + cutBy (codeOf (highest none 0 0 (a .scores .counts))) board
+lookedCuts a board = a .cuts + cutBy (a .choice) board
 
 pub record Joins (a b : Part) (on : ℕ) (r : Part) : Type 0 where
   pub scores : r .scores .counts ≡ added (a .scores .counts) (b .scores .counts)
+  pub choice-is : r .choice ≡ choiceOf (r .scores .counts)
   pub cuts : r .cuts ≡ lookedCuts a (placeOf on (r .scores .counts)) + lookedCuts b (placeOf on (r .scores .counts))
 
 -- ---- a node on top of its operands
+-- a node without operands, of this owner
+abbrev pub OverNone : ℕ → Counted → Type 0
+OverNone owner r = (r .read ≡ 1) × (r .raw .counts ≡ oneScored owner) × Bare (r .part) (r .raw .counts)
+
 -- an operand of a formula that is not too large
 pub record Countable (a : Counted) : Type 0 where
   pub owner : List ℕ

@@ -5,10 +5,12 @@ ghost use mathlib.Core.Path.{_≡_};
 ghost use mathlib.Core.Option.{none};
 ghost use Prim.Native.Nat.{_+_, _<_, _≤_, _^_};
 ghost use lib.ListN.{length};
+ghost use Rattle.ltl.specs.Limits.{boardsMost};
 ghost use Rattle.network.specs.Scores.{highest};
 ghost use Rattle.nodes.specs.Begins.{Begins};
 ghost use Rattle.scores.specs.Owned.{Table};
-ghost use Rattle.cutting.specs.Cuts.{codeOf, placeOf, staysOn, cutBy, Joinable, Joins, Countable, OverOne, Pairable, OverTwo, Cutting};
+ghost use Rattle.scores.specs.Scored.{Few};
+ghost use Rattle.cutting.specs.Cuts.{codeOf, placeBy, staysOn, cutBy, lookedCuts, Bare, Joinable, Joins, OverNone, Countable, OverOne, Pairable, OverTwo, Cutting};
 use kinds::Binary;
 use kinds::Kind;
 use kinds::Unary;
@@ -18,9 +20,11 @@ use scores::Scores;
 // Stands for a board: the part's own choice where a board is asked for, and that it stays where a choice is told.
 pub const STAYS: u8 = 16;
 
-// A part that is laid on a board: its scores, and how many parts are cut out of it there.
+// A part that is laid on a board: its scores, the board that they choose, and how many parts are cut out of it where it is laid. The
+// choice is looked at by the part's own node and by the one above, and is made once.
 pub struct Part {
     pub scores: Scores,
+    pub choice: u8,
     pub cuts: usize,
 }
 
@@ -33,6 +37,7 @@ pub struct Counted {
 
 // The board that scores choose, as a number.
 pub fn choice_of(scores: Scores) -> u8
+    requires { ⌜ Few (scores .counts) ⌝ }
     ensures { λ r. ⌜ r ≡ codeOf (highest none 0 0 (scores .counts)) ⌝ }
 {
     let c = scores.choice();
@@ -42,11 +47,11 @@ pub fn choice_of(scores: Scores) -> u8
     }
 }
 
-// The board that a part is laid on: the one given, or its own.
-pub fn place_of(scores: Scores, on: u8) -> u8
-    ensures { λ r. ⌜ r ≡ placeOf on (scores .counts) ⌝ }
+// The board that a part of this choice is laid on: the one given, or its own.
+pub fn place_of(choice: u8, on: u8) -> u8
+    ensures { λ r. ⌜ r ≡ placeBy on choice ⌝ }
 {
-    if on == STAYS { choice_of(scores) } else { on }
+    if on == STAYS { choice } else { on }
 }
 
 // Whether a part of this choice stays in a slot on the board.
@@ -70,10 +75,9 @@ impl Part {
     // The cuts where this part is looked at as an operand of a slot on the board.
     fn looked(self, board: u8) -> usize
         requires { ⌜ self .cuts + 1 < 2 ^ 64 ⌝ }
-        ensures { λ r. ⌜ r ≡ self .cuts + cutBy (codeOf (highest none 0 0 (self .scores .counts))) board ⌝ }
+        ensures { λ r. ⌜ r ≡ lookedCuts self board ⌝ }
     {
-        let scores = self.scores;
-        self.cuts + cut_by(choice_of(scores), board)
+        self.cuts + cut_by(self.choice, board)
     }
 }
 
@@ -85,20 +89,41 @@ fn joined(a: Part, b: Part, on: u8) -> Part
     let left = a.scores;
     let right = b.scores;
     let scores = left.plus(right);
-    let board = place_of(scores, on);
+    let choice = choice_of(scores);
+    let board = place_of(choice, on);
     Part {
         scores: scores,
+        choice: choice,
         cuts: a.looked(board) + b.looked(board),
     }
 }
 
 // A formula under next: nothing is cut out of it.
 fn under_next(raw: Scores) -> Part
-    ensures { λ r. ⌜ (r .scores .counts ≡ raw .counts) × (r .cuts ≡ 0) ⌝ }
+    requires { ⌜ Few (raw .counts) ⌝ }
+    ensures { λ r. ⌜ Bare r (raw .counts) ⌝ }
 {
     Part {
         scores: raw,
+        choice: choice_of(raw),
         cuts: 0,
+    }
+}
+
+// A node without operands: its owner, if it has one, is what it is chosen for.
+fn over_none(owner: u8) -> Counted
+    requires { ⌜ owner ≤ boardsMost ⌝ }
+    ensures { λ r. ⌜ OverNone owner r ⌝ }
+{
+    let raw = Scores::one(owner);
+    Counted {
+        read: 1,
+        raw: raw,
+        part: Part {
+            scores: raw,
+            choice: owner,
+            cuts: 0,
+        },
     }
 }
 
@@ -113,12 +138,14 @@ fn over_one(o: Unary, a: Counted, on: u8) -> Counted
     match o {
         Unary::Not => {
             let scores = part.scores;
-            let cuts = part.looked(place_of(scores, on));
+            let choice = part.choice;
+            let cuts = part.looked(place_of(choice, on));
             Counted {
                 read: read,
                 raw: raw,
                 part: Part {
                     scores: scores,
+                    choice: choice,
                     cuts: cuts,
                 },
             }
@@ -173,14 +200,7 @@ pub fn count_cuts(s: &[u8], owner: &[u8], on: u8) -> Counted
 {
     let k = Kind::of(s[0]);
     match k {
-        Kind::Zero(a) => {
-            let raw = scores::score_leaf(a, owner);
-            Counted {
-                read: 1,
-                raw: raw,
-                part: under_next(raw),
-            }
-        }
+        Kind::Zero(a) => over_none(scores::owner_of(a, owner)),
         Kind::One(o) => over_one(o, count_cuts(&s[1..], owner, STAYS), on),
         Kind::Two(o) => {
             let a = count_cuts(&s[1..], owner, STAYS);
@@ -188,13 +208,6 @@ pub fn count_cuts(s: &[u8], owner: &[u8], on: u8) -> Counted
             over_two(o, a, count_cuts(&s[m..], owner, STAYS), on)
         }
         // No formula begins with such a byte.
-        Kind::NoCode => {
-            let raw = Scores::none();
-            Counted {
-                read: 0,
-                raw: raw,
-                part: under_next(raw),
-            }
-        }
+        Kind::NoCode => over_none(STAYS),
     }
 }

@@ -11,9 +11,8 @@ use Rattle.ltl.specs.Limits.{boardsMost}
 use Rattle.ltl.specs.Formula.{Formula, size, encode}
 use Rattle.ltl.specs.Progression.{unfolded}
 use Rattle.ltl.proofs.Texts.{length-encode, wider}
-use Rattle.network.specs.Scores.{highest, chosen}
+use Rattle.network.specs.Scores.{chosen}
 use Rattle.state.specs.Calls.{firstOf, loadedState}
-use mathlib.Core.Option.{none}
 use Rattle.nodes.specs.Begins.{Front, Begins}
 use Rattle.nodes.proofs.Fronts.{front-length, front-one-way}
 use Rattle.scores.specs.Owned.{Table, Owned}
@@ -85,7 +84,7 @@ module _ {state masks bytes owner : List ℕ} {board slots nodes : ℕ} {u marks
 -- ---- what the counts tell
 pub first-ask : {masks bytes state owner : List ℕ} (ask : BeginAsk masks bytes state) (owned : Owned (ask .ruled .propositions) masks owner) → Table owner
     → (x : Part) → Parted owner (unfolded (ask .rule)) boardsMost x → 1 + x .cuts ≤ 64 → (count : ℕ) → count ≡ min (size (unfolded (ask .rule))) 4097 → count + x .cuts ≤ 4096
-    → (board : ℕ) → board ≡ pick (eqb (codeOf (highest none 0 0 (x .scores .counts))) boardsMost) 0 (codeOf (highest none 0 0 (x .scores .counts)))
+    → (board : ℕ) → board ≡ pick (eqb (x .choice) boardsMost) 0 (x .choice)
     → (u : List ℕ) → length u ≡ 4096 → (marks : List ℕ) → length marks ≡ 4096
     → FirstAsk state masks bytes owner board (1 + x .cuts) (count + x .cuts) u marks
 first-ask {masks} {owner = owner} ask owned table x parted few count c most board b u ul marks ml =
@@ -99,7 +98,7 @@ first-ask {masks} {owner = owner} ask owned table x parted few count c most boar
       long = ask .long;
       table = table;
       owned = owned;
-      board-is = b ∙ ap (λ o. pick (eqb (codeOf o) boardsMost) 0 (codeOf o)) h ∙ board-of (chosen masks (unfolded (ask .rule))) (λ c e. chosen-below boardsMost masks (r .few-boards) (unfolded (ask .rule)) c e);
+      board-is = b ∙ ap (λ (i : ℕ). pick (eqb i boardsMost) 0 i) (parted .choice-is ∙ ap codeOf h) ∙ board-of (chosen masks (unfolded (ask .rule))) (λ c e. chosen-below boardsMost masks (r .few-boards) (unfolded (ask .rule)) c e);
       slots-are = omega arith;
       nodes-are = omega arith;
       few-slots = few;

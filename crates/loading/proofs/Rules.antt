@@ -36,7 +36,7 @@ use Rattle.nodes.proofs.Fronts.{front-length}
 use Rattle.scores.specs.Owned.{Owned}
 use Rattle.scores.proofs.Counting.{counted-chosen}
 use Rattle.cutting.specs.declared.Part.{Part}
-use Rattle.cutting.specs.Cuts.{codeOf, cutsOn, Rests, Parted}
+use Rattle.cutting.specs.Cuts.{codeOf, choiceOf, cutsOn, Rests, Parted}
 use Rattle.cutting.proofs.Choices.{chosen-below}
 use Rattle.cutting.proofs.Looking.{place-given}
 use Rattle.marking.specs.declared.Placed.{Placed}
@@ -170,7 +170,7 @@ module _ {masks bytes : List ℕ} {rule : Formula} (r : Ruled masks bytes rule) 
     first-stands : OnBoard choose (encode (unfolded rule)) marks (unfolded rule) [] first-board
     first-stands =
         let l = first-there in
-        let b : y .board ≡ first-board = m .board-is ∙ place-given first-board (y .scores .counts) (λ e. omega arith) in
+        let b : y .board ≡ first-board = m .board-is ∙ place-given first-board (choiceOf (y .scores .counts)) (λ e. omega arith) in
         let h = mark-has (getD marks 0 0) (y .here) (y .board) (m .mark-is) (omega arith) (m .small) in
         record {
           front = record { coded = wider (r .propositions) 0 64 64 (r .few-propositions) (omega arith) (unfolded rule) rule-within; bytes = sym (append-nil (encode (unfolded rule))) };

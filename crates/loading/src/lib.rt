@@ -58,8 +58,7 @@ fn begin(masks: &[u64], rule: &[u8], state: &mut [u8]) -> Outcome
     if NODES_MOST < nodes {
         return Outcome::Refused(Refusal::Nodes);
     }
-    let scores = part.scores;
-    let board = first_board(cutting::choice_of(scores));
+    let board = first_board(part.choice);
     let mut u = [0u8; NODES_MOST];
     let mut marks = [0u32; NODES_MOST];
     put_first(

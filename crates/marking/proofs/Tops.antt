@@ -10,6 +10,8 @@ use lib.ListN.{length, getD, drop, set}
 use lib.Seq.{drop-drop}
 use Rattle.lists.specs.Tests.{pick}
 use Rattle.lists.proofs.Stretches.{set-first}
+use Rattle.kinds.specs.declared.Leaf.{Leaf}
+use Rattle.kinds.specs.declared.Kind.the-variants.{Zero}
 use Rattle.kinds.specs.declared.Unary.the-variants.{Not}
 use Rattle.kinds.specs.declared.Join.{Join}
 use Rattle.kinds.specs.declared.Binary.the-variants.{Joined}
@@ -17,12 +19,13 @@ use Rattle.ltl.specs.Limits.{boardsMost}
 use Rattle.ltl.specs.Formula.{Formula, one, two, size, Within}
 use Rattle.ltl.proofs.Texts.{size-some}
 use Rattle.network.specs.Scores.{highest, chosen}
+use Rattle.nodes.proofs.Fronts.{Parts, isZero}
 use Rattle.scores.specs.declared.Scores.{Scores}
-use Rattle.scores.specs.Owned.{Owned}
-use Rattle.scores.specs.Scored.{added}
+use Rattle.scores.specs.Owned.{Owned, ownerOf}
+use Rattle.scores.specs.Scored.{oneScored, added}
 use Rattle.scores.specs.Tallies.{Counted}
-use Rattle.scores.proofs.Counting.{counted-one, counted-two, counted-chosen}
-use Rattle.cutting.specs.Cuts.{lookedAs, codeOf, placeOf, staysOn, Lies}
+use Rattle.scores.proofs.Counting.{counted-leaf, counted-one, counted-two, counted-chosen}
+use Rattle.cutting.specs.Cuts.{lookedAs, codeOf, choiceOf, placeOf, staysOn, Lies}
 use Rattle.cutting.proofs.Choices.{chosen-below, chosen-one, chosen-left, chosen-right}
 use Rattle.cutting.proofs.Looking.{looked-by, place-is, place-own}
 use Rattle.marking.specs.declared.Placed.{Placed}
@@ -74,11 +77,18 @@ whole-over {owner} {f} {read} {scores} {board} {marks} {marks′} {r} on t e s =
       record { reads = v .reads ∙ t .0; scores = refl; board-is = v .board-is ∙ ap (placeOf on) (sym x); here-is = v .here-is; writes = v .writes },
     )
 
+pub leaf-over : {owner u rest : List ℕ} {f : Formula} {a : Leaf} {i on : ℕ} {marks marks′ : List ℕ} {r : Placed} → Parts u rest f (Zero a) → i ≡ ownerOf owner a
+    → Over 1 (oneScored i) on (λ b. 1) marks marks′ r → Counted owner f (r .scores .counts) × Over (size f) (r .scores .counts) on (λ b. size f) marks marks′ r
+leaf-over {on = on} (isZero w e) o v = (
+  counted-leaf o (v .scores),
+  record { reads = v .reads; scores = refl; board-is = v .board-is ∙ ap (placeOf on) (sym (v .scores)); here-is = v .here-is; writes = v .writes },
+)
+
 -- ---- an operand that was marked
 module _ {owner marks : List ℕ} {f : Formula} {a : Placed} (h : MarkedAs owner f boardsMost marks a) where
   module _ (p q : ℕ) (masks : List ℕ) (o : Owned p masks owner) (w : Within p q f) where
     choice-is : a .board ≡ codeOf (chosen masks f)
-    choice-is = h .board-is ∙ place-own boardsMost (a .scores .counts) refl ∙ ap codeOf (counted-chosen p q masks (h .scored) o w)
+    choice-is = h .board-is ∙ place-own boardsMost (choiceOf (a .scores .counts)) refl ∙ ap codeOf (counted-chosen p q masks (h .scored) o w)
 
     -- its length in a slot
     shown-is : (g : Formula) (on b : ℕ) (counts : List ℕ) → highest none 0 0 counts ≡ chosen masks g → (chosen masks g ≡ none → chosen masks f ≡ none)
@@ -114,7 +124,7 @@ module _ {owner marks : List ℕ} {f : Formula} {a : Placed} (h : MarkedAs owner
       go false x y = omega arith
 
   pub not-small : size f < 4096 → Small a
-  not-small l = let r = h .reads in let n = h .few in record { reads = omega arith; here = omega arith }
+  not-small l = let r = h .reads in let n = h .few in record { board-is = h .board-is ∙ place-own boardsMost (choiceOf (a .scores .counts)) refl; reads = omega arith; here = omega arith }
 
 -- ---- the mark on top
 -- the first mark is the new one, and the others stay

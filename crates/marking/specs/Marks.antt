@@ -1,6 +1,6 @@
 -- A formula's marks: the board of each operand, and its length in a slot there. Assumes nothing: these are definitions.
 use mathlib.Core.Path.{_≡_}
-use Prim.Native.Nat.{ℕ, _+_, _*_, _/_, _%_, _<_, _≤_, _^_}
+use Prim.Native.Nat.{ℕ, _+_, _*_, _/_, _%_, _<_, _≤_}
 use mathlib.Core.List.{List}
 use mathlib.Core.Option.{Option}
 use lib.ListN.{getD, drop, set}
@@ -13,10 +13,10 @@ use Rattle.ltl.specs.Formula.{Formula, leaf, one, two, size, Within}
 use Rattle.network.specs.Scores.{chosen}
 use Rattle.nodes.specs.Begins.{Front}
 use Rattle.scores.specs.declared.Scores.{Scores}
-use Rattle.scores.specs.Scored.{added}
+use Rattle.scores.specs.Scored.{added, countsMost}
 use Rattle.scores.specs.Owned.{Owned}
 use Rattle.scores.specs.Tallies.{Counted}
-use Rattle.cutting.specs.Cuts.{lookedAs, codeOf, placeOf, staysOn, Lies}
+use Rattle.cutting.specs.Cuts.{lookedAs, codeOf, choiceOf, placeOf, staysOn, Lies}
 use Rattle.marking.specs.declared.Placed.{Placed}
 
 -- ---- what a formula's marks are
@@ -83,13 +83,15 @@ pub record Seals (read : ℕ) (scores : Scores) (board here : ℕ) (marks marks�
   pub result : r ≡ record { read = read; scores = scores; board = board; here = here }
   pub writes : marks′ ≡ set marks 0 (markOf here board)
 
--- no sum is large
+-- a part that was marked on its own choice, and of which no sum is large
 pub record Small (a : Placed) : Type 0 where
+  pub board-is : a .board ≡ choiceOf (a .scores .counts)
   pub reads : a .read < 4096
   pub here : a .here < 4096
 
+-- no sum of the two is large
 pub record SmallPair (a c : Placed) : Type 0 where
-  pub scores : (i : ℕ) → getD (a .scores .counts) i 0 + getD (c .scores .counts) i 0 < 2 ^ 64
+  pub scores : (i : ℕ) → getD (a .scores .counts) i 0 + getD (c .scores .counts) i 0 < countsMost
   pub reads : a .read + c .read < 4096
   pub left : a .here ≤ a .read
   pub right : c .here ≤ c .read

@@ -3,9 +3,11 @@
 ghost use mathlib.Core.Path.{_≡_};
 ghost use Prim.Native.Nat.{_+_, _*_, _<_, _≤_};
 ghost use lib.ListN.{length};
+ghost use Rattle.ltl.specs.Limits.{boardsMost};
 ghost use Rattle.nodes.specs.Begins.{Begins};
 ghost use Rattle.scores.specs.Owned.{Table};
-ghost use Rattle.marking.specs.Marks.{shownAs, Seals, Small, SmallPair, OverNot, OverPair, Whole, Marking};
+ghost use Rattle.scores.specs.Scored.{oneScored};
+ghost use Rattle.marking.specs.Marks.{shownAs, Seals, Small, SmallPair, Over, OverNot, OverPair, Whole, Marking};
 use cutting::STAYS;
 use kinds::Binary;
 use kinds::Kind;
@@ -45,13 +47,13 @@ fn seal(marks: &mut [u32], read: usize, scores: Scores, board: u8, here: usize) 
     }
 }
 
-// Not of a part that was marked.
+// Not of a part that was marked on its own choice, which is that of the whole.
 fn over_not(marks: &mut [u32], a: Placed, on: u8) -> Placed
     requires { ⌜ (0 < length (now marks)) × Small a ⌝ }
     ensures { λ r. ⌜ OverNot a on (now (marks .entry)) (now (marks .exit)) r ⌝ }
 {
     let scores = a.scores;
-    let board = cutting::place_of(scores, on);
+    let board = cutting::place_of(a.board, on);
     seal(marks, 1 + a.read, scores, board, 1 + shown(a, board))
 }
 
@@ -63,19 +65,28 @@ fn over_pair(marks: &mut [u32], a: Placed, c: Placed, on: u8) -> Placed
     let left = a.scores;
     let right = c.scores;
     let scores = left.plus(right);
-    let board = cutting::place_of(scores, on);
+    let board = cutting::place_of(cutting::choice_of(scores), on);
     let here = 1 + shown(a, board) + shown(c, board);
     seal(marks, 1 + a.read + c.read, scores, board, here)
 }
 
-// A part that stays whole: a node without operands, next, or a temporal operator.
+// A node without operands: its owner, if it has one, is what it is chosen for.
+fn mark_leaf(marks: &mut [u32], owner: u8, on: u8) -> Placed
+    requires { ⌜ (0 < length (now marks)) × (owner ≤ boardsMost) ⌝ }
+    ensures { λ r. ⌜ Over 1 (oneScored owner) on (λ b. 1) (now (marks .entry)) (now (marks .exit)) r ⌝ }
+{
+    let board = cutting::place_of(owner, on);
+    seal(marks, 1, Scores::one(owner), board, 1)
+}
+
+// A part that stays whole: next, or a temporal operator.
 fn mark_whole(u: &[u8], marks: &mut [u32], owner: &[u8], on: u8) -> Placed
     requires { ⌜ Begins (now u) × Table (now owner) × (length (now u) ≤ length (now marks)) × (length (now u) ≤ 4096) ⌝ }
     ensures { λ r. ⌜ Whole (now (owner .entry)) (now (u .entry)) on (now (marks .entry)) (now (marks .exit)) r ⌝ }
 {
     let t = scores::tally(u, owner);
     let scores = t.scores;
-    let board = cutting::place_of(scores, on);
+    let board = cutting::place_of(cutting::choice_of(scores), on);
     seal(marks, t.read, scores, board, t.read)
 }
 
@@ -86,7 +97,7 @@ pub fn mark(u: &[u8], marks: &mut [u32], owner: &[u8], on: u8) -> Placed
 {
     let k = Kind::of(u[0]);
     match k {
-        Kind::Zero(_) => mark_whole(u, marks, owner, on),
+        Kind::Zero(a) => mark_leaf(marks, scores::owner_of(a, owner), on),
         Kind::One(o) => match o {
             Unary::Not => {
                 let a = mark(&u[1..], &mut marks[1..], owner, STAYS);
@@ -106,6 +117,6 @@ pub fn mark(u: &[u8], marks: &mut [u32], owner: &[u8], on: u8) -> Placed
             Binary::Until => mark_whole(u, marks, owner, on),
         },
         // No formula begins with such a byte.
-        Kind::NoCode => mark_whole(u, marks, owner, on),
+        Kind::NoCode => mark_leaf(marks, STAYS, on),
     }
 }

@@ -5,7 +5,7 @@ use mathlib.Core.List.{List, [], _∷_}
 use Prim.Native.Nat.{ℕ, zero, suc, _+_, _<_, _≤_}
 use native.Mathlib.Omega.{arith}
 use lib.ListN.{length, set, getD, replicate}
-use Rattle.scores.specs.Scored.{added}
+use Rattle.scores.specs.Scored.{added, countsMost, Few}
 
 -- the first n counts added, the others as they were
 unfoldable pub addedTo : ℕ → List ℕ → List ℕ → List ℕ
@@ -55,6 +55,9 @@ added-under (x ∷ xs) (y ∷ ys) (suc b) = added-under xs ys b
 pub added-few : (xs ys : List ℕ) (m n k : ℕ) → ((b : ℕ) → getD xs b 0 ≤ m) → ((b : ℕ) → getD ys b 0 ≤ n) → m + n ≤ k
     → (b : ℕ) → getD (added xs ys) b 0 ≤ k
 added-few xs ys m n k h g l b = omega (arith, added-under xs ys b, h b, g b)
+
+pub sums-few : (xs ys : List ℕ) → ((b : ℕ) → getD xs b 0 + getD ys b 0 < countsMost) → Few (added xs ys)
+sums-few xs ys h b = omega (arith, added-under xs ys b, h b)
 
 pub zeros-few : (n b : ℕ) → getD (replicate n 0) b 0 ≤ 1
 zeros-few zero b = omega arith

@@ -11,7 +11,7 @@ use lib.ListN.{getD}
 use Rattle.lists.specs.Runs.{tail}
 use Rattle.lists.specs.Tests.{bit}
 use Rattle.kinds.specs.declared.Leaf.{Leaf}
-use Rattle.kinds.specs.declared.Leaf.the-variants.{Prop}
+use Rattle.kinds.specs.declared.Leaf.the-variants.{Const, Prop, Hold}
 use Rattle.kinds.specs.declared.Unary.{Unary}
 use Rattle.kinds.specs.declared.Binary.{Binary}
 use Rattle.kinds.specs.declared.Kind.the-variants.{Zero}
@@ -23,26 +23,34 @@ use Rattle.network.specs.Scores.{occurrences, highest, chosen}
 use Rattle.nodes.specs.Begins.{Front}
 use Rattle.nodes.proofs.Fronts.{Parts, isZero, Single, Double}
 use Rattle.scores.specs.Scored.{noneScored, oneScored, added}
-use Rattle.scores.specs.Owned.{Owned}
+use Rattle.scores.specs.Owned.{Owned, ownerOf}
 use Rattle.scores.specs.Tallies.{Counted, Tallies}
 use Rattle.scores.proofs.Added.{zeros-few, one-few, added-few}
 use Rattle.scores.proofs.Padding.{added-padded, zeros-padded, one-padded, chosen-padded}
 
 -- ---- formulas
 -- where no proposition occurs
-pub counted-nothing : (owner : List ℕ) (f : Formula) → ((test : ℕ → Bool) → occurrences test f ≡ 0) → Counted owner f noneScored
+counted-nothing : (owner : List ℕ) (f : Formula) → ((test : ℕ → Bool) → occurrences test f ≡ 0) → Counted owner f noneScored
 counted-nothing owner f h =
     record {
       few = λ b. omega (arith, zeros-few boardsMost b, size-some f);
       scores = λ p q masks o w. zeros-padded boardsMost (λ m. occurrences (bit m) f) masks (o .few) (λ b. h (bit (getD masks b 0)));
     }
 
-pub counted-proposition : (owner : List ℕ) (i : ℕ) → Counted owner (leaf (Prop i)) (oneScored (getD owner i 0))
+counted-proposition : (owner : List ℕ) (i : ℕ) → Counted owner (leaf (Prop i)) (oneScored (getD owner i 0))
 counted-proposition owner i =
     record {
       few = λ b. one-few noneScored (getD owner i 0) b (zeros-few boardsMost);
       scores = λ p q masks o w. one-padded boardsMost (getD owner i 0) i masks (o .few) (λ j. o .has i j w);
     }
+
+counted-owned : (owner : List ℕ) (a : Leaf) → Counted owner (leaf a) (oneScored (ownerOf owner a))
+counted-owned owner (Const v) = counted-nothing owner (leaf (Const v)) (λ test. refl)
+counted-owned owner (Prop i) = counted-proposition owner i
+counted-owned owner (Hold k) = counted-nothing owner (leaf (Hold k)) (λ test. refl)
+
+pub counted-leaf : {owner counts : List ℕ} {a : Leaf} {b : ℕ} → b ≡ ownerOf owner a → counts ≡ oneScored b → Counted owner (leaf a) counts
+counted-leaf {owner} {a = a} e h = subst (Counted owner (leaf a)) (sym (h ∙ ap oneScored e)) (counted-owned owner a)
 
 pub counted-one : {owner counts : List ℕ} {f : Formula} (o : Unary) → Counted owner f counts → Counted owner (one o f) counts
 counted-one o c = record { few = λ b. omega (arith, c .few b); scores = c .scores }

@@ -76,7 +76,7 @@ one-padded (suc n) (suc b) i (m ∷ ms) l h =
     (one-padded n b i ms (omega arith) (λ j. h (suc j) ∙ eqb-suc b j))
 
 -- ---- the choice
-highest-zeros : (place : Option ℕ) (most b k : ℕ) → highest place most b (replicate k 0) ≡ place
+pub highest-zeros : (place : Option ℕ) (most b k : ℕ) → highest place most b (replicate k 0) ≡ place
 unfolding highest pick
 highest-zeros place most b zero = refl
 highest-zeros place most b (suc k) = rw (le-ltb most 0 (omega arith)) (highest-zeros place most (suc b) k)

@@ -6,6 +6,8 @@ use Prim.Native.Nat.{ℕ, _<_, _≤_}
 use lib.ListN.{length, getD}
 use lib.Dec.{eqb}
 use Rattle.lists.specs.Tests.{bit}
+use Rattle.kinds.specs.declared.Leaf.{Leaf}
+use Rattle.kinds.specs.declared.Leaf.the-variants.{Const, Prop, Hold}
 use Rattle.ltl.specs.Limits.{boardsMost, propositionsMost}
 use Rattle.masks.specs.Masks.{masksRule}
 
@@ -13,6 +15,12 @@ use Rattle.masks.specs.Masks.{masksRule}
 pub record Table (owner : List ℕ) : Type 0 where
   pub long : length owner ≡ propositionsMost
   pub boards : (i : ℕ) → getD owner i 0 < boardsMost
+
+-- the owner of a proposition; no board has the others
+abbrev pub ownerOf : List ℕ → Leaf → ℕ
+ownerOf owner (Const v) = boardsMost
+ownerOf owner (Prop i) = getD owner i 0
+ownerOf owner (Hold k) = boardsMost
 
 -- of each proposition below p the owner has it in its mask, and no other board has
 pub record Owned (p : ℕ) (masks owner : List ℕ) : Type 0 where

@@ -7,17 +7,24 @@ ghost use lib.ListN.{length, getD};
 ghost use Rattle.lists.specs.Tests.{pick, bit};
 ghost use Rattle.kinds.specs.Kinds.{leafWithin};
 ghost use Rattle.ltl.specs.Formula.{leaf};
+ghost use Rattle.ltl.specs.Limits.{boardsMost, nodesMost};
 ghost use Rattle.network.specs.Scores.{highest};
 ghost use Rattle.nodes.specs.Begins.{Begins};
-ghost use Rattle.scores.specs.Scored.{noneScored, oneScored, added, boardOf};
-ghost use Rattle.scores.specs.Owned.{Table, Owns};
+ghost use Rattle.scores.specs.Scored.{oneScored, added, countsMost, Few, boardOf};
+ghost use Rattle.scores.specs.Owned.{Table, Owns, ownerOf};
 ghost use Rattle.scores.specs.Tallies.{Counted, Tallies};
 use kinds::Kind;
 use kinds::Leaf;
 
+// Stands for a board where there is none.
+const NO_BOARD: u8 = 16;
+
+// No count is as large: a key has room for it beside the board.
+const COUNTS_MOST: u32 = 134217728;
+
 // How often each board's propositions occur in a part; a board that is not there counts 0.
 pub struct Scores {
-    pub counts: [u64; 16],
+    pub counts: [u32; 16],
 }
 
 // The board that a part is chosen for, or that it stays where it is.
@@ -27,24 +34,24 @@ pub enum Choice {
 }
 
 impl Scores {
-    pub fn none() -> Scores
-        ensures { λ r. ⌜ r .counts ≡ noneScored ⌝ }
-    {
-        Scores { counts: [0u64; 16] }
-    }
-
-    // One occurrence, of a proposition of this board.
+    // One occurrence, of a proposition of this board; nothing where it is no board. Every count is stored, not the board's alone: it
+    // is read again at once, and several together.
     pub fn one(board: u8) -> Scores
-        requires { ⌜ board < 16 ⌝ }
+        requires { ⌜ board ≤ boardsMost ⌝ }
         ensures { λ r. ⌜ r .counts ≡ oneScored board ⌝ }
     {
-        let mut counts = [0u64; 16];
-        counts[board as usize] = 1;
+        let own = board as usize;
+        let mut counts = [0u32; 16];
+        let mut b: usize = 0;
+        while b < 16 {
+            counts[b] = if b == own { 1 } else { 0 };
+            b += 1;
+        }
         Scores { counts: counts }
     }
 
     pub fn plus(self, other: Scores) -> Scores
-        requires { ⌜ ((b : ℕ) → getD (self .counts) b 0 + getD (other .counts) b 0 < 2 ^ 64) ⌝ }
+        requires { ⌜ ((b : ℕ) → getD (self .counts) b 0 + getD (other .counts) b 0 < countsMost) ⌝ }
         ensures { λ r. ⌜ r .counts ≡ added (self .counts) (other .counts) ⌝ }
     {
         let mut sums = self.counts;
@@ -57,23 +64,27 @@ impl Scores {
         Scores { counts: sums }
     }
 
-    // The highest score, the lowest board on a tie; a part whose scores are all 0 stays.
+    // The highest score, the lowest board on a tie; a part whose scores are all 0 stays. A board's key is its count and behind it how
+    // far the board is from the last one, so that the highest key tells both. The remainder changes no count: it tells the compiler
+    // that a key has no highest bit, and four of them are then compared at once.
     pub fn choice(self) -> Choice
+        requires { ⌜ Few (self .counts) ⌝ }
         ensures { λ r. ⌜ boardOf r ≡ highest none 0 0 (self .counts) ⌝ }
     {
         let counts = self.counts;
-        let mut best = Choice::Stays;
-        let mut most: u64 = 0;
-        let mut b: u8 = 0;
+        let mut most: u32 = 0;
+        let mut b: usize = 0;
         while b < 16 {
-            let count = counts[b as usize];
-            if most < count {
-                best = Choice::Board(b);
-                most = count;
+            let key = counts[b] % COUNTS_MOST * 16 + (15 - b as u32);
+            if most < key {
+                most = key;
             }
             b += 1;
         }
-        best
+        if most < 16 {
+            return Choice::Stays;
+        }
+        Choice::Board(15 - (most % 16) as u8)
     }
 }
 
@@ -83,28 +94,28 @@ pub struct Tallied {
     pub scores: Scores,
 }
 
-// The owner's score for a proposition; constants and place holders score nothing.
-pub fn score_leaf(a: Leaf, owner: &[u8]) -> Scores
+// The owner of a proposition; constants and place holders have none.
+pub fn owner_of(a: Leaf, owner: &[u8]) -> u8
     requires { ⌜ leafWithin 64 64 a × Table (now owner) ⌝ }
-    ensures { λ r. ⌜ Counted (now (owner .entry)) (leaf a) (r .counts) ⌝ }
+    ensures { λ r. ⌜ (r ≡ ownerOf (now (owner .entry)) a) × (r ≤ boardsMost) ⌝ }
 {
     match a {
-        Leaf::Const(_) => Scores::none(),
-        Leaf::Prop(i) => Scores::one(owner[i as usize]),
-        Leaf::Hold(_) => Scores::none(),
+        Leaf::Const(_) => NO_BOARD,
+        Leaf::Prop(i) => owner[i as usize],
+        Leaf::Hold(_) => NO_BOARD,
     }
 }
 
 // The scores of the formula that s begins with, added operand by operand. `owner` has each proposition's board.
 pub fn tally(s: &[u8], owner: &[u8]) -> Tallied
-    requires { ⌜ Begins (now s) × Table (now owner) ⌝ }
+    requires { ⌜ Begins (now s) × Table (now owner) × (length (now s) ≤ nodesMost) ⌝ }
     ensures { λ r. ⌜ Tallies (now (owner .entry)) (now (s .entry)) (r .read) (r .scores .counts) ⌝ }
 {
     let k = Kind::of(s[0]);
     match k {
         Kind::Zero(a) => Tallied {
             read: 1,
-            scores: score_leaf(a, owner),
+            scores: Scores::one(owner_of(a, owner)),
         },
         Kind::One(_) => {
             let a = tally(&s[1..], owner);
@@ -128,7 +139,7 @@ pub fn tally(s: &[u8], owner: &[u8]) -> Tallied
         // No formula begins with such a byte.
         Kind::NoCode => Tallied {
             read: 0,
-            scores: Scores::none(),
+            scores: Scores::one(NO_BOARD),
         },
     }
 }

@@ -18,6 +18,7 @@ use Rattle.nodes.proofs.Fronts.{front-length}
 use Rattle.scores.specs.Owned.{Table}
 use Rattle.unfolding.specs.declared.Walk.{Walk}
 use Rattle.unfolding.specs.Unfolds.{Room, Unfolds}
+use Rattle.cutting.specs.Cuts.{choiceOf}
 use Rattle.cutting.proofs.Looking.{place-given}
 use Rattle.marking.specs.declared.Placed as mark
 use Rattle.marking.specs.Marks.{hereOn, Marking}
@@ -75,7 +76,7 @@ module _ {s : List ℕ} {boards slots nodes m : ℕ} {owner u marks : List ℕ} 
           let within = slot-within s (ask .known .passes) m there in
           let few = slot-numbers (ask .known) (ask .there) .board in
           let b = records.board-at s boards slots nodes m (slot-placed (ask .known) (ask .there)) in
-          let is : y .board ≡ board = k .board-is ∙ place-given board (y .scores .counts) (λ e. omega arith) in
+          let is : y .board ≡ board = k .board-is ∙ place-given board (choiceOf (y .scores .counts)) (λ e. omega arith) in
           let has = mark-has (getD marks′ 0 0) (y .here) (y .board) (k .mark-is) (omega arith) (k .small) in
           record {
             writes = written-is;

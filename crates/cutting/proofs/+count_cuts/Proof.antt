@@ -2,7 +2,6 @@
 -- with an operand, and is shorter. The node on top of its operands is a function of its own. Assumes nothing.
 use mathlib.Core.List.{_++_}
 use Prim.Native.Nat.{_+_}
-use mathlib.Core.Path.{refl}
 use lib.ListN.{length}
 use Rattle.lists.proofs.Parts.{tail-length}
 use Rattle.ltl.specs.Formula.{encode}
@@ -18,12 +17,11 @@ use borrow.Fn.PlainCycle.{Measures, is, falls, and}
 use Rattle.cutting.proofs.count_cuts.Reads as count-cuts
 use Rattle.cutting.proofs.count_cuts.Kinds as count-cuts-kinds
 use Rattle.cutting.proofs.+count_cuts.Lts-count_cuts as count-cuts-lts
+use Rattle.cutting.proofs.over_none.Reads as over-none-reads
 use Rattle.cutting.proofs.over_one.Reads as over-one-reads
 use Rattle.cutting.proofs.over_two.Reads as over-two-reads
-use Rattle.cutting.proofs.under_next.Reads as under-next-reads
 use Rattle.kinds.proofs.Kind.of.Reads as of-reads
-use Rattle.scores.proofs.Scores.none.Reads as none-reads
-use Rattle.scores.proofs.score_leaf.Reads as score-leaf-reads
+use Rattle.scores.proofs.owner_of.Reads as owner-of-reads
 use Rattle.cutting.proofs.+count_cuts.{statement}
 use Rattle.cutting.proofs.+count_cuts.Tie.{close}
 
@@ -39,7 +37,7 @@ count-cuts-below t =
     and 2 count-cuts-kinds.ps (falls 2 count-cuts-kinds.ps _<_ μ-count-cuts t) count-cuts.Pre
 
 abbrev count-cuts-calls : ℕ → count-cuts-lts.Claims
-count-cuts-calls t = (of-reads.Asked, of-reads.Learnt, score-leaf-reads.Asked, score-leaf-reads.Learnt, under-next-reads.Asked, under-next-reads.Learnt, count-cuts-below t, count-cuts.Post, over-one-reads.Asked, over-one-reads.Learnt, over-two-reads.Asked, over-two-reads.Learnt, none-reads.Asked, none-reads.Learnt)
+count-cuts-calls t = (of-reads.Asked, of-reads.Learnt, owner-of-reads.Asked, owner-of-reads.Learnt, over-none-reads.Asked, over-none-reads.Learnt, count-cuts-below t, count-cuts.Post, over-one-reads.Asked, over-one-reads.Learnt, over-two-reads.Asked, over-two-reads.Learnt)
 
 count-cuts-shared-slice-read-of : (t : ℕ) → count-cuts-lts.Need-shared-slice-read-of (count-cuts-calls t) (count-cuts-at t) count-cuts.Post
 count-cuts-shared-slice-read-of t c = begins-some (c .before .before .before .args .s .now) (c .before .before .before .pre .1 .0)
@@ -50,11 +48,11 @@ count-cuts-of-requires t c κs = tt
 count-cuts-enum-known-k : (t : ℕ) → count-cuts-lts.Need-enum-known-k (count-cuts-calls t) (count-cuts-at t) count-cuts.Post
 count-cuts-enum-known-k t c = search needs
 
-count-cuts-score-leaf-requires : (t : ℕ) → count-cuts-lts.Need-score-leaf-requires (count-cuts-calls t) (count-cuts-at t) count-cuts.Post
-count-cuts-score-leaf-requires t c κs = (leaf-coded (parts-as (c .before .before .before .before .before .before .before .args .s .now) (c .before .before .before .before .before .before .before .pre .1 .0 .formula) (c .before .before .before .before .before .before .before .pre .1 .0 .rest) (c .before .before .before .before .before .before .before .pre .1 .0 .front) (c .before .before .before .of .ensures) (c .before .k .given .1)), c .before .before .before .before .before .before .before .pre .1 .1)
+count-cuts-owner-of-requires : (t : ℕ) → count-cuts-lts.Need-owner-of-requires (count-cuts-calls t) (count-cuts-at t) count-cuts.Post
+count-cuts-owner-of-requires t c κs = (leaf-coded (parts-as (c .before .before .before .before .before .before .before .args .s .now) (c .before .before .before .before .before .before .before .pre .1 .0 .formula) (c .before .before .before .before .before .before .before .pre .1 .0 .rest) (c .before .before .before .before .before .before .before .pre .1 .0 .front) (c .before .before .before .of .ensures) (c .before .k .given .1)), c .before .before .before .before .before .before .before .pre .1 .1)
 
-count-cuts-under-next-requires : (t : ℕ) → count-cuts-lts.Need-under-next-requires (count-cuts-calls t) (count-cuts-at t) count-cuts.Post
-count-cuts-under-next-requires t c κs = tt
+count-cuts-over-none-requires : (t : ℕ) → count-cuts-lts.Need-over-none-requires (count-cuts-calls t) (count-cuts-at t) count-cuts.Post
+count-cuts-over-none-requires t c κs = c .owner-of .ensures .1
 
 count-cuts-enum-known-k-2 : (t : ℕ) → count-cuts-lts.Need-enum-known-k-2 (count-cuts-calls t) (count-cuts-at t) count-cuts.Post
 count-cuts-enum-known-k-2 t c = search needs
@@ -138,14 +136,11 @@ count-cuts-over-two-requires t c κs = let x = left-walked (two-of (c .before .b
 count-cuts-enum-told : (t : ℕ) → count-cuts-lts.Need-enum-told (count-cuts-calls t) (count-cuts-at t) count-cuts.Post
 count-cuts-enum-told t c = search needs
 
-count-cuts-none-requires : (t : ℕ) → count-cuts-lts.Need-none-requires (count-cuts-calls t) (count-cuts-at t) count-cuts.Post
-count-cuts-none-requires t c κs = tt
-
-count-cuts-under-next-requires-2 : (t : ℕ) → count-cuts-lts.Need-under-next-requires-2 (count-cuts-calls t) (count-cuts-at t) count-cuts.Post
-count-cuts-under-next-requires-2 t c κs = tt
+count-cuts-over-none-requires-2 : (t : ℕ) → count-cuts-lts.Need-over-none-requires-2 (count-cuts-calls t) (count-cuts-at t) count-cuts.Post
+count-cuts-over-none-requires-2 t c κs = omega arith
 
 count-cuts-returns : (t : ℕ) → count-cuts-lts.Need-returns (count-cuts-calls t) (count-cuts-at t) count-cuts.Post
-count-cuts-returns t c = λ f rest y. walked-leaf (c .before .before .before .before .before .before .before .before .before .args .on) _ (parts-as (c .before .before .before .before .before .before .before .before .before .args .s .now) f rest y (c .before .before .before .before .before .of .ensures) (c .before .before .before .k .given .1)) (c .before .score-leaf .ensures) refl (c .under-next .ensures)
+count-cuts-returns t c = λ f rest y. walked-leaf (c .before .before .before .before .before .before .before .before .before .args .on) _ (parts-as (c .before .before .before .before .before .before .before .before .before .args .s .now) f rest y (c .before .before .before .before .before .of .ensures) (c .before .before .before .k .given .1)) (c .before .owner-of .ensures .0) (c .over-none .ensures)
 
 count-cuts-returns-2 : (t : ℕ) → count-cuts-lts.Need-returns-2 (count-cuts-calls t) (count-cuts-at t) count-cuts.Post
 count-cuts-returns-2 t c = λ f rest y. walked-over-one (one-of y (c .before .before .before .before .before .before .of .ensures) (c .before .before .before .before .k2 .given .1)) (c .before .count-cuts .ensures) (c .over-one .ensures)
@@ -154,15 +149,15 @@ count-cuts-returns-3 : (t : ℕ) → count-cuts-lts.Need-returns-3 (count-cuts-c
 count-cuts-returns-3 t c = λ f rest y. walked-over-two (left-walked (two-of y (c .before .before .before .before .before .before .before .before .before .of .ensures) (c .before .before .before .before .before .before .before .k3 .given .1)) (c .before .before .before .before .count-cuts2 .ensures)) (c .before .count-cuts3 .ensures) (c .over-two .ensures)
 
 count-cuts-returns-4 : (t : ℕ) → count-cuts-lts.Need-returns-4 (count-cuts-calls t) (count-cuts-at t) count-cuts.Post
-count-cuts-returns-4 t c = λ f rest y. absurd (no-code (parts-as (c .before .before .before .before .before .before .before .before .args .s .now) f rest y (c .before .before .before .before .of .ensures) (c .before .before .enum-told .given .1)))
+count-cuts-returns-4 t c = λ f rest y. absurd (no-code (parts-as (c .before .before .before .before .before .before .before .args .s .now) f rest y (c .before .before .before .of .ensures) (c .before .enum-told .given .1)))
 
 pub +count-cuts-spec : {M : Type 1} → statement M
 +count-cuts-spec = close μ-count-cuts λ t. count-cuts-lts.spec (count-cuts-calls t) (count-cuts-at t) count-cuts.Post
     (count-cuts-shared-slice-read-of t)
     (count-cuts-of-requires t)
     (count-cuts-enum-known-k t)
-    (count-cuts-score-leaf-requires t)
-    (count-cuts-under-next-requires t)
+    (count-cuts-owner-of-requires t)
+    (count-cuts-over-none-requires t)
     (count-cuts-enum-known-k-2 t)
     (count-cuts-sub-count-cuts t)
     (count-cuts-part-count-cuts-start t)
@@ -181,8 +176,7 @@ pub +count-cuts-spec : {M : Type 1} → statement M
     (count-cuts-count-cuts-requires-3 t)
     (count-cuts-over-two-requires t)
     (count-cuts-enum-told t)
-    (count-cuts-none-requires t)
-    (count-cuts-under-next-requires-2 t)
+    (count-cuts-over-none-requires-2 t)
     (count-cuts-returns t)
     (count-cuts-returns-2 t)
     (count-cuts-returns-3 t)

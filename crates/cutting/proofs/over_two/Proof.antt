@@ -1,11 +1,15 @@
 -- Each operator is a law of `Walks`; no sum is large, since the operands are not. Assumes nothing.
-use mathlib.Core.Path.{refl, _∙_}
+use mathlib.Core.Path.{refl, sym, subst}
+use mathlib.Core.List.{List}
+use Prim.Native.Nat.{ℕ}
+use Rattle.scores.specs.Scored.{Few}
+use Rattle.scores.proofs.Added.{sums-few}
+use Rattle.cutting.specs.Cuts.{Bare}
 use Rattle.cutting.proofs.Walks.{walked-joined, walked-until, raws-few, both-joinable, copy-joinable, until-joinable}
 use native.Mathlib.Omega.{arith}
 use borrow.Author.Needs.{needs}
 use Rattle.cutting.proofs.over_two.Statement.{statement}
 use Rattle.cutting.proofs.over_two.Tie as tie
-use Rattle.cutting.proofs.over_two.Reads as reads
 
 plus-requires : tie.Need-plus-requires
 plus-requires c κs = raws-few (c .before .before .pre .walked-left) (c .before .before .pre .walked-right) (c .before .before .pre .small)
@@ -26,13 +30,13 @@ enum-told-2 : tie.Need-enum-told-2
 enum-told-2 c = search needs
 
 under-next-requires : tie.Need-under-next-requires
-under-next-requires c κs = search needs
+under-next-requires c κs = subst Few (sym (c .before .before .before .before .before .before .plus .ensures)) (sums-few (c .before .before .before .before .before .before .before .before .before .args .a .raw .counts) (c .before .before .before .before .before .before .before .before .before .args .c .raw .counts) (raws-few (c .before .before .before .before .before .before .before .before .before .pre .walked-left) (c .before .before .before .before .before .before .before .before .before .pre .walked-right) (c .before .before .before .before .before .before .before .before .before .pre .small)))
 
 joined-requires-2 : tie.Need-joined-requires-2
-joined-requires-2 c κs = copy-joinable (c .before .before .before .before .before .before .before .before .before .before .pre .walked-left) (c .before .before .before .before .before .before .before .before .before .before .pre .walked-right) (c .before .before .before .before .before .before .before .before .before .before .pre .small) (c .under-next .result) (c .under-next .ensures .0 ∙ c .before .before .before .before .before .before .before .plus .ensures, c .under-next .ensures .1)
+joined-requires-2 c κs = copy-joinable (c .before .before .before .before .before .before .before .before .before .before .pre .walked-left) (c .before .before .before .before .before .before .before .before .before .before .pre .walked-right) (c .before .before .before .before .before .before .before .before .before .before .pre .small) (c .under-next .result) (subst (λ (x : List ℕ). Bare (c .under-next .result) x) (c .before .before .before .before .before .before .before .plus .ensures) (c .under-next .ensures))
 
 joined-requires-3 : tie.Need-joined-requires-3
-joined-requires-3 c κs = until-joinable (c .before .before .before .before .before .before .before .before .before .before .before .pre .walked-left) (c .before .before .before .before .before .before .before .before .before .before .before .pre .walked-right) (c .before .before .before .before .before .before .before .before .before .before .before .pre .small) (c .before .under-next .result) (c .before .under-next .ensures .0 ∙ c .before .before .before .before .before .before .before .before .plus .ensures, c .before .under-next .ensures .1) (c .joined2 .result) (c .joined2 .ensures)
+joined-requires-3 c κs = until-joinable (c .before .before .before .before .before .before .before .before .before .before .before .pre .walked-left) (c .before .before .before .before .before .before .before .before .before .before .before .pre .walked-right) (c .before .before .before .before .before .before .before .before .before .before .before .pre .small) (c .before .under-next .result) (subst (λ (x : List ℕ). Bare (c .before .under-next .result) x) (c .before .before .before .before .before .before .before .before .plus .ensures) (c .before .under-next .ensures)) (c .joined2 .result) (c .joined2 .ensures)
 
 returns : tie.Need-returns
 returns c = λ owner f g w v. walked-joined w v (c .before .before .before .before .before .before .before .before .before .before .args .on) _ refl (c .before .before .before .before .before .before .before .plus .ensures) (c .before .enum-told .given .1) (c .joined .ensures)

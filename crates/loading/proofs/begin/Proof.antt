@@ -1,9 +1,6 @@
 -- The layout's counts decide; within the limits it is put. Assumes nothing.
-use mathlib.Core.Path.{refl, ap, _∙_}
+use mathlib.Core.Path.{refl}
 use mathlib.Core.List.{[]}
-use Prim.Native.Nat.{ℕ}
-use lib.Dec.{eqb}
-use Rattle.lists.specs.Tests.{pick}
 use Rattle.scores.proofs.Added.{zeros-few}
 use Rattle.cutting.proofs.Nodes.{unfolded-few}
 use Rattle.loading.proofs.Rules.{rule-size}
@@ -41,9 +38,6 @@ add-nodes c = let n = c .before .before .count-unfolded .ensures (c .before .bef
 returns-2 : tie.Need-returns-2
 returns-2 c = λ rule r. begun-nodes (c .before .before .before .before .before .before .before .before .before .before .before .before .before .before .before .args .masks .now) (c .before .before .before .before .before .before .before .before .before .before .before .before .before .before .before .args .rule .now) (c .before .before .before .before .before .before .before .before .before .before .before .before .before .before .before .args .state .now) (c .before .before .before .before .before .before .before .before .before .before .owners .last .1 .0) (c .before .before .before .before .before .before .before .count-cuts .result .part) rule r (c .before .before .before .before .before .before .before .before .before .before .owners .ensures .owned (r .propositions) (r .few-propositions) (r .follow)) (c .before .before .before .before .before .before .before .count-cuts .ensures rule [] (r .front) .parted) (c .before .before .before .before .if1 .left) (c .before .before .before .count-unfolded .result .written) (c .before .before .before .count-unfolded .ensures rule [] (r .front) .1) (c .if2 .taken)
 
-choice-of-requires : tie.Need-choice-of-requires
-choice-of-requires c κs = search needs
-
 first-board-requires : tie.Need-first-board-requires
 first-board-requires c κs = search needs
 
@@ -57,13 +51,13 @@ slice-aggregate-put-first-3 : tie.Need-slice-aggregate-put-first-3
 slice-aggregate-put-first-3 c = search needs
 
 put-first-requires : tie.Need-put-first-requires
-put-first-requires c κs = first-ask (c .before .before .before .before .before .before .before .before .before .before .before .before .before .before .before .before .before .before .before .before .before .before .pre) (c .before .before .before .before .before .before .before .before .before .before .before .before .before .before .before .before .before .owners .ensures .owned (c .before .before .before .before .before .before .before .before .before .before .before .before .before .before .before .before .before .before .before .before .before .before .pre .ruled .propositions) (c .before .before .before .before .before .before .before .before .before .before .before .before .before .before .before .before .before .before .before .before .before .before .pre .ruled .few-propositions) (c .before .before .before .before .before .before .before .before .before .before .before .before .before .before .before .before .before .before .before .before .before .before .pre .ruled .follow)) (c .before .before .before .before .before .before .before .before .before .before .before .before .before .before .before .before .before .owners .ensures .table) (c .before .before .before .before .before .before .before .before .before .before .before .before .before .before .count-cuts .result .part) ((c .before .before .before .before .before .before .before .before .before .before .before .before .before .before .count-cuts .ensures (c .before .before .before .before .before .before .before .before .before .before .before .before .before .before .before .before .before .before .before .before .before .before .pre .rule) [] (c .before .before .before .before .before .before .before .before .before .before .before .before .before .before .before .before .before .before .before .before .before .before .pre .ruled .front)) .parted) (c .before .before .before .before .before .before .before .before .before .before .before .if1 .left) (c .before .before .before .before .before .before .before .before .before .before .count-unfolded .result .written) (c .before .before .before .before .before .before .before .before .before .before .count-unfolded .ensures (c .before .before .before .before .before .before .before .before .before .before .before .before .before .before .before .before .before .before .before .before .before .before .pre .rule) [] (c .before .before .before .before .before .before .before .before .before .before .before .before .before .before .before .before .before .before .before .before .before .before .pre .ruled .front) .1) (c .before .before .before .before .before .before .before .if2 .left) (c .before .before .before .before .first-board .result) (c .before .before .before .before .first-board .ensures ∙ ap (λ (i : ℕ). pick (eqb i 16) 0 i) (c .before .before .before .before .before .choice-of .ensures)) _ refl _ refl
+put-first-requires c κs = first-ask (c .before .before .before .before .before .before .before .before .before .before .before .before .before .before .before .before .before .before .before .before .pre) (c .before .before .before .before .before .before .before .before .before .before .before .before .before .before .before .owners .ensures .owned (c .before .before .before .before .before .before .before .before .before .before .before .before .before .before .before .before .before .before .before .before .pre .ruled .propositions) (c .before .before .before .before .before .before .before .before .before .before .before .before .before .before .before .before .before .before .before .before .pre .ruled .few-propositions) (c .before .before .before .before .before .before .before .before .before .before .before .before .before .before .before .before .before .before .before .before .pre .ruled .follow)) (c .before .before .before .before .before .before .before .before .before .before .before .before .before .before .before .owners .ensures .table) (c .before .before .before .before .before .before .before .before .before .before .before .before .count-cuts .result .part) ((c .before .before .before .before .before .before .before .before .before .before .before .before .count-cuts .ensures (c .before .before .before .before .before .before .before .before .before .before .before .before .before .before .before .before .before .before .before .before .pre .rule) [] (c .before .before .before .before .before .before .before .before .before .before .before .before .before .before .before .before .before .before .before .before .pre .ruled .front)) .parted) (c .before .before .before .before .before .before .before .before .before .if1 .left) (c .before .before .before .before .before .before .before .before .count-unfolded .result .written) (c .before .before .before .before .before .before .before .before .count-unfolded .ensures (c .before .before .before .before .before .before .before .before .before .before .before .before .before .before .before .before .before .before .before .before .pre .rule) [] (c .before .before .before .before .before .before .before .before .before .before .before .before .before .before .before .before .before .before .before .before .pre .ruled .front) .1) (c .before .before .before .before .before .if2 .left) (c .before .before .before .before .first-board .result) (c .before .before .before .before .first-board .ensures) _ refl _ refl
 
 same-length : tie.Need-same-length
 same-length c = search needs
 
 returns-3 : tie.Need-returns-3
-returns-3 c = λ rule r. begun-done (c .before .before .before .before .before .before .before .before .before .before .before .before .before .before .before .before .before .before .before .before .before .before .before .before .before .before .before .args .masks .now) (c .before .before .before .before .before .before .before .before .before .before .before .before .before .before .before .before .before .before .before .before .before .before .before .before .before .before .before .args .rule .now) (c .before .before .before .before .before .before .before .before .before .before .before .before .before .before .before .before .before .before .before .before .before .before .before .before .before .before .before .args .state .now) (c .before .before .before .before .before .before .before .before .before .before .before .before .before .before .before .before .before .before .before .before .before .before .owners .last .1 .0) (c .before .before .before .before .before .before .before .before .before .before .before .before .before .before .before .before .before .before .before .count-cuts .result .part) rule r (c .before .before .before .before .before .before .before .before .before .before .before .before .before .before .before .before .before .before .before .before .before .before .owners .ensures .owned (r .propositions) (r .few-propositions) (r .follow)) (c .before .before .before .before .before .before .before .before .before .before .before .before .before .before .before .before .before .before .before .count-cuts .ensures rule [] (r .front) .parted) (c .before .before .before .before .before .before .before .before .before .before .before .before .before .before .before .before .if1 .left) (c .before .before .before .before .before .before .before .before .before .before .before .before .before .before .before .count-unfolded .result .written) (c .before .before .before .before .before .before .before .before .before .before .before .before .before .before .before .count-unfolded .ensures rule [] (r .front) .1) (c .before .before .before .before .before .before .before .before .before .before .before .before .if2 .left) (c .before .before .before .before .put-first .last .0) (c .before .before .before .before .put-first .ensures rule r)
+returns-3 c = λ rule r. begun-done (c .before .before .before .before .before .before .before .before .before .before .before .before .before .before .before .before .before .before .before .before .before .before .before .before .before .args .masks .now) (c .before .before .before .before .before .before .before .before .before .before .before .before .before .before .before .before .before .before .before .before .before .before .before .before .before .args .rule .now) (c .before .before .before .before .before .before .before .before .before .before .before .before .before .before .before .before .before .before .before .before .before .before .before .before .before .args .state .now) (c .before .before .before .before .before .before .before .before .before .before .before .before .before .before .before .before .before .before .before .before .owners .last .1 .0) (c .before .before .before .before .before .before .before .before .before .before .before .before .before .before .before .before .before .count-cuts .result .part) rule r (c .before .before .before .before .before .before .before .before .before .before .before .before .before .before .before .before .before .before .before .before .owners .ensures .owned (r .propositions) (r .few-propositions) (r .follow)) (c .before .before .before .before .before .before .before .before .before .before .before .before .before .before .before .before .before .count-cuts .ensures rule [] (r .front) .parted) (c .before .before .before .before .before .before .before .before .before .before .before .before .before .before .if1 .left) (c .before .before .before .before .before .before .before .before .before .before .before .before .before .count-unfolded .result .written) (c .before .before .before .before .before .before .before .before .before .before .before .before .before .count-unfolded .ensures rule [] (r .front) .1) (c .before .before .before .before .before .before .before .before .before .before .if2 .left) (c .before .before .before .before .put-first .last .0) (c .before .before .before .before .put-first .ensures rule r)
 
 pub begin-spec : {M : Type 1} → statement M
 begin-spec =
@@ -78,7 +72,6 @@ begin-spec =
     count-unfolded-requires
     add-nodes
     returns-2
-    choice-of-requires
     first-board-requires
     slice-aggregate-put-first
     slice-aggregate-put-first-2

@@ -1,13 +1,13 @@
 -- One node more than the operand shows. Assumes nothing.
-use mathlib.Core.Path.{ap}
+use mathlib.Core.Path.{ap, _∙_}
 use Prim.Native.Nat.{_+_}
+use Rattle.cutting.specs.Cuts.{placeBy}
 use Rattle.marking.specs.Marks.{shownAs}
 use Rattle.marking.proofs.Tops.{shown-few, over}
 use native.Mathlib.Omega.{arith}
 use borrow.Author.Needs.{needs}
 use Rattle.marking.proofs.over_not.Statement.{statement}
 use Rattle.marking.proofs.over_not.Tie as tie
-use Rattle.marking.proofs.over_not.Reads as reads
 
 place-of-requires : tie.Need-place-of-requires
 place-of-requires c κs = search needs
@@ -28,7 +28,7 @@ same-length : tie.Need-same-length
 same-length c = search needs
 
 returns : tie.Need-returns
-returns c = over (c .before .before .before .before .before .before .place-of .ensures) (λ b. 1 + shownAs (c .before .before .before .before .before .before .before .before .before .args .a .board) (c .before .before .before .before .before .before .before .before .before .args .a .here) b) (ap (1 +_) (c .before .before .before .shown .ensures)) (c .before .before .seal .ensures)
+returns c = over (c .before .before .before .before .before .before .place-of .ensures ∙ ap (placeBy (c .before .before .before .before .before .before .before .before .before .args .on)) (c .before .before .before .before .before .before .before .before .before .pre .1 .board-is)) (λ b. 1 + shownAs (c .before .before .before .before .before .before .before .before .before .args .a .board) (c .before .before .before .before .before .before .before .before .before .args .a .here) b) (ap (1 +_) (c .before .before .before .shown .ensures)) (c .before .before .seal .ensures)
 
 pub over-not-spec : {M : Type 1} → statement M
 over-not-spec =

@@ -7,7 +7,7 @@ use lib.ListN.{length}
 use Rattle.lists.proofs.Parts.{tail-length}
 use Rattle.ltl.specs.Formula.{encode}
 use Rattle.nodes.proofs.Fronts.{parts-as, single, double, no-code, begins-some}
-use Rattle.scores.proofs.Counting.{leaf-coded, left-tallied, tallied-leaf, tallied-one, tallied-two}
+use Rattle.scores.proofs.Counting.{leaf-coded, counted-leaf, left-tallied, tallied-leaf, tallied-one, tallied-two}
 use native.Mathlib.Omega.{arith}
 use borrow.Author.Needs.{needs}
 use borrow.Fn.Kinds.{In}
@@ -16,9 +16,9 @@ use Rattle.scores.proofs.tally.Reads as tally
 use Rattle.scores.proofs.tally.Kinds as tally-kinds
 use Rattle.scores.proofs.+tally.Lts-tally as tally-lts
 use Rattle.kinds.proofs.Kind.of.Reads as of-reads
-use Rattle.scores.proofs.Scores.none.Reads as none-reads
+use Rattle.scores.proofs.Scores.one.Reads as one-reads
 use Rattle.scores.proofs.Scores.plus.Reads as plus-reads
-use Rattle.scores.proofs.score_leaf.Reads as score-leaf-reads
+use Rattle.scores.proofs.owner_of.Reads as owner-of-reads
 use Rattle.scores.proofs.+tally.{statement}
 use Rattle.scores.proofs.+tally.Tie.{close}
 
@@ -32,7 +32,7 @@ abbrev tally-below : ℕ → In 2 tally-kinds.ps
 tally-below t = and 2 tally-kinds.ps (falls 2 tally-kinds.ps _<_ μ-tally t) tally.Pre
 
 abbrev tally-calls : ℕ → tally-lts.Claims
-tally-calls t = (of-reads.Asked, of-reads.Learnt, score-leaf-reads.Asked, score-leaf-reads.Learnt, tally-below t, tally.Post, plus-reads.Asked, plus-reads.Learnt, none-reads.Asked, none-reads.Learnt)
+tally-calls t = (of-reads.Asked, of-reads.Learnt, owner-of-reads.Asked, owner-of-reads.Learnt, one-reads.Asked, one-reads.Learnt, tally-below t, tally.Post, plus-reads.Asked, plus-reads.Learnt)
 
 tally-shared-slice-read-of : (t : ℕ) → tally-lts.Need-shared-slice-read-of (tally-calls t) (tally-at t) tally.Post
 tally-shared-slice-read-of t c = begins-some (c .before .before .before .args .s .now) (c .before .before .before .pre .1 .0)
@@ -43,8 +43,11 @@ tally-of-requires t c κs = tt
 tally-enum-known-k : (t : ℕ) → tally-lts.Need-enum-known-k (tally-calls t) (tally-at t) tally.Post
 tally-enum-known-k t c = search needs
 
-tally-score-leaf-requires : (t : ℕ) → tally-lts.Need-score-leaf-requires (tally-calls t) (tally-at t) tally.Post
-tally-score-leaf-requires t c κs = (leaf-coded (parts-as (c .before .before .before .before .before .before .before .args .s .now) (c .before .before .before .before .before .before .before .pre .1 .0 .formula) (c .before .before .before .before .before .before .before .pre .1 .0 .rest) (c .before .before .before .before .before .before .before .pre .1 .0 .front) (c .before .before .before .of .ensures) (c .before .k .given .1)), c .before .before .before .before .before .before .before .pre .1 .1)
+tally-owner-of-requires : (t : ℕ) → tally-lts.Need-owner-of-requires (tally-calls t) (tally-at t) tally.Post
+tally-owner-of-requires t c κs = (leaf-coded (parts-as (c .before .before .before .before .before .before .before .args .s .now) (c .before .before .before .before .before .before .before .pre .1 .0 .formula) (c .before .before .before .before .before .before .before .pre .1 .0 .rest) (c .before .before .before .before .before .before .before .pre .1 .0 .front) (c .before .before .before .of .ensures) (c .before .k .given .1)), c .before .before .before .before .before .before .before .pre .1 .1)
+
+tally-one-requires : (t : ℕ) → tally-lts.Need-one-requires (tally-calls t) (tally-at t) tally.Post
+tally-one-requires t c κs = c .owner-of .ensures .1
 
 tally-enum-told : (t : ℕ) → tally-lts.Need-enum-told (tally-calls t) (tally-at t) tally.Post
 tally-enum-told t c = search needs
@@ -62,11 +65,10 @@ tally-tally-requires : (t : ℕ) → tally-lts.Need-tally-requires (tally-calls 
 tally-tally-requires t c κs =
     let x = single (parts-as _ _ _ (c .before .before .before .before .before .before .before .pre .1 .0 .front) (c .before .before .before .of .ensures) (c .before .enum-told .given .1)) in
     let l = tail-length 1 (c .before .before .before .before .before .before .before .args .s .now) in
-    let e = c .before .before .before .before .before .before .before .pre .1 .1 in
-    (let q = c .before .before .before .before .before .before .before .pre .0 in omega arith, (record { formula = x .operand; rest = c .before .before .before .before .before .before .before .pre .1 .0 .rest; front = x .front }, c .before .before .before .before .before .before .before .pre .1 .1))
+    (let q = c .before .before .before .before .before .before .before .pre .0 in omega arith, (record { formula = x .operand; rest = c .before .before .before .before .before .before .before .pre .1 .0 .rest; front = x .front }, c .before .before .before .before .before .before .before .pre .1 .1, let m = c .before .before .before .before .before .before .before .pre .1 .2 in omega arith))
 
-tally-add-t17 : (t : ℕ) → tally-lts.Need-add-t17 (tally-calls t) (tally-at t) tally.Post
-tally-add-t17 t c =
+tally-add-t18 : (t : ℕ) → tally-lts.Need-add-t18 (tally-calls t) (tally-at t) tally.Post
+tally-add-t18 t c =
     let x = single (parts-as _ _ _ (c .before .before .before .before .before .before .before .before .before .before .pre .1 .0 .front) (c .before .before .before .before .before .before .of .ensures) (c .before .before .before .before .enum-told .given .1)) in
     let a = c .before .before .tally .ensures (x .operand) (c .before .before .before .before .before .before .before .before .before .before .pre .1 .0 .rest) (x .front) .0 in
     let g = c .before .before .before .before .before .before .before .before .before .before .good .0 .0 in
@@ -88,7 +90,7 @@ tally-tally-requires-2 : (t : ℕ) → tally-lts.Need-tally-requires-2 (tally-ca
 tally-tally-requires-2 t c κs =
     let x = double (parts-as _ _ _ (c .before .before .before .before .before .before .before .pre .1 .0 .front) (c .before .before .before .of .ensures) (c .before .enum-told2 .given .1)) in
     let l = tail-length 1 (c .before .before .before .before .before .before .before .args .s .now) in
-    (let q = c .before .before .before .before .before .before .before .pre .0 in omega arith, (record { formula = x .left; rest = encode (x .right) ++ c .before .before .before .before .before .before .before .pre .1 .0 .rest; front = x .front }, c .before .before .before .before .before .before .before .pre .1 .1))
+    (let q = c .before .before .before .before .before .before .before .pre .0 in omega arith, (record { formula = x .left; rest = encode (x .right) ++ c .before .before .before .before .before .before .before .pre .1 .0 .rest; front = x .front }, c .before .before .before .before .before .before .before .pre .1 .1, let m = c .before .before .before .before .before .before .before .pre .1 .2 in omega arith))
 
 tally-add-m : (t : ℕ) → tally-lts.Need-add-m (tally-calls t) (tally-at t) tally.Post
 tally-add-m t c =
@@ -124,10 +126,10 @@ tally-tally-requires-3 t c κs =
     let d = x .node in
     let g = c .before .before .before .before .before .before .before .before .before .before .good .0 .0 in
     let l = tail-length (1 + c .before .before .tally2 .result .read) (c .before .before .before .before .before .before .before .before .before .before .args .s .now) in
-    (let q = c .before .before .before .before .before .before .before .before .before .before .pre .0 in omega arith, (record { formula = d .right; rest = c .before .before .before .before .before .before .before .before .before .before .pre .1 .0 .rest; front = x .front }, c .before .before .before .before .before .before .before .before .before .before .pre .1 .1))
+    (let q = c .before .before .before .before .before .before .before .before .before .before .pre .0 in omega arith, (record { formula = d .right; rest = c .before .before .before .before .before .before .before .before .before .before .pre .1 .0 .rest; front = x .front }, c .before .before .before .before .before .before .before .before .before .before .pre .1 .1, let m = c .before .before .before .before .before .before .before .before .before .before .pre .1 .2 in omega arith))
 
-tally-add-t21 : (t : ℕ) → tally-lts.Need-add-t21 (tally-calls t) (tally-at t) tally.Post
-tally-add-t21 t c =
+tally-add-t22 : (t : ℕ) → tally-lts.Need-add-t22 (tally-calls t) (tally-at t) tally.Post
+tally-add-t22 t c =
     let x = left-tallied (double (parts-as _ _ _ (c .before .before .before .before .before .before .before .before .before .before .before .before .before .before .pre .1 .0 .front) (c .before .before .before .before .before .before .before .before .before .before .of .ensures) (c .before .before .before .before .before .before .before .before .enum-told2 .given .1))) (c .before .before .before .before .before .before .tally2 .ensures) in
     let d = x .node in
     let g = c .before .before .before .before .before .before .before .before .before .before .before .before .before .before .good .0 .0 in
@@ -142,16 +144,17 @@ tally-plus-requires t c κs =
     let g = c .before .before .before .before .before .before .before .before .before .before .before .before .before .before .good .0 .0 in
     let a = c .before .before .before .tally3 .ensures (d .right) (c .before .before .before .before .before .before .before .before .before .before .before .before .before .before .pre .1 .0 .rest) (x .front) .1 .few b in
     let e = x .counted .few b in
+    let m = c .before .before .before .before .before .before .before .before .before .before .before .before .before .before .pre .1 .2 in
     omega arith
 
 tally-enum-told-3 : (t : ℕ) → tally-lts.Need-enum-told-3 (tally-calls t) (tally-at t) tally.Post
 tally-enum-told-3 t c = search needs
 
-tally-none-requires : (t : ℕ) → tally-lts.Need-none-requires (tally-calls t) (tally-at t) tally.Post
-tally-none-requires t c κs = tt
+tally-one-requires-2 : (t : ℕ) → tally-lts.Need-one-requires-2 (tally-calls t) (tally-at t) tally.Post
+tally-one-requires-2 t c κs = omega arith
 
 tally-returns : (t : ℕ) → tally-lts.Need-returns (tally-calls t) (tally-at t) tally.Post
-tally-returns t c = λ f rest y. tallied-leaf (parts-as (c .before .before .before .before .before .before .before .before .args .s .now) f rest y (c .before .before .before .before .of .ensures) (c .before .before .k .given .1)) (c .score-leaf .ensures)
+tally-returns t c = λ f rest y. tallied-leaf (parts-as (c .before .before .before .before .before .before .before .before .before .args .s .now) f rest y (c .before .before .before .before .before .of .ensures) (c .before .before .before .k .given .1)) (counted-leaf (c .before .owner-of .ensures .0) (c .one .ensures))
 
 tally-returns-2 : (t : ℕ) → tally-lts.Need-returns-2 (tally-calls t) (tally-at t) tally.Post
 tally-returns-2 t c = λ f rest y. tallied-one (single (parts-as _ f rest y (c .before .before .before .before .before .before .of .ensures) (c .before .before .before .before .enum-told .given .1))) (c .before .before .tally .ensures)
@@ -167,13 +170,14 @@ pub +tally-spec : {M : Type 1} → statement M
     (tally-shared-slice-read-of t)
     (tally-of-requires t)
     (tally-enum-known-k t)
-    (tally-score-leaf-requires t)
+    (tally-owner-of-requires t)
+    (tally-one-requires t)
     (tally-enum-told t)
     (tally-sub-tally t)
     (tally-part-tally-start t)
     (tally-part-tally-end t)
     (tally-tally-requires t)
-    (tally-add-t17 t)
+    (tally-add-t18 t)
     (tally-enum-told-2 t)
     (tally-sub-tally-2 t)
     (tally-part-tally-start-2 t)
@@ -184,10 +188,10 @@ pub +tally-spec : {M : Type 1} → statement M
     (tally-part-tally-start-3 t)
     (tally-part-tally-end-3 t)
     (tally-tally-requires-3 t)
-    (tally-add-t21 t)
+    (tally-add-t22 t)
     (tally-plus-requires t)
     (tally-enum-told-3 t)
-    (tally-none-requires t)
+    (tally-one-requires-2 t)
     (tally-returns t)
     (tally-returns-2 t)
     (tally-returns-3 t)

@@ -1,35 +1,43 @@
 -- The choice among the boards looked at goes on to the choice among all: what `highest` gives from board b on, with the best board
--- and its count so far, stays the same. Assumes nothing.
-use mathlib.Core.Path.{_≡_, refl, sym, _∙_}
-use mathlib.Core.Logic.{⊎-elim}
+-- and its count so far, which the key tells, stays the same. Assumes nothing.
+use mathlib.Core.Path.{_≡_, _∙_}
+use mathlib.Core.Logic.{⊎-elim, inl}
 use mathlib.Core.Option.{none}
-use Prim.Native.Nat.{_-_, _≤_}
-use lib.ListN.{length, drop}
+use Prim.Native.Nat.{_-_, _*_, _+_, _/_, _%_, _<_, _≤_}
+use lib.ListN.{length, drop, getD}
 use Rattle.network.specs.Scores.{highest}
-use Rattle.scores.specs.Scored.{boardOf}
-use Rattle.scores.proofs.Highest.{highest-higher, highest-not, highest-done}
+use Rattle.scores.proofs.Highest.{boardIn, Before, before-more, before-key, key-first, key-higher, key-not, key-none, key-board}
 use native.Mathlib.Omega.{arith}
 use borrow.Author.Needs.{needs}
 use Rattle.scores.proofs.Scores.choice.Statement.{statement}
 use Rattle.scores.proofs.Scores.choice.Tie as tie
 
 abbrev Inv-loop : tie.InvT-loop
-Inv-loop counts best₀ most₀ b₀ best most b = (b ≤ 16) × (length counts ≡ 16) × (highest (boardOf best) most b (drop b counts) ≡ highest none 0 0 counts)
+Inv-loop counts most₀ b₀ most b = (b ≤ 16) × (length counts ≡ 16) × Before b most × (highest (boardIn most) (most / 16) b (drop b counts) ≡ highest none 0 0 counts)
 
 abbrev μ-loop : tie.MeasureT-loop
-μ-loop counts best₀ most₀ b₀ best most b = 16 - b
+μ-loop counts most₀ b₀ most b = 16 - b
 
 loop-holds : tie.Need-loop-holds Inv-loop μ-loop
-loop-holds c = (search needs, search needs, refl)
+loop-holds c = (search needs, search needs, inl (omega arith), key-first _)
 
-cast-count : tie.Need-cast-count Inv-loop μ-loop
-cast-count c = search needs
+mul-key : tie.Need-mul-key Inv-loop μ-loop
+mul-key c = search needs
 
-mul-count : tie.Need-mul-count Inv-loop μ-loop
-mul-count c = search needs
+array-read-key : tie.Need-array-read-key Inv-loop μ-loop
+array-read-key c = search needs
 
-array-read-count : tie.Need-array-read-count Inv-loop μ-loop
-array-read-count c = search needs
+mul-key-2 : tie.Need-mul-key-2 Inv-loop μ-loop
+mul-key-2 c = search needs
+
+cast-key : tie.Need-cast-key Inv-loop μ-loop
+cast-key c = search needs
+
+sub-key : tie.Need-sub-key Inv-loop μ-loop
+sub-key c = search needs
+
+add-key : tie.Need-add-key Inv-loop μ-loop
+add-key c = search needs
 
 add-b : tie.Need-add-b Inv-loop μ-loop
 add-b c = search needs
@@ -39,19 +47,43 @@ loop-less c = search needs
 
 loop-again : tie.Need-loop-again Inv-loop μ-loop
 loop-again c =
-    let k = c .before .before .loop .inv in (
+    let k = c .before .before .loop .inv in
+    let b = c .before .before .loop .b in
+    let most = c .before .before .loop .most in
+    let counts = c .before .before .before .before .args .self .counts in
+    let l = c .before .before .before .before .pre b in
+    let i : b < length counts = omega arith in
+    let key = getD counts b 0 % 134217728 * 16 + (15 - b) in
+    let e : key ≡ getD counts b 0 * 16 + (15 - b) = omega arith in (
       omega arith,
       k .1,
       ⊎-elim
-          (λ w. rw (w .1, w .2) (highest-higher _ _ _ _ (omega arith) (w .0 .taken) ∙ k .2))
-          (λ w. rw (w .1, w .2) (highest-not _ _ _ _ (omega arith) (w .0 .left) ∙ k .2))
+          (λ w. rw (w .1) (before-key b (getD counts b 0) key (omega arith) e))
+          (λ w. rw (w .1) (before-more b most (k .2)))
+          (c .if1 .came),
+      ⊎-elim
+          (λ w. rw (w .1) (key-higher most b counts i (k .1) key e (k .2) (w .0 .taken) ∙ k .3))
+          (λ w. rw (w .1) (key-not most b counts i (k .1) key e (w .0 .left) ∙ k .3))
           (c .if1 .came),
     )
 
 returns : tie.Need-returns Inv-loop μ-loop
 returns c =
-    let k = c .before .loop .inv in
-    sym (highest-done (boardOf (c .before .loop .best)) (c .before .loop .most) (c .before .loop .b) _ (omega arith)) ∙ k .2
+    let k = c .before .before .loop .inv in
+    let e : c .before .before .loop .b ≡ 16 = omega arith in
+    key-none (c .before .before .loop .most) (c .before .before .before .before .args .self .counts) (omega arith) (c .if2 .taken) ∙ rw e at (k .3)
+
+cast-t17 : tie.Need-cast-t17 Inv-loop μ-loop
+cast-t17 c = search needs
+
+sub-t18 : tie.Need-sub-t18 Inv-loop μ-loop
+sub-t18 c = search needs
+
+returns-2 : tie.Need-returns-2 Inv-loop μ-loop
+returns-2 c =
+    let k = c .before .before .loop .inv in
+    let e : c .before .before .loop .b ≡ 16 = omega arith in
+    key-board (c .before .before .loop .most) (c .before .before .before .before .args .self .counts) (omega arith) (c .if2 .left) ∙ rw e at (k .3)
 
 pub choice-spec : {M : Type 1} → statement M
 choice-spec =
@@ -60,10 +92,16 @@ choice-spec =
     Inv-loop
     μ-loop
     loop-holds
-    cast-count
-    mul-count
-    array-read-count
+    mul-key
+    array-read-key
+    mul-key-2
+    cast-key
+    sub-key
+    add-key
     add-b
     loop-less
     loop-again
-    returns)
+    returns
+    cast-t17
+    sub-t18
+    returns-2)

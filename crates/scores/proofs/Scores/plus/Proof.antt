@@ -33,7 +33,8 @@ array-read-sums-2 c = search needs
 add-sums : tie.Need-add-sums Inv-loop μ-loop
 add-sums c =
     let k = c .before .loop .inv in
-    rw (k .3, added-at) (record { fits = c .before .before .before .before .pre (c .before .loop .b) })
+    let l = c .before .before .before .before .pre (c .before .loop .b) in
+    rw (k .3, added-at) (record { fits = omega arith })
 
 mul-sums-3 : tie.Need-mul-sums-3 Inv-loop μ-loop
 mul-sums-3 c = search needs
