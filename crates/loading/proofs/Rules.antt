@@ -106,7 +106,7 @@ module _ {masks bytes : List ℕ} {rule : Formula} (r : Ruled masks bytes rule) 
   abbrev first-board : ℕ
   first-board = orZero (choose (unfolded rule))
 
-  pub rule-within : Within (r .propositions) 0 (unfolded rule)
+  rule-within : Within (r .propositions) 0 (unfolded rule)
   rule-within = unfolded-coded (r .propositions) 0 rule (r .within)
 
   pub rule-size : size rule ≤ 1024
@@ -119,7 +119,7 @@ module _ {masks bytes : List ℕ} {rule : Formula} (r : Ruled masks bytes rule) 
       go none e = inl refl
       go (some c) e = inr refl
 
-  pub first-there : first-board < boardsMost
+  first-there : first-board < boardsMost
   first-there = go (choose (unfolded rule)) refl
     where
       go : (o : Option ℕ) → choose (unfolded rule) ≡ o → orZero o < boardsMost
