@@ -3,6 +3,7 @@ pub mod Sizes
 pub mod Appending
 pub mod Writing
 pub mod Sources
+pub mod Boarding
 pub mod Asking
 pub mod Parts
 pub mod Slots

@@ -1,23 +1,22 @@
 -- What the functions that put the first state ask of each other, and what they have put: `first-put`. Assumes nothing.
-use mathlib.Core.Path.{_≡_, sym, ap, ap₂, _∙_, subst}
-use mathlib.Core.List.{List, [], append-nil}
+use mathlib.Core.Path.{_≡_, sym, ap, _∙_, subst}
+use mathlib.Core.List.{List, []}
 use Prim.Native.Nat.{ℕ, _+_, _≤_, min}
 use native.Mathlib.Omega.{arith}
-use lib.ListN.{length, take, drop}
-use lib.Seq.{take-at}
+use lib.ListN.{length, take}
 use lib.Dec.{eqb}
 use Rattle.lists.specs.Tests.{pick}
 use Rattle.ltl.specs.Limits.{boardsMost}
-use Rattle.ltl.specs.Formula.{Formula, size, encode}
+use Rattle.ltl.specs.Formula.{Formula, size}
 use Rattle.ltl.specs.Progression.{unfolded}
-use Rattle.ltl.proofs.Texts.{length-encode, wider}
 use Rattle.network.specs.Scores.{chosen}
 use Rattle.state.specs.Calls.{firstOf, loadedState}
 use Rattle.nodes.specs.Begins.{Front, Begins}
 use Rattle.nodes.proofs.Fronts.{front-length, front-one-way}
 use Rattle.scores.specs.Owned.{Table, Owned}
 use Rattle.unfolding.specs.declared.Walk.{Walk}
-use Rattle.unfolding.specs.Unfolds.{Room, Unfolds}
+use Rattle.unfolding.specs.Unfolds.{Room, Unfolds, UnfoldedTo}
+use Rattle.unfolding.proofs.Fronts.{written-bytes, written-front}
 use Rattle.cutting.specs.declared.Part.{Part}
 use Rattle.cutting.specs.Cuts.{codeOf, Parted}
 use Rattle.cutting.proofs.Choices.{chosen-below}
@@ -25,7 +24,7 @@ use Rattle.marking.specs.declared.Placed.{Placed}
 use Rattle.marking.specs.Marks.{MarkedAs, Marking}
 use Rattle.storing.specs.Stores.{LaidOut, Counts, StateAsk, Stores}
 use Rattle.loading.specs.Load.{BeginAsk, FirstAsk, Firsts}
-use Rattle.loading.proofs.Rules.{board-of, rule-within, first-large, first-slots, first-nodes, first-choice, first-laid}
+use Rattle.loading.proofs.Rules.{board-of, first-large, first-slots, first-nodes, first-choice, first-laid}
 
 pub whole-begins : {s : List ℕ} {f : Formula} → Front s f [] → Begins s
 whole-begins {f = f} x = record { formula = f; rest = []; front = x }
@@ -41,20 +40,11 @@ module _ {state masks bytes owner : List ℕ} {board slots nodes : ℕ} {u marks
   unfold-ask = record { begins = record { formula = ask .rule; rest = []; front = ask .ruled .front }; room = let s = first-size in let l = ask .u-long in omega arith }
 
   module _ {u′ : List ℕ} (w : Walk) (h : Unfolds u bytes u′ (w .read) (w .written)) where
-    written-is : w .written ≡ size U
-    written-is = h (ask .rule) [] (ask .ruled .front) .writes
-
-    -- the unfolded rule's bytes
-    bytes-are : take (w .written) u′ ≡ encode U
-    bytes-are =
-        ap₂ take written-is (h (ask .rule) [] (ask .ruled .front) .leaves) ∙ take-at (encode U) (drop (size U) u) (size U) (length-encode U)
+    rule-unfolded : UnfoldedTo (ask .rule) u u′ (w .read) (w .written)
+    rule-unfolded = h (ask .rule) [] (ask .ruled .front)
 
     front-is : Front (take (w .written) u′) U []
-    front-is =
-        record {
-          coded = wider (ask .ruled .propositions) 0 64 64 (ask .ruled .few-propositions) (omega arith) U (rule-within (ask .ruled));
-          bytes = bytes-are ∙ sym (append-nil (encode U));
-        }
+    front-is = written-front rule-unfolded (ask .ruled .front .coded)
 
     pub mark-ask : Begins (take (w .written) u′) × Table owner × (length (take (w .written) u′) ≤ length marks) × (length (take (w .written) u′) ≤ 4096)
     mark-ask =
@@ -66,7 +56,7 @@ module _ {state masks bytes owner : List ℕ} {board slots nodes : ℕ} {u marks
     module _ {marks′ : List ℕ} (y : Placed) (m : Marking owner (take (w .written) u′) board marks′ y) (kept : length marks′ ≡ length marks) where
       laid-is : LaidOut (take (w .written) u′) marks′ (firstOf masks (ask .rule))
       laid-is =
-          subst (λ (x : List ℕ). LaidOut x marks′ (firstOf masks (ask .rule))) (sym bytes-are)
+          subst (λ (x : List ℕ). LaidOut x marks′ (firstOf masks (ask .rule))) (sym (written-bytes rule-unfolded))
           (first-laid (ask .ruled) owner (ask .owned) marks′ y (subst (λ (b : ℕ). MarkedAs owner U b marks′ y) (ask .board-is) (m U [] front-is))
           (let s = first-size in let l = ask .marks-long in omega arith))
 

@@ -23,7 +23,7 @@ use Rattle.kinds.specs.Kinds.{leafWithin, leafCode, unaryCode, binaryCode}
 use Rattle.ltl.specs.Limits.{boardsMost}
 use Rattle.ltl.specs.Formula.{Formula, leaf, one, two, size, encode, Within}
 use Rattle.ltl.specs.Progression.{unfolded}
-use Rattle.ltl.proofs.Texts.{length-encode, wider, unfolded-coded}
+use Rattle.ltl.proofs.Texts.{length-encode, unfolded-coded}
 use Rattle.network.specs.Scores.{highest, chosen}
 use Rattle.network.specs.Layout.{noHold, orZero, load}
 use Rattle.network.proofs.Owned.{unfolded-free}
@@ -36,13 +36,13 @@ use Rattle.nodes.proofs.Fronts.{front-length}
 use Rattle.scores.specs.Owned.{Owned}
 use Rattle.scores.proofs.Counting.{counted-chosen}
 use Rattle.cutting.specs.declared.Part.{Part}
-use Rattle.cutting.specs.Cuts.{codeOf, choiceOf, cutsOn, Rests, Parted}
+use Rattle.cutting.specs.Cuts.{codeOf, cutsOn, Rests, Parted}
 use Rattle.cutting.proofs.Choices.{chosen-below}
-use Rattle.cutting.proofs.Looking.{place-given}
+use Rattle.nodes.specs.Begins.{Front}
 use Rattle.marking.specs.declared.Placed.{Placed}
 use Rattle.marking.specs.Marks.{MarkedAs}
-use Rattle.marking.proofs.Places.{mark-has}
-use Rattle.laying.specs.Lays.{OnBoard, Source}
+use Rattle.laying.specs.Lays.{Source}
+use Rattle.laying.proofs.Boarding.{on-board}
 use Rattle.laying.proofs.Counting.{held, held-none, laid-slots, laid-nodes}
 use Rattle.storing.specs.Stores.{LaidOut}
 use Rattle.loading.specs.Load.{Ruled}
@@ -106,7 +106,7 @@ module _ {masks bytes : List ℕ} {rule : Formula} (r : Ruled masks bytes rule) 
   abbrev first-board : ℕ
   first-board = orZero (choose (unfolded rule))
 
-  pub rule-within : Within (r .propositions) 0 (unfolded rule)
+  rule-within : Within (r .propositions) 0 (unfolded rule)
   rule-within = unfolded-coded (r .propositions) 0 rule (r .within)
 
   pub rule-size : size rule ≤ 1024
@@ -119,7 +119,7 @@ module _ {masks bytes : List ℕ} {rule : Formula} (r : Ruled masks bytes rule) 
       go none e = inl refl
       go (some c) e = inr refl
 
-  pub first-there : first-board < boardsMost
+  first-there : first-board < boardsMost
   first-there = go (choose (unfolded rule)) refl
     where
       go : (o : Option ℕ) → choose (unfolded rule) ≡ o → orZero o < boardsMost
@@ -167,17 +167,8 @@ module _ {masks bytes : List ℕ} {rule : Formula} (r : Ruled masks bytes rule) 
           boards = λ f c e. chosen-below boardsMost masks (r .few-boards) f c e;
         }
 
-    first-stands : OnBoard choose (encode (unfolded rule)) marks (unfolded rule) [] first-board
-    first-stands =
-        let l = first-there in
-        let b : y .board ≡ first-board = m .board-is ∙ place-given first-board (choiceOf (y .scores .counts)) (λ e. omega arith) in
-        let h = mark-has (getD marks 0 0) (y .here) (y .board) (m .mark-is) (omega arith) (m .small) in
-        record {
-          front = record { coded = wider (r .propositions) 0 64 64 (r .few-propositions) (omega arith) (unfolded rule) rule-within; bytes = sym (append-nil (encode (unfolded rule))) };
-          board-is = h .board-is ∙ b;
-          here-is = h .here-is ∙ m .here-is (r .propositions) 0 masks owned rule-within first-board (inr (refl, l));
-          marked = m .marked (r .propositions) 0 masks owned rule-within;
-        }
+    first-front : Front (encode (unfolded rule)) (unfolded rule) []
+    first-front = record { coded = unfolded-coded 64 64 rule (r .front .coded); bytes = sym (append-nil (encode (unfolded rule))) }
 
     pub first-laid : LaidOut (encode (unfolded rule)) marks (firstOf masks rule)
     unfolding load
@@ -189,6 +180,6 @@ module _ {masks bytes : List ℕ} {rule : Formula} (r : Ruled masks bytes rule) 
           rest = [];
           board = first-board;
           source = first-source;
-          stands = first-stands;
+          stands = on-board (r .propositions) 0 masks y owned rule-within first-front m first-there;
           network-is = refl;
         }

@@ -1,14 +1,11 @@
 -- One slot unfolded and marked: what is asked of unfolding and marking (`unfold-ask`, `mark-ask`), and what was written (`written-is`) and
 -- put (`slot-put`). Assumes nothing.
-use mathlib.Core.Path.{_≡_, refl, sym, ap, ap₂, _∙_}
-use mathlib.Core.List.{List, [], _++_, append-nil}
-use mathlib.Core.Logic.{inr}
+use mathlib.Core.Path.{_≡_, sym, ap, _∙_}
+use mathlib.Core.List.{List, []}
 use Prim.Native.Nat.{ℕ, _+_, _-_, _*_, _<_, _≤_}
 use native.Mathlib.Omega.{arith}
 use lib.ListN.{length, getD, take, drop}
-use lib.Seq.{take-at}
-use Rattle.ltl.specs.Formula.{size, encode}
-use Rattle.ltl.proofs.Texts.{length-encode}
+use Rattle.ltl.specs.Formula.{size}
 use Rattle.masks.specs.Masks.{sumOnes}
 use Rattle.network.specs.Scores.{chosen}
 use Rattle.state.specs.Fields.{slotsIn, masksIn}
@@ -17,17 +14,16 @@ use Rattle.nodes.specs.Begins.{Front, Begins}
 use Rattle.nodes.proofs.Fronts.{front-length}
 use Rattle.scores.specs.Owned.{Table}
 use Rattle.unfolding.specs.declared.Walk.{Walk}
-use Rattle.unfolding.specs.Unfolds.{Room, Unfolds}
-use Rattle.cutting.specs.Cuts.{choiceOf}
-use Rattle.cutting.proofs.Looking.{place-given}
+use Rattle.unfolding.specs.Unfolds.{Room, Unfolds, UnfoldedTo}
+use Rattle.unfolding.proofs.Fronts.{written-bytes, written-front}
 use Rattle.marking.specs.declared.Placed as mark
 use Rattle.marking.specs.Marks.{hereOn, Marking}
-use Rattle.marking.proofs.Places.{mark-has}
+use Rattle.laying.proofs.Boarding.{on-board}
 use Rattle.checking.specs.Slotted.{Spans}
 use Rattle.checking.proofs.Records as records
 use Rattle.counting.proofs.Slots.{slot-placed, slot-numbers, lent-front}
 use Rattle.spreading.specs.Spreads.{unfoldedAt, SlotAsk, PutsSlot}
-use Rattle.spreading.proofs.Room.{slot-within, slot-coded}
+use Rattle.spreading.proofs.Room.{slot-within}
 
 module _ {s : List ℕ} {boards slots nodes m : ℕ} {owner u marks : List ℕ} (ask : SlotAsk s boards slots nodes m owner u marks) where
   there : m < slotsIn s
@@ -45,18 +41,14 @@ module _ {s : List ℕ} {boards slots nodes m : ℕ} {owner u marks : List ℕ} 
     unfold-ask = record { begins = record { formula = formulaAt s m; rest = []; front = slot-front }; room = ask .room }
 
     module _ {u′ : List ℕ} (w : Walk) (h : Unfolds u bytes u′ (w .read) (w .written)) where
+      slot-unfolded : UnfoldedTo (formulaAt s m) u u′ (w .read) (w .written)
+      slot-unfolded = h (formulaAt s m) [] slot-front
+
       pub written-is : w .written ≡ size (unfoldedAt s m)
-      written-is = h (formulaAt s m) [] slot-front .writes
-
-      leaves-is : u′ ≡ encode (unfoldedAt s m) ++ drop (size (unfoldedAt s m)) u
-      leaves-is = h (formulaAt s m) [] slot-front .leaves
-
-      front-of : (n : ℕ) → n ≡ size (unfoldedAt s m) → take n u′ ≡ encode (unfoldedAt s m)
-      front-of n e = ap₂ take e leaves-is ∙ take-at (encode (unfoldedAt s m)) (drop (size (unfoldedAt s m)) u) (size (unfoldedAt s m)) (length-encode (unfoldedAt s m))
+      written-is = slot-unfolded .writes
 
       unfolded-front : Front (take (w .written) u′) (unfoldedAt s m) []
-      unfolded-front =
-          record { coded = slot-coded s (ask .known .passes) m there; bytes = front-of (w .written) written-is ∙ sym (append-nil (encode (unfoldedAt s m))) }
+      unfolded-front = written-front slot-unfolded (slot-front .coded)
 
       pub mark-ask : length u′ ≡ length u → Begins (take (w .written) u′) × Table owner × (length (take (w .written) u′) ≤ length marks) × (length (take (w .written) u′) ≤ 4096)
       mark-ask k =
@@ -71,21 +63,18 @@ module _ {s : List ℕ} {boards slots nodes m : ℕ} {owner u marks : List ℕ} 
 
       pub slot-put : {marks′ : List ℕ} (y : mark.Placed) → Marking owner (take (w .written) u′) board marks′ y → PutsSlot s m u u′ marks′ (w .written)
       slot-put {marks′} y h =
-          let k = h (unfoldedAt s m) [] unfolded-front in
-          let p = sumOnes (masksIn s) in
           let within = slot-within s (ask .known .passes) m there in
           let few = slot-numbers (ask .known) (ask .there) .board in
           let b = records.board-at s boards slots nodes m (slot-placed (ask .known) (ask .there)) in
-          let is : y .board ≡ board = k .board-is ∙ place-given board (choiceOf (y .scores .counts)) (λ e. omega arith) in
-          let has = mark-has (getD marks′ 0 0) (y .here) (y .board) (k .mark-is) (omega arith) (k .small) in
+          let o = on-board (sumOnes (masksIn s)) (slotsIn s) (masksIn s) y (ask .known .owned) within unfolded-front (h (unfoldedAt s m) [] unfolded-front) few in
           record {
             writes = written-is;
-            leaves = leaves-is;
+            leaves = slot-unfolded .leaves;
             stands =
                 record {
-                  bytes = front-of (size (unfoldedAt s m)) refl;
-                  board-is = has .board-is ∙ is ∙ b;
-                  here-is = has .here-is ∙ k .here-is p (slotsIn s) (masksIn s) (ask .known .owned) within board (inr (refl, few)) ∙ ap (hereOn (chosen (masksIn s)) (unfoldedAt s m)) b;
-                  marked = k .marked p (slotsIn s) (masksIn s) (ask .known .owned) within;
+                  bytes = ap (λ (i : ℕ). take i u′) (sym written-is) ∙ written-bytes slot-unfolded;
+                  board-is = o .board-is ∙ b;
+                  here-is = o .here-is ∙ ap (hereOn (chosen (masksIn s)) (unfoldedAt s m)) b;
+                  marked = o .marked;
                 };
           }
