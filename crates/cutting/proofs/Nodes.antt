@@ -13,7 +13,7 @@ use Rattle.ltl.specs.Limits.{boardsMost}
 use Rattle.ltl.specs.Formula.{Formula, leaf, one, two, size, Within}
 use Rattle.ltl.specs.Progression.{unfolded}
 use Rattle.network.specs.Scores.{highest, chosen}
-use Rattle.scores.specs.Scored.{countsMost}
+use Rattle.scores.specs.Scored.{countsBelow}
 use Rattle.scores.specs.Owned.{Owned}
 use Rattle.scores.specs.Tallies.{Counted}
 use Rattle.scores.proofs.Counting.{counted-one, counted-two, counted-chosen}
@@ -94,7 +94,7 @@ unfolded-few (one Always f) l = omega (arith, unfolded-few f (omega arith))
 unfolded-few (two (Joined j) f g) l = omega (arith, unfolded-few f (omega arith), unfolded-few g (omega arith))
 unfolded-few (two Until f g) l = omega (arith, unfolded-few f (omega arith), unfolded-few g (omega arith))
 
-pub joinable : {owner : List ℕ} {f g : Formula} {a b : Part} (on : ℕ) → Parted owner f boardsMost a → Parted owner g on b → size f + size g < countsMost → Joinable a b
+pub joinable : {owner : List ℕ} {f g : Formula} {a b : Part} (on : ℕ) → Parted owner f boardsMost a → Parted owner g on b → size f + size g < countsBelow → Joinable a b
 joinable {b = b} on h k l =
     record {
       scores = λ i. (let x = h .scored .few i in let y = k .scored .few i in omega arith);

@@ -20,7 +20,7 @@ use Rattle.ltl.specs.Progression.{unfolded}
 use Rattle.nodes.specs.Begins.{Front}
 use Rattle.nodes.proofs.Fronts.{Parts, isZero, Single, Double}
 use Rattle.nodes.proofs.Operands.{right-at}
-use Rattle.scores.specs.Scored.{added, countsMost, Few}
+use Rattle.scores.specs.Scored.{added, countsBelow, Few}
 use Rattle.scores.specs.Owned.{ownerOf}
 use Rattle.scores.specs.Tallies as tallies
 use Rattle.scores.proofs.Counting.{counted-leaf, counted-one, counted-two}
@@ -98,7 +98,7 @@ module _ {owner : List ℕ} {f : Formula} {a : Counted} (h : Walked owner f boar
       joinable boardsMost (h .parted) (parted-next boardsMost x b f (h .raw)) (let y = unfolded-few f (omega arith) in omega arith)
 
 module _ {owner : List ℕ} {f g : Formula} {a c : Counted} (h : Walked owner f boardsMost a) (k : Walked owner g boardsMost c) (l : size f + size g < 4096) where
-  pub raws-few : (i : ℕ) → getD (a .raw .counts) i 0 + getD (c .raw .counts) i 0 < countsMost
+  pub raws-few : (i : ℕ) → getD (a .raw .counts) i 0 + getD (c .raw .counts) i 0 < countsBelow
   raws-few i = let x = h .raw .few i in let y = k .raw .few i in omega arith
 
   pub both-joinable : Joinable (a .part) (c .part)

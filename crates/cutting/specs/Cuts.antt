@@ -18,7 +18,7 @@ use Rattle.ltl.specs.Formula.{Formula, leaf, one, two, size, Within}
 use Rattle.ltl.specs.Progression.{unfolded}
 use Rattle.network.specs.Scores.{highest, chosen}
 use Rattle.nodes.specs.Begins.{Front}
-use Rattle.scores.specs.Scored.{oneScored, added, countsMost}
+use Rattle.scores.specs.Scored.{oneScored, added, countsBelow}
 use Rattle.scores.specs.Owned.{Owned}
 use Rattle.scores.specs.Tallies as tallies
 use Rattle.cutting.specs.declared.Part.{Part}
@@ -97,7 +97,7 @@ Bare x counts = (x .scores .counts ≡ counts) × (x .choice ≡ choiceOf counts
 -- ---- two parts under a join
 -- their sums are no overflow
 pub record Joinable (a b : Part) : Type 0 where
-  pub scores : (i : ℕ) → getD (a .scores .counts) i 0 + getD (b .scores .counts) i 0 < countsMost
+  pub scores : (i : ℕ) → getD (a .scores .counts) i 0 + getD (b .scores .counts) i 0 < countsBelow
   pub cuts : a .cuts + b .cuts + 2 < 2 ^ 64
 
 -- the cuts of a part that is looked at by a slot on the board

@@ -13,7 +13,7 @@ use Rattle.ltl.specs.Formula.{Formula, leaf, one, two, size, Within}
 use Rattle.network.specs.Scores.{chosen}
 use Rattle.nodes.specs.Begins.{Front}
 use Rattle.scores.specs.declared.Scores.{Scores}
-use Rattle.scores.specs.Scored.{added, countsMost}
+use Rattle.scores.specs.Scored.{added, countsBelow}
 use Rattle.scores.specs.Owned.{Owned}
 use Rattle.scores.specs.Tallies.{Counted}
 use Rattle.cutting.specs.Cuts.{lookedAs, codeOf, choiceOf, placeOf, staysOn, Lies}
@@ -91,7 +91,7 @@ pub record Small (a : Placed) : Type 0 where
 
 -- no sum of the two is large
 pub record SmallPair (a c : Placed) : Type 0 where
-  pub scores : (i : ℕ) → getD (a .scores .counts) i 0 + getD (c .scores .counts) i 0 < countsMost
+  pub scores : (i : ℕ) → getD (a .scores .counts) i 0 + getD (c .scores .counts) i 0 < countsBelow
   pub reads : a .read + c .read < 4096
   pub left : a .here ≤ a .read
   pub right : c .here ≤ c .read

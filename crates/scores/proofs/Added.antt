@@ -5,7 +5,7 @@ use mathlib.Core.List.{List, [], _∷_}
 use Prim.Native.Nat.{ℕ, zero, suc, _+_, _<_, _≤_}
 use native.Mathlib.Omega.{arith}
 use lib.ListN.{length, set, getD, replicate}
-use Rattle.scores.specs.Scored.{added, countsMost, Few}
+use Rattle.scores.specs.Scored.{added, countsBelow, Few}
 
 -- the first n counts added, the others as they were
 unfoldable pub addedTo : ℕ → List ℕ → List ℕ → List ℕ
@@ -56,7 +56,7 @@ pub added-few : (xs ys : List ℕ) (m n k : ℕ) → ((b : ℕ) → getD xs b 0 
     → (b : ℕ) → getD (added xs ys) b 0 ≤ k
 added-few xs ys m n k h g l b = omega (arith, added-under xs ys b, h b, g b)
 
-pub sums-few : (xs ys : List ℕ) → ((b : ℕ) → getD xs b 0 + getD ys b 0 < countsMost) → Few (added xs ys)
+pub sums-few : (xs ys : List ℕ) → ((b : ℕ) → getD xs b 0 + getD ys b 0 < countsBelow) → Few (added xs ys)
 sums-few xs ys h b = omega (arith, added-under xs ys b, h b)
 
 pub zeros-few : (n b : ℕ) → getD (replicate n 0) b 0 ≤ 1

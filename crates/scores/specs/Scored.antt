@@ -23,11 +23,11 @@ added (x ∷ xs) [] = []
 added (x ∷ xs) (y ∷ ys) = (x + y) ∷ added xs ys
 
 -- no count is as large: a board's number has room beside it
-abbrev pub countsMost : ℕ
-countsMost = 134217728
+abbrev pub countsBelow : ℕ
+countsBelow = 134217728
 
 abbrev pub Few : List ℕ → Type 0
-Few counts = (b : ℕ) → getD counts b 0 < countsMost
+Few counts = (b : ℕ) → getD counts b 0 < countsBelow
 
 -- the board that a part is chosen for; none where it stays
 abbrev pub boardOf : Choice → Option ℕ

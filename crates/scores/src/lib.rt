@@ -10,7 +10,7 @@ ghost use Rattle.ltl.specs.Formula.{leaf};
 ghost use Rattle.ltl.specs.Limits.{boardsMost, nodesMost};
 ghost use Rattle.network.specs.Scores.{highest};
 ghost use Rattle.nodes.specs.Begins.{Begins};
-ghost use Rattle.scores.specs.Scored.{oneScored, added, countsMost, Few, boardOf};
+ghost use Rattle.scores.specs.Scored.{oneScored, added, countsBelow, Few, boardOf};
 ghost use Rattle.scores.specs.Owned.{Table, Owns, ownerOf};
 ghost use Rattle.scores.specs.Tallies.{Counted, Tallies};
 use kinds::Kind;
@@ -20,7 +20,7 @@ use kinds::Leaf;
 const NO_BOARD: u8 = 16;
 
 // No count is as large: a key has room for it beside the board.
-const COUNTS_MOST: u32 = 134217728;
+const COUNTS_BELOW: u32 = 134217728;
 
 // How often each board's propositions occur in a part; a board that is not there counts 0.
 pub struct Scores {
@@ -51,7 +51,7 @@ impl Scores {
     }
 
     pub fn plus(self, other: Scores) -> Scores
-        requires { ⌜ ((b : ℕ) → getD (self .counts) b 0 + getD (other .counts) b 0 < countsMost) ⌝ }
+        requires { ⌜ ((b : ℕ) → getD (self .counts) b 0 + getD (other .counts) b 0 < countsBelow) ⌝ }
         ensures { λ r. ⌜ r .counts ≡ added (self .counts) (other .counts) ⌝ }
     {
         let mut sums = self.counts;
@@ -75,7 +75,7 @@ impl Scores {
         let mut most: u32 = 0;
         let mut b: usize = 0;
         while b < 16 {
-            let key = counts[b] % COUNTS_MOST * 16 + (15 - b as u32);
+            let key = counts[b] % COUNTS_BELOW * 16 + (15 - b as u32);
             if most < key {
                 most = key;
             }
