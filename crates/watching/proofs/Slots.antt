@@ -13,13 +13,13 @@ use Rattle.kinds.specs.declared.Leaf.the-variants.{Const, Prop, Hold}
 use Rattle.kinds.specs.declared.Unary.the-variants.{Not, Next, Eventually, Always}
 use Rattle.kinds.specs.declared.Binary.the-variants.{Joined, Until}
 use Rattle.ltl.specs.Formula.{Formula, leaf, one, two, Within}
-use Rattle.ltl.specs.Text.{textOf}
+use Rattle.ltl.specs.Text.{textOf, someFormula}
 use Rattle.masks.specs.Masks.{sumOnes}
 use Rattle.network.proofs.Laying.{HoldsIn}
 use Rattle.network.proofs.Holding.{holds-map}
 use Rattle.state.specs.Fields.{boardsIn, slotsIn, nodesAt, maskIn, sampledIn, masksIn, slotRecordAt, boardOfIn, steppedIn, startIn, lengthIn, stretchEnd, slotBytes, formulaIn}
 use Rattle.state.specs.Clauses.{allZero, unfoldedOwn, loneOther, isConstantIn, recordOk, formulaOk, gapOk}
-use Rattle.state.specs.Bytes.{someFormula, formulaAt}
+use Rattle.state.specs.Bytes.{formulaAt}
 use Rattle.passing.proofs.Passing.{SlotPassing}
 use Rattle.passing.proofs.Held.{slot-holds, slot-held}
 use Rattle.watching.proofs.Puts.{run-same}
