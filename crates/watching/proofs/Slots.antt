@@ -26,6 +26,10 @@ use Rattle.watching.proofs.Puts.{run-same}
 use Rattle.watching.proofs.Framed.{Framed, boards-same, slots-same, nodes-at-same, record-at-same, masks-same, board-of-same, start-same, end-same}
 use Rattle.watching.proofs.Parts.{record-of, formula-of}
 
+-- a flag that is not 1 is 0
+pub zero-flag : (n : ℕ) → n ≤ 1 → (n ≡ 1 → ⊥) → n ≡ 0
+zero-flag n a b = omega arith
+
 -- two facts of each place holder
 pub holds-both : (Q R : ℕ → Type 0) (f : Formula) → HoldsIn Q f → HoldsIn R f → HoldsIn (λ m. Q m × R m) f
 holds-both Q R (leaf (Const v)) x y = tt
@@ -121,7 +125,4 @@ module _ (s t : List ℕ) (f : Framed s t) (k : ℕ) (l : k < slotsIn s) (x : Sa
             g (holds-both _ _ g holds (slot-held s k p e′));
         not-lone = ap (λ (m : ℕ). loneOther m g) mask ∙ p .not-lone e′;
       }))
-      (λ e. (let w = p .flag in let m = x .mark in ap (λ (m : ℕ). unfoldedOwn m g) mask ∙ p .own (not-one (steppedIn s k) w (λ q. e (m ∙ q)))))
-    where
-      not-one : (n : ℕ) → n ≤ 1 → (n ≡ 1 → ⊥) → n ≡ 0
-      not-one n a b = omega arith
+      (λ e. (let w = p .flag in let m = x .mark in ap (λ (m : ℕ). unfoldedOwn m g) mask ∙ p .own (zero-flag (steppedIn s k) w (λ q. e (m ∙ q)))))
