@@ -17,13 +17,13 @@ use Rattle.ltl.specs.Formula.{size, encode}
 use Rattle.ltl.specs.Formula as formula
 use Rattle.ltl.specs.Meaning.{Event}
 use Rattle.ltl.specs.Progression.{unfolded, progressed, verdictOf}
-use Rattle.ltl.specs.Text.{textOf, ruleText}
+use Rattle.ltl.specs.Text.{textOf, ruleText, formulaOf, someFormula}
 use Rattle.lists.proofs.Tests.{both-0, both-1}
 use Rattle.ltl.proofs.Texts.{rule-is, text-of, wider}
 use Rattle.nodes.specs.Begins.{Front}
 use Rattle.unfolding.specs.Unfolds.{Counted}
 use Rattle.central.specs.declared.CentralAnswer.the-variants.{Refused, Progressed}
-use Rattle.central.specs.Central.{lengthsOk, formulaOf, someFormula, answerOf, centralSays, Centrally, ProgressedTo}
+use Rattle.central.specs.Central.{lengthsOk, answerOf, centralSays, Centrally, ProgressedTo}
 
 -- ---- what the checks tell
 pub record Sized (n room : ℕ) : Type 0 where

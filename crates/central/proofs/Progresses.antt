@@ -3,18 +3,18 @@
 use mathlib.Core.Path.{_≡_, refl, ap, ap₂, _∙_}
 use mathlib.Core.Bool.{true, false}
 use mathlib.Core.List.{List, _++_}
-use Prim.Native.Nat.{ℕ, _+_, _^_}
-use native.Mathlib.Nat.{zero-div}
+use Prim.Native.Nat.{ℕ, _+_}
 use native.Mathlib.Omega.{arith}
 use lib.ListN.{length, getD, drop}
 use borrow.Author.Tests.{ne-eqb}
-use Rattle.lists.specs.Tests.{pick, bit}
+use Rattle.lists.specs.Tests.{pick}
 use Rattle.lists.specs.Runs.{padded}
 use Rattle.kinds.specs.declared.Leaf.the-variants.{Const, Prop, Hold}
 use Rattle.kinds.specs.declared.Unary.the-variants.{Not, Next, Eventually, Always}
 use Rattle.kinds.specs.declared.Binary.the-variants.{Joined, Until}
 use Rattle.answers.specs.declared.Verdict.{Verdict}
 use Rattle.answers.specs.declared.Verdict.the-variants.{Pending}
+use Rattle.lists.proofs.Tests.{no-bits}
 use Rattle.ltl.specs.Formula.{Formula, leaf, one, two, join, size, encode, Within}
 use Rattle.ltl.specs.Meaning.{Event}
 use Rattle.ltl.specs.Progression.{unfolded, resolved, progressed, verdictOf, filled, filledBy}
@@ -52,16 +52,12 @@ filled-none held h (one Always f) = refl
 filled-none held h (two (Joined j) f g) = ap₂ (join j) (filled-none held h f) (filled-none held h g)
 filled-none held h (two Until f g) = refl
 
-no-bit : (k : ℕ) → bit 0 k ≡ false
-unfolding bit
-no-bit k = rw (zero-div (2 ^ k))
-
 abbrev pub alone : Event → Seen
 alone event = record { event = event; yes = 0; no = 0 }
 
 pub settled-alone : (event : Event) (f : Formula) → settled (alone event) f ≡ resolved event f
 unfolding pick
-settled-alone event f = ap (resolved event) (filled-none (heldBy (alone event)) (λ k. rw (no-bit k)) f)
+settled-alone event f = ap (resolved event) (filled-none (heldBy (alone event)) (λ k. rw (no-bits k)) f)
 
 -- ---- from the unfolded formula in the output to the progressed one, and zeros
 module _ (f : Formula) {out out₁ : List ℕ} {read written : ℕ} (coded : Within 64 64 f) (u : UnfoldedTo f out out₁ read written) where

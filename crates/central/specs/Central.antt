@@ -1,9 +1,8 @@
 -- Progressing a whole rule in one place: the answer and the lent buffer. Assumes nothing: these are definitions.
 use mathlib.Core.Path.{_≡_}
 use Prim.Native.Nat.{ℕ, _≤_}
-use mathlib.Core.Bool.{Bool, false}
+use mathlib.Core.Bool.{Bool}
 use mathlib.Core.List.{List, [], _∷_}
-use mathlib.Core.Option.{Option, none, some}
 use lib.ListN.{length}
 use lib.Dec.{leb, eqb}
 use Rattle.lists.specs.Tests.{pick, both}
@@ -12,10 +11,10 @@ use Rattle.answers.specs.Said.{Said, accepted, refused, left, numberOf, verdict
 use Rattle.answers.specs.declared.Verdict.{Verdict}
 use Rattle.answers.specs.declared.Verdict.the-variants.{False, True, Pending}
 use Rattle.ltl.specs.Limits.{propositionsMost, nodesMost}
-use Rattle.ltl.specs.Formula.{Formula, constant, size, encode}
+use Rattle.ltl.specs.Formula.{Formula, size, encode}
 use Rattle.ltl.specs.Meaning.{Event}
 use Rattle.ltl.specs.Progression.{unfolded, progressed, verdictOf}
-use Rattle.ltl.specs.Text.{textOf, ruleText}
+use Rattle.ltl.specs.Text.{formulaOf, ruleText}
 use Rattle.nodes.specs.Begins.{Front}
 use Rattle.central.specs.declared.CentralAnswer.{CentralAnswer}
 use Rattle.central.specs.declared.CentralAnswer.the-variants.{Refused, Progressed}
@@ -23,14 +22,6 @@ use Rattle.central.specs.declared.CentralAnswer.the-variants.{Refused, P
 -- 1: the formula has 1 to 4,096 bytes and the output 4,096
 unfoldable pub lengthsOk : ℕ → ℕ → Bool
 lengthsOk formula room = both (leb 1 formula) (both (leb formula nodesMost) (eqb room nodesMost))
-
--- the formula that some bytes are; what bytes that are none would be does not matter, since they are refused
-abbrev pub someFormula : Option Formula → Formula
-someFormula none = constant false
-someFormula (some f) = f
-
-abbrev pub formulaOf : List ℕ → Formula
-formulaOf bytes = someFormula (textOf bytes)
 
 -- what the call answers of the progressed formula
 abbrev pub answerOf : Formula → List ℕ

@@ -175,7 +175,7 @@ own-unfolded mask (one Always f) = refl
 own-unfolded mask (two (Joined j) f g) = ap₂ both (own-unfolded mask f) (own-unfolded mask g)
 own-unfolded mask (two Until f g) = refl
 
--- ---- no bits, and all 64
+-- ---- all 64 bits
 bit-low : (p i : ℕ) → bit (2 ^ p - 1) i ≡ ltb i p
 unfolding bit below pick
 bit-low p i = ap (λ (x : ℕ). eqb x 1) (low-bits-bit p i) ∙ go (ltb i p)
@@ -183,9 +183,6 @@ bit-low p i = ap (λ (x : ℕ). eqb x 1) (low-bits-bit p i) ∙ go (ltb i p)
     go : (x : Bool) → eqb (pick x 1 0) 1 ≡ x
     go true = refl
     go false = refl
-
-pub no-bits : (i : ℕ) → bit 0 i ≡ false
-no-bits i = bit-low 0 i ∙ le-ltb i 0 (omega arith)
 
 pub all-bits : (i : ℕ) → i < 64 → bit (2 ^ 64 - 1) i ≡ true
 all-bits i h = bit-low 64 i ∙ lt-ltb i 64 h

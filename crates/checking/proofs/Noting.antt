@@ -12,7 +12,7 @@ use lib.Pow.{pow-lt, pow-add, shl-shr}
 use lib.Bits.{bitOr}
 use borrow.Author.Tests.{lt-ltb, le-ltb, eq-eqb, ne-eqb}
 use Rattle.lists.specs.Tests.{pick, both, either, bit}
-use Rattle.lists.proofs.Tests.{either-right}
+use Rattle.lists.proofs.Tests.{either-right, no-bits}
 use Rattle.masks.specs.Masks.{bitAt}
 use Rattle.masks.proofs.Bits.{bit-less, or-bit, one-shifted}
 use Rattle.state.specs.Clauses.{among, distinct}
@@ -20,7 +20,6 @@ use Rattle.scanning.specs.declared.Held.{Held}
 use Rattle.scanning.specs.declared.Held.the-variants.{Slots, Wrong}
 use Rattle.scanning.specs.OnePass.{noted}
 use Rattle.checking.proofs.Each.{both-false, both-last}
-use Rattle.checking.proofs.Allowing.{no-bits}
 
 pub either-false : (b : Bool) → either b false ≡ b
 unfolding either

@@ -10,6 +10,7 @@ use native.Mathlib.Omega.{arith}
 use lib.ListN.{length, getD, drop}
 use lib.Seq.{drop-cons}
 use borrow.Author.Tests.{lt-ltb, le-ltb}
+use Rattle.kinds.proofs.Codes.{unary-low, binary-low}
 use Rattle.lists.specs.Tests.{pick}
 use Rattle.kinds.specs.declared.Leaf.the-variants.{Const, Prop, Hold}
 use Rattle.kinds.specs.declared.Unary.the-variants.{Not, Next, Eventually, Always}
@@ -18,7 +19,6 @@ use Rattle.kinds.specs.Kinds.{unaryCode, binaryCode}
 use Rattle.ltl.specs.Formula.{Formula, leaf, one, two, encode, Within}
 use Rattle.network.proofs.Owned.{Free, Clean}
 use Rattle.laying.proofs.Counting.{held}
-use Rattle.passing.proofs.Bytes.{unary-low, binary-low}
 use Rattle.counting.specs.Held.{heldAt, heldOver}
 
 module _ (entry : ℕ → ℕ) where

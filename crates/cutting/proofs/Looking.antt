@@ -10,6 +10,7 @@ use native.Mathlib.Omega.{arith}
 use native.Mathlib.Decide.{ℕ-discrete}
 use lib.Dec.{eqb}
 use borrow.Author.Tests.{eq-eqb, ne-eqb, eqb-true, eqb-false}
+use Rattle.lists.proofs.Tests.{either-right}
 use Rattle.lists.specs.Tests.{pick, either}
 use Rattle.ltl.specs.Limits.{boardsMost}
 use Rattle.ltl.specs.Formula.{Formula}
@@ -25,11 +26,7 @@ stays-none board = refl
 
 pub stays-own : (c : ℕ) → staysOn c c ≡ true
 unfolding staysOn either
-stays-own c = rw (eq-eqb c c refl) (go (eqb c boardsMost))
-  where
-    go : (t : Bool) → either t true ≡ true
-    go true = refl
-    go false = refl
+stays-own c = rw (eq-eqb c c refl) (either-right (eqb c boardsMost))
 
 -- a choice that is a board's
 pub stays-board : (c board : ℕ) → (c ≡ boardsMost → ⊥) → staysOn c board ≡ eqb c board

@@ -14,13 +14,13 @@ use Rattle.ltl.specs.Formula.{Formula, size, encode, Within}
 use Rattle.ltl.specs.Meaning.{Event}
 use Rattle.ltl.specs.Progression as ltl
 use Rattle.ltl.specs.Progression.{unfolded, progressedOver, verdictOf}
-use Rattle.ltl.specs.Text.{textOf}
+use Rattle.ltl.specs.Text.{textOf, someFormula, formulaOf}
 use Rattle.ltl.proofs.Texts.{length-encode, text-of, unfolded-coded}
 use Rattle.nodes.specs.Begins.{Front}
 use Rattle.resolving.proofs.Coded.{settled-coded}
 use Rattle.central.specs.declared.Progress.{Progress}
 use Rattle.central.specs.declared.CentralAnswer.the-variants.{Progressed}
-use Rattle.central.specs.Central.{someFormula, formulaOf, answerOf, centralSays, Centrally}
+use Rattle.central.specs.Central.{answerOf, centralSays, Centrally}
 use Rattle.central.proofs.Progresses.{alone, settled-alone}
 use Rattle.rules.specs.RuleFile.{formulaIn}
 use Rattle.asking.specs.declared.Standing.{Standing}

@@ -5,6 +5,7 @@ use Prim.Native.Nat.{ℕ}
 use mathlib.Core.List.{List}
 use lib.ListN.{length, getD}
 use lib.Dec.{eqb}
+use Rattle.ltl.specs.Text.{formulaOf}
 use Rattle.ltl.specs.Limits.{boardsMost, ruleNodesMost, nodesMost}
 use Rattle.lists.specs.Tests.{pick}
 use Rattle.lists.specs.Runs.{padded}
@@ -14,7 +15,7 @@ use Rattle.ltl.specs.Progression.{progressed}
 use Rattle.rules.specs.RuleFile.{fileMost, masksIn, formulaIn, fileOf}
 use Rattle.rules.specs.Read.{readSays}
 use Rattle.rules.specs.Write.{writeSays}
-use Rattle.central.specs.Central.{formulaOf, centralSays}
+use Rattle.central.specs.Central.{centralSays}
 use Rattle.state.specs.Calls.{loadedState, askSays, sampleSays, sampleLeaves, stepSays, stepLeaves, closeSays, closeLeaves}
 use Rattle.loading.specs.Load.{ruleIn, loadSays}
 

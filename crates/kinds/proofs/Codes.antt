@@ -1,4 +1,5 @@
--- The kinds of the bytes by range, and that each node's own byte has its kind. Others use the `kind-..` laws. Assumes nothing.
+-- The kinds of the bytes by range, and that each node's own byte has its kind. Others use the `kind-..` laws, and that an
+-- operator's byte is below those of place holders (`unary-low`, `binary-low`). Assumes nothing.
 use mathlib.Core.Path.{_≡_, refl, _∙_}
 use mathlib.Core.Bool.{Bool, true, false}
 use Prim.Native.Nat.{ℕ, zero, suc, _+_, _-_, _<_, _≤_}
@@ -104,3 +105,15 @@ pub kind-leaf : (a : Leaf) → leafWithin 64 64 a → kindOf (leafCode a) ≡ Ze
 kind-leaf (Const v) h = kind-const v
 kind-leaf (Prop i) h = kind-prop-code i h
 kind-leaf (Hold k) h = kind-hold-code k h
+
+-- ---- place holders alone are 128 and more
+pub unary-low : (o : Unary) → unaryCode o < 128
+unary-low Not = omega arith
+unary-low Next = omega arith
+unary-low Eventually = omega arith
+unary-low Always = omega arith
+
+pub binary-low : (o : Binary) → binaryCode o < 128
+binary-low (Joined And) = omega arith
+binary-low (Joined Or) = omega arith
+binary-low Until = omega arith

@@ -7,7 +7,7 @@ use lib.ListN.{length, take, drop, set, length-append}
 use lib.Seq.{drop-at}
 use Rattle.lists.specs.Runs.{tail, tailAs}
 use Rattle.lists.proofs.Parts.{lent-tail, handed-tail}
-use Rattle.lists.proofs.Stretches.{put-next}
+use Rattle.lists.proofs.Stretches.{put-next, none-long}
 use Rattle.kinds.specs.declared.Leaf.the-variants.{Hold}
 use Rattle.kinds.specs.declared.Unary.{Unary}
 use Rattle.kinds.specs.declared.Binary.{Binary}
@@ -26,10 +26,6 @@ use Rattle.laying.specs.declared.Place.{Place}
 use Rattle.laying.specs.declared.Lain.{Lain}
 use Rattle.laying.specs.Lays.{Lays, Plain}
 use Rattle.laying.proofs.Appending.{nodes-both, bytes-both, records-both, split}
-
-none-long : (l : List ℕ) → length l ≡ 0 → l ≡ []
-none-long [] e = refl
-none-long (x ∷ xs) e = absurd (omega arith)
 
 -- ---- nodes as they are
 pub lays-whole : (f : Formula) (at : Place) (p r p′ : List ℕ) (y : Lain) → p′ ≡ encode f ++ drop (size f) p → Plain (size f) y → Lays (whole f) at p r p′ r y

@@ -5,7 +5,7 @@ use mathlib.Core.Path.{_≡_, refl, sym, ap, ap₂, _∙_}
 use mathlib.Core.List.{List, [], _∷_, _++_, append-assoc}
 use Prim.Native.Nat.{ℕ, zero, suc, _+_, _-_, _<_}
 use native.Mathlib.Omega.{arith}
-use lib.ListN.{length, set, take, drop, replicate}
+use lib.ListN.{length, getD, set, take, drop, replicate}
 use lib.Seq.{take-at, drop-at, drop-drop, take-add}
 use Rattle.lists.specs.Runs.{tail, tailAs}
 use Rattle.lists.proofs.Parts.{lent-tail, handed-tail}
@@ -42,6 +42,11 @@ pub put-first : (p y x : List ℕ) (v n : ℕ) → 0 < length p → y ≡ x ++ d
 put-first p y x v n h e = put-more p (set p 0 v) (v ∷ []) x y 1 n refl (set-first p v h) e
 
 -- ---- runs of one number
+pub zeros-at : (n i : ℕ) → getD (replicate {A = ℕ} n 0) i 0 ≡ 0
+zeros-at zero i = refl
+zeros-at (suc n) zero = refl
+zeros-at (suc n) (suc i) = zeros-at n i
+
 pub drop-replicate : (k n a : ℕ) → drop k (replicate n a) ≡ replicate (n - k) a
 drop-replicate zero n a = let e : n ≡ n - 0 = omega arith in ap (λ (m : ℕ). replicate m a) e
 drop-replicate (suc k) zero a = let e : 0 ≡ 0 - suc k = omega arith in ap (λ (m : ℕ). replicate m a) e
@@ -50,3 +55,8 @@ drop-replicate (suc k) (suc n) a = let e : n - k ≡ suc n - suc k = omega arith
 -- ---- a run taken in two parts
 pub take-two : (s : List ℕ) (at n m : ℕ) → take (n + m) (drop at s) ≡ take n (drop at s) ++ take m (drop (at + n) s)
 take-two s at n m = take-add n m (drop at s) ∙ ap (λ (u : List ℕ). take n (drop at s) ++ take m u) (drop-drop n at s)
+
+-- ---- none
+pub none-long : (l : List ℕ) → length l ≡ 0 → l ≡ []
+none-long [] e = refl
+none-long (x ∷ l) e = absurd (omega arith)

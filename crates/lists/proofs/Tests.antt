@@ -1,11 +1,13 @@
--- Laws of tests: false is not true and none not some, what a test that holds says of its parts, and a value picked by a test.
+-- Laws of tests: false is not true and none not some, what a test that holds says of its parts, a value picked by a test, and that 0 has no bits.
 -- Assumes nothing.
-use mathlib.Core.Path.{_≡_, refl, sym}
+use mathlib.Core.Path.{_≡_, refl, sym, ap}
 use mathlib.Core.Bool.{Bool, true, false}
 use mathlib.Core.Option.{Option, none, some}
-use Prim.Native.Nat.{ℕ}
+use Prim.Native.Nat.{ℕ, _%_, _^_}
+use native.Mathlib.Nat.{zero-div}
 use native.Mathlib.Omega.{arith}
-use Rattle.lists.specs.Tests.{pick, both, either}
+use lib.Dec.{eqb}
+use Rattle.lists.specs.Tests.{pick, both, either, bit}
 
 pub no-true : false ≡ true → ⊥
 no-true e = let z : _≡_ {A = ℕ} 0 1 = cc in omega arith
@@ -50,3 +52,8 @@ pub pick-elim : {A : Type 0} (P : A → Type 0) (b : Bool) (x y : A) → (b ≡ 
 unfolding pick
 pick-elim P true x y h k = h refl
 pick-elim P false x y h k = k refl
+
+-- no bit of 0 is 1
+pub no-bits : (i : ℕ) → bit 0 i ≡ false
+unfolding bit
+no-bits i = ap (λ (x : ℕ). eqb (x % 2) 1) (zero-div (2 ^ i))

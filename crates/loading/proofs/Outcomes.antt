@@ -18,14 +18,14 @@ use Rattle.answers.specs.Said.{Said, accepted, refused, left, numberOf, Check, 
 use Rattle.answers.proofs.Answers.{number-some, left-refused, left-accepted, Passed, order-ok, order-refused, order-done}
 use Rattle.ltl.specs.Formula.{Formula, size, encode, Within}
 use Rattle.ltl.specs.Progression.{unfolded}
-use Rattle.state.specs.Bytes.{nodesOf, someFormula}
+use Rattle.state.specs.Bytes.{nodesOf}
 use Rattle.state.specs.Calls.{firstOf, loadedState}
 use Rattle.scores.specs.Owned.{Owned}
 use Rattle.cutting.specs.declared.Part.{Part}
 use Rattle.cutting.specs.Cuts.{Parted}
 use Rattle.ltl.specs.Limits.{boardsMost, ruleNodesMost}
 use Rattle.masks.specs.Masks.{masksRule}
-use Rattle.ltl.specs.Text.{textOf, ruleText}
+use Rattle.ltl.specs.Text.{textOf, ruleText, someFormula}
 use Rattle.ltl.proofs.Texts.{RuleText, rule-is, text-of, wider}
 use Rattle.rules.specs.declared.reading.Counts.{Counts}
 use Rattle.rules.specs.declared.reading.ReadAnswer.{ReadAnswer}

@@ -12,14 +12,10 @@ use lib.Seq.{getD-append-add}
 use lib.Dec.{eqb, ltb}
 use borrow.Author.Tests.{eq-eqb, ne-eqb, ltb-true, ltb-false}
 use Rattle.lists.specs.Tests.{pick}
-use Rattle.kinds.specs.declared.Unary.{Unary}
-use Rattle.kinds.specs.declared.Unary.the-variants.{Not, Next, Eventually, Always}
-use Rattle.kinds.specs.declared.Join.the-variants.{And, Or}
-use Rattle.kinds.specs.declared.Binary.{Binary}
-use Rattle.kinds.specs.declared.Binary.the-variants.{Joined, Until}
 use Rattle.kinds.specs.declared.Leaf.{Leaf}
 use Rattle.kinds.specs.declared.Leaf.the-variants.{Const, Prop, Hold}
-use Rattle.kinds.specs.Kinds.{leafWithin, leafCode, unaryCode, binaryCode}
+use Rattle.kinds.specs.Kinds.{leafWithin, leafCode}
+use Rattle.kinds.proofs.Codes.{unary-low, binary-low}
 use Rattle.ltl.specs.Limits.{boardsMost}
 use Rattle.ltl.specs.Formula.{Formula, leaf, one, two, size, encode, Within}
 use Rattle.ltl.specs.Progression.{unfolded}
@@ -61,17 +57,6 @@ board-of none h = board-none boardsMost refl
 board-of (some c) h = let l = h c refl in board-some c (λ e. omega arith)
 
 -- ---- no place holder among the bytes of a formula without one
-unary-low : (o : Unary) → unaryCode o < 128
-unary-low Not = omega arith
-unary-low Next = omega arith
-unary-low Eventually = omega arith
-unary-low Always = omega arith
-
-binary-low : (o : Binary) → binaryCode o < 128
-binary-low (Joined And) = omega arith
-binary-low (Joined Or) = omega arith
-binary-low Until = omega arith
-
 leaf-holder : (p : ℕ) → p ≤ 64 → (a : Leaf) → leafWithin p 0 a → (m : ℕ) → leafCode a ≡ leafCode (Hold m) → ⊥
 leaf-holder p few (Const true) w m e = omega arith
 leaf-holder p few (Const false) w m e = omega arith

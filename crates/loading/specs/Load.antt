@@ -10,7 +10,7 @@ use Rattle.answers.specs.Said.{Said, accepted, left, check, inOrder, saidOutcom
 use Rattle.answers.specs.declared.Outcome.{Outcome}
 use Rattle.ltl.specs.Limits.{boardsMost, propositionsMost, ruleNodesMost, nodesMost}
 use Rattle.ltl.specs.Formula.{Formula, Within}
-use Rattle.ltl.specs.Text.{textOf, ruleText}
+use Rattle.ltl.specs.Text.{textOf, ruleText, someFormula}
 use Rattle.masks.specs.Masks.{masksRule}
 use Rattle.network.specs.Layout.{orZero}
 use Rattle.network.specs.Scores.{chosen}
@@ -21,7 +21,7 @@ use Rattle.rules.specs.Read.{offsetsOk}
 use Rattle.scores.specs.Owned.{Table, Owned}
 use Rattle.state.specs.Fields.{stateLength}
 use Rattle.state.specs.Clauses.{slotsMost}
-use Rattle.state.specs.Bytes.{nodesOf, someFormula}
+use Rattle.state.specs.Bytes.{nodesOf}
 use Rattle.state.specs.Calls.{firstOf, loadedState}
 
 -- ---- the promise

@@ -1,4 +1,4 @@
--- Bytes read as a formula. Others use `textOf`, `textOver`, `ruleText` and their laws in proofs/Texts.antt.
+-- Bytes read as a formula. Others use `textOf`, `formulaOf`, `textOver`, `ruleText` and their laws in proofs/Texts.antt.
 -- Assumes nothing: these are definitions.
 use Prim.Native.Nat.{ℕ, zero, suc}
 use mathlib.Core.Bool.{Bool, false}
@@ -10,7 +10,7 @@ use Rattle.kinds.specs.declared.Kind.the-variants.{Zero, One, Two, NoCode}
 use Rattle.kinds.specs.declared.Unary.{Unary}
 use Rattle.kinds.specs.declared.Binary.{Binary}
 use Rattle.kinds.specs.Kinds.{kindOf}
-use Rattle.ltl.specs.Formula.{Formula, leaf, one, two, over}
+use Rattle.ltl.specs.Formula.{Formula, leaf, one, two, constant, over}
 
 -- a formula at the front of some bytes, and the bytes behind it; or none
 pub record Parsed : Type 0 where
@@ -58,6 +58,14 @@ alone (some x) = before (x .behind) (x .formula)
 -- the bytes as one whole formula: no formula has more levels than bytes
 abbrev pub textOf : List ℕ → Option Formula
 textOf l = alone (parse (length l) l)
+
+-- the formula that some bytes are; what bytes that are none would be does not matter, since they are refused
+abbrev pub someFormula : Option Formula → Formula
+someFormula none = constant false
+someFormula (some f) = f
+
+abbrev pub formulaOf : List ℕ → Formula
+formulaOf bytes = someFormula (textOf bytes)
 
 -- one whole formula of the language with propositions below p and place holders below h alone
 abbrev pub overAlone : ℕ → ℕ → Option Formula → Bool

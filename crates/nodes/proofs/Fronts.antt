@@ -122,6 +122,9 @@ double {s = s} {rest = rest} (isTwo {f = g} {g = h} e y z) =
 pub zero-size : {s rest : List ℕ} {f : Formula} {a : Leaf} → Parts s rest f (Zero a) → 1 ≡ size f
 zero-size (isZero w e) = refl
 
+pub leaf-within : {s rest : List ℕ} {f : Formula} {a : Leaf} → Parts s rest f (Zero a) → leafWithin 64 64 a
+leaf-within (isZero w e) = w
+
 pub no-code : {s rest : List ℕ} {f : Formula} → Parts s rest f NoCode → ⊥
 no-code {s} {rest} {f} x = go x refl
   where

@@ -1,5 +1,4 @@
--- A formula's bytes: place holders alone are 128 and more (`unary-low`, `binary-low`), and they are of slots that are there
--- (`holds-formula`, with more bytes behind `holds-append`; for a slot's bytes `bytes-hold`). Assumes nothing.
+-- A formula's place holders among its bytes are of slots that are there (`holds-formula`, with more bytes behind `holds-append`; for a slot's bytes `bytes-hold`). Assumes nothing.
 use mathlib.Core.Path.{ap}
 use mathlib.Core.Bool.{true, false}
 use mathlib.Core.List.{List, [], _∷_, _++_}
@@ -7,12 +6,8 @@ use Prim.Native.Nat.{ℕ, zero, suc, _+_, _<_, _≤_}
 use native.Mathlib.Omega.{arith}
 use lib.ListN.{getD}
 use Rattle.kinds.specs.declared.Leaf.the-variants.{Const, Prop, Hold}
-use Rattle.kinds.specs.declared.Unary.{Unary}
-use Rattle.kinds.specs.declared.Unary.the-variants.{Not, Next, Eventually, Always}
-use Rattle.kinds.specs.declared.Join.the-variants.{And, Or}
-use Rattle.kinds.specs.declared.Binary.{Binary}
-use Rattle.kinds.specs.declared.Binary.the-variants.{Joined, Until}
 use Rattle.kinds.specs.Kinds.{unaryCode, binaryCode}
+use Rattle.kinds.proofs.Codes.{unary-low, binary-low}
 use Rattle.ltl.specs.Formula.{Formula, leaf, one, two, encode, Within}
 use Rattle.masks.specs.Masks.{sumOnes}
 use Rattle.state.specs.Fields.{slotsIn, masksIn, slotBytes}
@@ -20,19 +15,6 @@ use Rattle.state.specs.Bytes.{formulaAt}
 use Rattle.passing.specs.Holds.{Holds}
 use Rattle.passing.proofs.Passing.{SlotPassing}
 
--- ---- the bytes of operators are below those of place holders
-pub unary-low : (o : Unary) → unaryCode o < 128
-unary-low Not = omega arith
-unary-low Next = omega arith
-unary-low Eventually = omega arith
-unary-low Always = omega arith
-
-pub binary-low : (o : Binary) → binaryCode o < 128
-binary-low (Joined And) = omega arith
-binary-low (Joined Or) = omega arith
-binary-low Until = omega arith
-
--- ---- place holders of slots that are there
 holds-cons : (n b : ℕ) (l : List ℕ) → b < 128 + n → Holds n l → Holds n (b ∷ l)
 holds-cons n b l h t zero = h
 holds-cons n b l h t (suc i) = t i

@@ -10,6 +10,7 @@ use native.Mathlib.Omega.{arith}
 use lib.ListN.{length, drop, length-take, length-drop}
 use lib.Dec.{ltb, leb, eqb}
 use borrow.Author.Tests.{ltb-true, leb-true, eqb-true, ne-eqb, eq-eqb, not-true}
+use Rattle.ltl.specs.Text.{someFormula}
 use Rattle.lists.specs.Tests.{pick, both, inRange}
 use Rattle.lists.proofs.Tests.{no-true, both-0, both-1, either-elim}
 use Rattle.ltl.specs.Formula.{Formula, size, encode, Within}
@@ -21,7 +22,7 @@ use Rattle.checking.proofs.Each.{each-at, range-most}
 use Rattle.checking.proofs.Stretched.{in-stretch}
 use Rattle.state.specs.Fields.{stateLength, boardsIn, slotsIn, nodesIn, boardsOffsetIn, slotsOffsetIn, nodesOffsetIn, boardsAt, slotsAt, nodesAt, maskIn, sampleIn, sampledIn, masksIn, boardOfIn, steppedIn, startIn, lengthIn, stretchEnd, slotBytes, formulaIn}
 use Rattle.state.specs.Clauses.{inMask, eachTrue, tidy, unfoldedOwn, loneOther, distinct, isConstantIn, boardOk, recordOk, steppedOk, formulaOk, gapOk, holdersIn, headerOk, masksOk, restOk, stateOk}
-use Rattle.state.specs.Bytes.{someFormula, formulaAt}
+use Rattle.state.specs.Bytes.{formulaAt}
 use Rattle.passing.proofs.Checked.{checked}
 
 -- ---- the header and the masks

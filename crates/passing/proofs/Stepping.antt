@@ -14,7 +14,7 @@ use Rattle.kinds.specs.declared.Binary.the-variants.{Joined, Until}
 use Rattle.answers.specs.declared.Verdict.{Verdict}
 use Rattle.ltl.specs.Formula.{Formula, leaf, one, two, size, encode}
 use Rattle.ltl.specs.Meaning.{Event}
-use Rattle.ltl.specs.Text.{textOf}
+use Rattle.ltl.specs.Text.{textOf, someFormula}
 use Rattle.ltl.specs.Progression.{resolved, filled, verdictOf}
 use Rattle.ltl.proofs.Joining.{joined-elim, negated-elim}
 use Rattle.ltl.proofs.Texts.{length-encode}
@@ -22,7 +22,7 @@ use Rattle.network.proofs.Laying.{HoldsIn}
 use Rattle.network.proofs.Settling.{filled-same}
 use Rattle.state.specs.Fields.{slotsIn, sampleIn, boardOfIn, lengthIn, slotBytes}
 use Rattle.state.specs.Clauses.{stateOk}
-use Rattle.state.specs.Bytes.{someFormula, formulaAt}
+use Rattle.state.specs.Bytes.{formulaAt}
 use Rattle.state.specs.Calls.{steppedTo}
 use Rattle.passing.proofs.Passing.{passing}
 

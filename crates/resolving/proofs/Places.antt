@@ -6,6 +6,7 @@ use Prim.Native.Nat.{ℕ, zero, suc, _+_, _-_, _<_, _≤_}
 use native.Mathlib.Omega.{arith}
 use lib.ListN.{take-append-drop, length, getD, set, take, drop, length-append, length-drop}
 use lib.Seq.{drop-at, drop-drop, length-take-le, getD-append-add}
+use Rattle.lists.proofs.Stretches.{none-long}
 use Rattle.ltl.specs.Formula.{Formula, size, encode}
 use Rattle.ltl.proofs.Texts.{size-some, length-encode}
 use Rattle.resolving.specs.declared.Settled.{Settled}
@@ -15,11 +16,7 @@ use Rattle.resolving.proofs.Firsts.{first, first-is}
 -- the last of some bytes set
 pub set-last : (xs l : List ℕ) (n v : ℕ) → length xs ≡ suc n → set (xs ++ l) n v ≡ take n xs ++ (v ∷ l)
 set-last [] l n v e = absurd (omega arith)
-set-last (x ∷ xs) l zero v e = ap (λ (k : List ℕ). v ∷ (k ++ l)) (none xs (omega arith))
-  where
-    none : (ys : List ℕ) → length ys ≡ 0 → ys ≡ []
-    none [] h = refl
-    none (y ∷ ys) h = absurd (omega arith)
+set-last (x ∷ xs) l zero v e = ap (λ (k : List ℕ). v ∷ (k ++ l)) (none-long xs (omega arith))
 set-last (x ∷ xs) l (suc n) v e = ap (x ∷_) (set-last xs l n v (omega arith))
 
 -- ---- a result at the front, over bytes that were read up to `next`

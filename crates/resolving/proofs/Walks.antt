@@ -16,7 +16,7 @@ use Rattle.kinds.specs.declared.Join.{Join}
 use Rattle.kinds.specs.declared.Binary.the-variants.{Joined}
 use Rattle.kinds.specs.declared.Kind.{Kind}
 use Rattle.kinds.specs.declared.Kind.the-variants.{Zero}
-use Rattle.kinds.specs.Kinds.{leafWithin, kindOf, leafCode, joinCode}
+use Rattle.kinds.specs.Kinds.{kindOf, leafCode, joinCode}
 use Rattle.ltl.specs.Formula.{Formula, leaf, one, size, encode}
 use Rattle.ltl.specs.Progression.{negated, deciding, joined}
 use Rattle.ltl.proofs.Texts.{size-some, length-encode}
@@ -81,22 +81,19 @@ pub settles-read : {g g′ : Formula} {read read′ : ℕ} {p rest : List ℕ} {
 settles-read e r x = settles-as e (x .stands) (x .reads ∙ r)
 
 -- a leaf becomes a byte at the front
-leaf-is : {s rest : List ℕ} {f : Formula} {a : Leaf} → Parts s rest f (Zero a) → (f ≡ leaf a) × leafWithin 64 64 a
-leaf-is (isZero w e) = (refl, w)
+leaf-is : {s rest : List ℕ} {f : Formula} {a : Leaf} → Parts s rest f (Zero a) → f ≡ leaf a
+leaf-is (isZero w e) = refl
 
 pub leaf-settles : (seen : Seen) (p : List ℕ) (from : ℕ) (f : Formula) (rest : List ℕ) → Front (drop from p) f rest → {a : Leaf} → Parts (drop from p) rest f (Zero a)
     → (b : ℕ) → b ≡ leafCode (settledLeaf seen a) → Settles (settled seen f) (from + size f) (set p 0 b) rest (record { next = from + 1; start = 0; end = 1 })
 leaf-settles seen p from f rest x {a = a} y b e =
     let z = leaf-is y in
-    let s : size f ≡ 1 = ap size (z .0) in
+    let s : size f ≡ 1 = ap size z in
     let l = front-at p from f rest x in
     let r : drop (from + 1) p ≡ rest = ap (λ (n : ℕ). drop (from + n) p) (sym s) ∙ front-behind p from f rest x in
-    settles-as (ap (settled seen) (z .0) ∙ settled-leaf seen a)
+    settles-as (ap (settled seen) z ∙ settled-leaf seen a)
     (stands-front (leaf (settledLeaf seen a)) p (set p 0 b) rest (from + 1) (set-first p b (omega arith) ∙ ap (_∷ drop 1 p) e) (omega arith) r (omega arith))
     (ap (from +_) (sym s))
-
-pub leaf-within : {s rest : List ℕ} {f : Formula} {a : Leaf} → Parts s rest f (Zero a) → leafWithin 64 64 a
-leaf-within y = leaf-is y .1
 
 -- ---- the operand one place on, in the part behind the first byte
 pub begins-behind : (p : List ℕ) (from : ℕ) → drop from (tail 1 p) ≡ drop (from + 1) p

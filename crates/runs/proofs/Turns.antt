@@ -2,7 +2,7 @@
 use mathlib.Core.Path.{_≡_, refl, sym, ap, _∙_}
 use mathlib.Core.Bool.{Bool, true, false}
 use mathlib.Core.List.{List, [], _∷_, _++_}
-use Prim.Native.Nat.{ℕ, zero, suc, _+_, _<_, _≤_}
+use Prim.Native.Nat.{ℕ, _+_, _<_, _≤_}
 use native.Mathlib.Nat.{add-comm}
 use native.Mathlib.Numerals.{add-one}
 use native.Mathlib.Omega.{arith}
@@ -12,19 +12,15 @@ use lib.Dec.{eqb}
 use borrow.Author.Tests.{eq-eqb, ne-eqb, eqb-true}
 use Rattle.lists.specs.Tests.{both}
 use Rattle.lists.proofs.Overlay.{overlaid, overlaid-more, overlaid-behind}
+use Rattle.lists.proofs.Stretches.{zeros-at}
 use Rattle.runs.specs.Starts.{starts}
-
-getD-zeros : (n i : ℕ) → getD (replicate {A = ℕ} n 0) i 0 ≡ 0
-getD-zeros zero i = refl
-getD-zeros (suc n) zero = refl
-getD-zeros (suc n) (suc i) = getD-zeros n i
 
 pub cleared-more : (p : List ℕ) (i : ℕ) → i < length p
     → set (overlaid i (replicate (length p) 0) p) i 0 ≡ overlaid (i + 1) (replicate (length p) 0) p
 cleared-more p i h =
     let zs : List ℕ = replicate (length p) 0 in
     let l : length zs ≡ length p = length-replicate {A = ℕ} (length p) 0 in
-    ap (λ (v : ℕ). set (overlaid i zs p) i v) (sym (getD-zeros (length p) i)) ∙ overlaid-more zs p i (omega arith) h
+    ap (λ (v : ℕ). set (overlaid i zs p) i v) (sym (zeros-at (length p) i)) ∙ overlaid-more zs p i (omega arith) h
 
 pub slid-more : (p : List ℕ) (from i : ℕ) → from + i < length p
     → set (overlaid i (drop from p) p) i (getD (overlaid i (drop from p) p) (from + i) 0) ≡ overlaid (i + 1) (drop from p) p

@@ -5,6 +5,7 @@ use mathlib.Core.List.{List, [], _∷_}
 use Prim.Native.Nat.{ℕ, zero, suc, _+_, _<_, _≤_}
 use native.Mathlib.Omega.{arith}
 use lib.ListN.{length, set, getD, replicate}
+use Rattle.lists.proofs.Stretches.{zeros-at}
 use Rattle.scores.specs.Scored.{added, countsBelow, Few}
 
 -- the first n counts added, the others as they were
@@ -60,9 +61,7 @@ pub sums-few : (xs ys : List ℕ) → ((b : ℕ) → getD xs b 0 + getD ys b 0 <
 sums-few xs ys h b = omega (arith, added-under xs ys b, h b)
 
 pub zeros-few : (n b : ℕ) → getD (replicate n 0) b 0 ≤ 1
-zeros-few zero b = omega arith
-zeros-few (suc n) zero = omega arith
-zeros-few (suc n) (suc b) = zeros-few n b
+zeros-few n b = omega (arith, zeros-at n b)
 
 pub one-few : (xs : List ℕ) (c b : ℕ) → ((j : ℕ) → getD xs j 0 ≤ 1) → getD (set xs c 1) b 0 ≤ 1
 one-few [] c b h = h b

@@ -14,6 +14,7 @@ use borrow.Author.Tests.{lt-ltb, le-ltb, ltb-true, ltb-false}
 use Rattle.lists.specs.Tests.{pick}
 use Rattle.ltl.specs.Limits.{boardsMost}
 use Rattle.network.specs.Scores.{highest}
+use Rattle.lists.proofs.Stretches.{zeros-at}
 use Rattle.scores.specs.Scored.{noneScored, oneScored}
 use Rattle.scores.proofs.Padding.{highest-zeros}
 
@@ -27,11 +28,6 @@ passed own b l = rw (lt-ltb own b l)
 ahead : (own b : ℕ) → b ≤ own → aloneTo own b ≡ noneScored
 unfolding aloneTo pick
 ahead own b l = rw (le-ltb own b l)
-
-zeros-at : (n b : ℕ) → getD (replicate {A = ℕ} n 0) b 0 ≡ 0
-zeros-at zero b = refl
-zeros-at (suc n) zero = refl
-zeros-at (suc n) (suc b) = zeros-at n b
 
 -- a 0 stored where one stands
 set-zero : (xs : List ℕ) (b : ℕ) → getD xs b 0 ≡ 0 → set xs b 0 ≡ xs

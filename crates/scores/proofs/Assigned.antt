@@ -10,13 +10,14 @@ use lib.ListN.{length, getD, drop, drop-of-length-le}
 use lib.Seq.{drop-cons}
 use lib.Dec.{eqb}
 use borrow.Author.Tests.{lt-ltb, eq-eqb, ne-eqb}
+use Rattle.lists.proofs.Tests.{no-bits}
 use Rattle.lists.specs.Tests.{pick, bit}
 use Rattle.masks.specs.Masks.{masksRule, bitAt}
 use Rattle.masks.proofs.Bits.{bit-less}
 use Rattle.masks.proofs.Exact.{owners, below, exact}
 use Rattle.ltl.specs.Limits.{boardsMost, propositionsMost}
 use Rattle.scores.specs.Owned.{Table, Owned, Owns}
-use Rattle.scores.proofs.Tests.{bit-yes, bit-no, bit-none, eqb-suc}
+use Rattle.scores.proofs.Tests.{bit-yes, bit-no, eqb-suc}
 
 -- the owner of proposition i, which is x before the masks of the boards from b on are looked at
 unfoldable pub assigned : ℕ → ℕ → List ℕ → ℕ → ℕ
@@ -51,7 +52,7 @@ assigned-kept (m ∷ ms) i x b h = rw (h 0) (assigned-kept ms i x (suc b) (λ j.
 
 none-has : (masks : List ℕ) (i : ℕ) → owners masks i ≡ 0 → (j : ℕ) → bit (getD masks j 0) i ≡ false
 unfolding owners
-none-has [] i h j = bit-none i
+none-has [] i h j = no-bits i
 none-has (m ∷ ms) i h zero = bit-no m i (omega arith)
 none-has (m ∷ ms) i h (suc j) = none-has ms i (omega arith) j
 

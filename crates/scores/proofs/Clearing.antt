@@ -9,10 +9,11 @@ use native.Mathlib.Decide.{ℕ-discrete}
 use lib.ListN.{length, getD, set}
 use lib.Seq.{getD-set-same, getD-set-other}
 use lib.Bits.{bitAnd, and-step, and-self}
+use Rattle.lists.proofs.Tests.{no-bits}
 use Rattle.lists.specs.Tests.{pick, bit}
 use Rattle.masks.specs.Masks.{bitAt}
 use Rattle.masks.proofs.Bits.{bit-zero, bit-suc}
-use Rattle.scores.proofs.Tests.{bit-yes, bit-no, bit-none, bit-same}
+use Rattle.scores.proofs.Tests.{bit-yes, bit-no, bit-same}
 
 -- the lowest proposition of a mask is cleared
 abbrev pub cleared : ℕ → ℕ
@@ -79,4 +80,4 @@ own-more owner m p v z h l i = go (ℕ-discrete i p)
 -- nothing is left
 pub own-done : (i v x : ℕ) → pick (bit 0 i) v x ≡ x
 unfolding pick
-own-done i v x = rw (bit-none i)
+own-done i v x = rw (no-bits i)

@@ -15,7 +15,6 @@ use Rattle.kinds.specs.declared.Leaf.the-variants.{Const, Prop, Hold}
 use Rattle.kinds.specs.declared.Unary.{Unary}
 use Rattle.kinds.specs.declared.Binary.{Binary}
 use Rattle.kinds.specs.declared.Kind.the-variants.{Zero}
-use Rattle.kinds.specs.Kinds.{leafWithin}
 use Rattle.ltl.specs.Limits.{boardsMost}
 use Rattle.ltl.specs.Formula.{Formula, leaf, one, two, size, encode, Within}
 use Rattle.ltl.proofs.Texts.{size-some}
@@ -73,9 +72,6 @@ counted-chosen {f = f} p q masks c o w = ap (highest none 0 0) (c .scores p q ma
 pub tallied-leaf : {s rest : List ℕ} {f : Formula} {a : Leaf} {owner counts : List ℕ} → Parts s rest f (Zero a) → Counted owner (leaf a) counts
     → (1 ≡ size f) × Counted owner f counts
 tallied-leaf (isZero w e) c = (refl, c)
-
-pub leaf-coded : {s rest : List ℕ} {f : Formula} {a : Leaf} → Parts s rest f (Zero a) → leafWithin 64 64 a
-leaf-coded (isZero w e) = w
 
 -- a node with one operand
 pub tallied-one : {s rest : List ℕ} {f : Formula} {o : Unary} {r : ℕ} {owner counts : List ℕ} → Single s rest f o → Tallies owner (tail 1 s) r counts

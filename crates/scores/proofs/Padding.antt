@@ -11,11 +11,11 @@ use lib.Dec.{eqb, ltb}
 use borrow.Author.Tests.{eq-eqb, ne-eqb, le-ltb}
 use Rattle.lists.specs.Tests.{pick, bit}
 use Rattle.lists.specs.Runs.{padded}
-use Rattle.lists.proofs.Tests.{no-true}
+use Rattle.lists.proofs.Tests.{no-true, no-bits}
 use Rattle.ltl.specs.Formula.{Formula}
 use Rattle.network.specs.Scores.{scoresOf, highest, chosen}
 use Rattle.scores.specs.Scored.{added}
-use Rattle.scores.proofs.Tests.{bit-none, eqb-suc}
+use Rattle.scores.proofs.Tests.{eqb-suc}
 
 padded-cons : (n x : ℕ) (l : List ℕ) → padded n (x ∷ l) ≡ x ∷ padded (n - 1) l
 padded-cons n x l = let e : n - suc (length l) ≡ n - 1 - length l = omega arith in ap (λ (k : ℕ). x ∷ (l ++ replicate {A = ℕ} k 0)) e
@@ -64,7 +64,7 @@ occurs-no i mask e = rw e
 
 pub one-padded : (n b i : ℕ) (masks : List ℕ) → length masks ≤ n → ((j : ℕ) → bit (getD masks j 0) i ≡ eqb b j)
     → set (replicate n 0) b 1 ≡ padded n (map (occurs i) masks)
-one-padded n b i [] l h = absurd (no-true (sym (bit-none i) ∙ h b ∙ eq-eqb b b refl))
+one-padded n b i [] l h = absurd (no-true (sym (no-bits i) ∙ h b ∙ eq-eqb b b refl))
 one-padded zero b i (m ∷ ms) l h = absurd (omega arith)
 one-padded (suc n) zero i (m ∷ ms) l h =
     padded-more n 1 (replicate n 0) (occurs i) m ms

@@ -1,8 +1,7 @@
 -- A bit as a test, and equal numbers. Assumes nothing.
 use mathlib.Core.Path.{_≡_, sym, ap, _∙_}
 use mathlib.Core.Bool.{true, false}
-use Prim.Native.Nat.{ℕ, suc, _%_, _^_}
-use native.Mathlib.Nat.{zero-div}
+use Prim.Native.Nat.{ℕ, suc}
 use native.Mathlib.Omega.{arith}
 use native.Mathlib.Decide.{ℕ-discrete}
 use lib.Dec.{eqb}
@@ -21,10 +20,6 @@ bit-no m i e = rw e
 pub bit-same : (m n i : ℕ) → bitAt m i ≡ bitAt n i → bit m i ≡ bit n i
 unfolding bit
 bit-same m n i e = rw e
-
--- a board that is not there has no proposition
-pub bit-none : (i : ℕ) → bit 0 i ≡ false
-bit-none i = bit-no 0 i (ap (λ (x : ℕ). x % 2) (zero-div (2 ^ i)))
 
 pub eqb-suc : (a b : ℕ) → eqb (suc a) (suc b) ≡ eqb a b
 eqb-suc a b = go (ℕ-discrete a b)

@@ -11,10 +11,9 @@ use Rattle.kinds.specs.Kinds.{kindOf}
 use Rattle.le.specs.Le.{le, leAt}
 use Rattle.masks.specs.Masks.{sumTo, onesOf, sumOnes, unionWith, masksRule}
 use Rattle.ltl.specs.Formula.{leafOver, over}
-use Rattle.ltl.specs.Text.{textOver}
+use Rattle.ltl.specs.Text.{textOver, formulaOf}
 use Rattle.rules.specs.RuleFile.{countsOk, maskBytes, fileOf, masksFrom}
 use Rattle.rules.specs.Read.{offsetsOk}
-use Rattle.central.specs.Central.{formulaOf}
 use Rattle.network.specs.Scores.{highest, chosen}
 use Rattle.network.specs.Layout.{Slot, looked, laid, load}
 use Rattle.state.specs.Fields.{stateLength}

@@ -12,8 +12,8 @@ use Rattle.kinds.specs.Kinds.{kindOf}
 use Rattle.ltl.specs.Formula.{encode, sameBool, sameLeaf, same, leafOver, over}
 use Rattle.ltl.specs.Meaning.{Event}
 use Rattle.ltl.specs.Progression.{isConstant, negated, member, joined, progressed, progressedOver}
-use Rattle.ltl.specs.Text.{textOver}
-use Rattle.central.specs.Central.{lengthsOk, formulaOf, centralSays}
+use Rattle.ltl.specs.Text.{textOver, formulaOf}
+use Rattle.central.specs.Central.{lengthsOk, centralSays}
 
 -- progressing the bytes of a formula over one event gives the bytes of another: what the call answers, and what it leaves
 pub record Gives (before : List ℕ) (event : Event) (verdict : Verdict) (after : List ℕ) : Type 0 where

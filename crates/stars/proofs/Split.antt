@@ -14,10 +14,9 @@ use Rattle.le.specs.Le.{le, leAt}
 use Rattle.masks.specs.Masks.{sumTo, onesOf, sumOnes, unionWith, masksRule}
 use Rattle.ltl.specs.Formula.{sameBool, leafOver, over}
 use Rattle.ltl.specs.Progression.{unfolded, isConstant, joined}
-use Rattle.ltl.specs.Text.{textOver}
+use Rattle.ltl.specs.Text.{textOver, formulaOf}
 use Rattle.rules.specs.RuleFile.{countsOk, maskBytes, fileOf, masksFrom}
 use Rattle.rules.specs.Read.{offsetsOk}
-use Rattle.central.specs.Central.{formulaOf}
 use Rattle.network.specs.Scores.{highest, chosen}
 use Rattle.network.specs.Layout.{Slot, looked, laid, load, close}
 use Rattle.network.specs.Tick.{holdsOnly}

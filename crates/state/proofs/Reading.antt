@@ -11,11 +11,11 @@ use lib.Seq.{take-at, drop-at, drop-drop, getD-append-add}
 use Rattle.le.specs.Le.{le, leAt}
 use Rattle.le.proofs.Laws.{le-length, leAt-behind, leAt-le}
 use Rattle.ltl.specs.Formula.{size, encode, Within}
-use Rattle.ltl.specs.Text.{textOf}
+use Rattle.ltl.specs.Text.{textOf, someFormula}
 use Rattle.ltl.proofs.Texts.{length-encode, text-of}
 use Rattle.network.specs.Layout.{Slot, slotAt}
 use Rattle.state.specs.Fields.{stateLength, boardsIn, slotsIn, nodesIn, boardsAt, slotsAt, nodesAt, boardOfIn, steppedIn, startIn, lengthIn, slotBytes, formulaIn}
-use Rattle.state.specs.Bytes.{nodesOf, header, boardRecords, slotRecords, nodeBytes, stateOf, someFormula, slotsFrom, networkOf}
+use Rattle.state.specs.Bytes.{nodesOf, header, boardRecords, slotRecords, nodeBytes, stateOf, slotsFrom, networkOf}
 
 -- a field behind other bytes
 pub skip : (m v : ℕ) (x : List ℕ) (at n : ℕ) → leAt (le m v ++ x) (m + at) n ≡ leAt x at n

@@ -1,13 +1,12 @@
 -- A network as the bytes of a state with nothing sampled or stepped, and the network that a state holds.
 -- Assumes nothing: these are definitions.
 use Prim.Native.Nat.{ℕ, zero, suc, _+_}
-use mathlib.Core.Bool.{false}
 use mathlib.Core.List.{List, [], _∷_, _++_}
-use mathlib.Core.Option.{Option, none, some}
 use lib.ListN.{length, replicate}
 use Rattle.lists.specs.Runs.{padded}
 use Rattle.le.specs.Le.{le}
-use Rattle.ltl.specs.Formula.{Formula, constant, size, encode}
+use Rattle.ltl.specs.Text.{someFormula}
+use Rattle.ltl.specs.Formula.{Formula, size, encode}
 use Rattle.network.specs.Layout.{Slot}
 use Rattle.state.specs.Fields.{stateLength, boardsAt, slotsAt, nodesAt, slotsIn, boardOfIn, formulaIn}
 
@@ -39,11 +38,7 @@ stateOf masks slots ticks =
     padded stateLength (header (length masks) (length slots) (nodesOf slots) ticks ++ (boardRecords masks ++ (slotRecords 0 slots ++ nodeBytes slots)))
 
 -- ---- the network of a state
--- the formula of a slot; what bytes that are none would be does not matter, since such a state fails its check
-abbrev pub someFormula : Option Formula → Formula
-someFormula none = constant false
-someFormula (some f) = f
-
+-- the formula of a slot
 abbrev pub formulaAt : List ℕ → ℕ → Formula
 formulaAt s k = someFormula (formulaIn s k)
 

@@ -10,6 +10,7 @@ use lib.ListN.{length, getD, drop, drop-of-length-le}
 use lib.Seq.{drop-cons}
 use lib.Dec.{eqb}
 use borrow.Author.Tests.{lt-ltb, le-ltb, eq-eqb, ne-eqb}
+use Rattle.kinds.proofs.Codes.{unary-low, binary-low}
 use Rattle.lists.specs.Tests.{pick, both}
 use Rattle.kinds.specs.declared.Leaf.the-variants.{Const, Prop, Hold}
 use Rattle.kinds.specs.Kinds.{unaryCode, binaryCode}
@@ -20,7 +21,6 @@ use Rattle.state.specs.Clauses.{heldBy}
 use Rattle.state.specs.Bytes.{formulaAt}
 use Rattle.state.specs.Calls.{readyIn}
 use Rattle.passing.proofs.Passing.{SlotPassing}
-use Rattle.passing.proofs.Bytes.{unary-low, binary-low}
 use Rattle.resolving.specs.declared.Seen.{Seen}
 use Rattle.stepping.specs.declared.seeing.Sight.{Sight}
 use Rattle.stepping.specs.declared.seeing.Sight.the-variants.{Waits, Sees}

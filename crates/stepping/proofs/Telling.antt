@@ -10,7 +10,7 @@ use native.Mathlib.Omega.{arith}
 use lib.Bits.{bitOr}
 use borrow.Author.Tests.{eq-eqb, ne-eqb}
 use Rattle.lists.specs.Tests.{pick, either, bit}
-use Rattle.lists.proofs.Tests.{either-right}
+use Rattle.lists.proofs.Tests.{either-right, no-bits}
 use Rattle.kinds.specs.declared.Leaf.the-variants.{Const, Prop, Hold}
 use Rattle.kinds.specs.declared.Unary.the-variants.{Not, Next, Eventually, Always}
 use Rattle.kinds.specs.declared.Binary.the-variants.{Joined, Until}
@@ -25,7 +25,6 @@ use Rattle.state.specs.Fields.{sampleIn, boardOfIn}
 use Rattle.state.specs.Clauses.{heldBy}
 use Rattle.state.specs.Bytes.{formulaAt}
 use Rattle.state.specs.Calls.{steppedTo}
-use Rattle.checking.proofs.Allowing.{no-bits}
 use Rattle.checking.proofs.Noting.{bit-noted, either-false}
 use Rattle.resolving.specs.declared.Seen.{Seen}
 use Rattle.resolving.specs.Settles.{settled}

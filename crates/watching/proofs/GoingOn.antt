@@ -13,6 +13,7 @@ use lib.ListN.{length}
 use lib.Dec.{leb, ltb, eqb}
 use lib.Bits.{and-zero-l}
 use borrow.Author.Tests.{eq-eqb, lt-ltb}
+use Rattle.watching.proofs.Slots.{zero-flag}
 use Rattle.lists.proofs.Tests.{both-true}
 use Rattle.answers.specs.Said.{accepted, check, inOrder}
 use Rattle.answers.proofs.Answers.{order-ok, order-refused, order-done}
@@ -88,9 +89,6 @@ module _ (t : List ℕ) (ok : stateOk t ≡ true) (unfinished : finishedIn t ≡
         ticks : (b : Bool) → ltb (ticksIn t + 1) (2 ^ 32) ≡ b → Closing t
         ticks true d = slots d (leb (length (nextIn t)) slotsMost) refl
         ticks false d = refuses 15 (inr (inr refl)) (to-ticks ∙ order-refused 15 _ _ _ d)
-
-  zero-flag : (n : ℕ) → n ≤ 1 → (n ≡ 1 → ⊥) → n ≡ 0
-  zero-flag n a b = omega arith
 
   pub done-of : ((b : ℕ) → b < boardsIn t → sampledIn t b ≡ 1) → ((k : ℕ) → k < slotsIn t → steppedIn t k ≡ 1) → doneIn t ≡ true
   unfolding doneIn

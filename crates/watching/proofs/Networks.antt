@@ -10,6 +10,7 @@ use lib.ListN.{length, set, length-set}
 use lib.Seq.{getD-set-same, getD-set-other, ext-getD}
 use lib.Dec.{eqb}
 use borrow.Author.Tests.{eq-eqb}
+use Rattle.ltl.specs.Text.{someFormula}
 use Rattle.ltl.specs.Formula.{Formula, constant}
 use Rattle.ltl.specs.Progression.{resolved, filled, verdictOf}
 use Rattle.network.specs.Scores.{chosen}
@@ -20,7 +21,7 @@ use Rattle.network.proofs.Holding.{holds-map}
 use Rattle.network.proofs.Settling.{filled-same}
 use Rattle.state.specs.Fields.{boardsIn, slotsIn, maskIn, sampleIn, sampledIn, masksIn, boardOfIn, steppedIn}
 use Rattle.state.specs.Clauses.{inMask, stateOk}
-use Rattle.state.specs.Bytes.{someFormula, formulaAt, networkOf}
+use Rattle.state.specs.Bytes.{formulaAt, networkOf}
 use Rattle.state.specs.Calls.{readyIn, steppedTo}
 use Rattle.state.proofs.Rows.{network-length, network-at}
 use Rattle.passing.proofs.Passing.{passing}

@@ -13,18 +13,22 @@ use Rattle.kinds.specs.declared.Leaf.the-variants.{Const, Prop, Hold}
 use Rattle.kinds.specs.declared.Unary.the-variants.{Not, Next, Eventually, Always}
 use Rattle.kinds.specs.declared.Binary.the-variants.{Joined, Until}
 use Rattle.ltl.specs.Formula.{Formula, leaf, one, two, Within}
-use Rattle.ltl.specs.Text.{textOf}
+use Rattle.ltl.specs.Text.{textOf, someFormula}
 use Rattle.masks.specs.Masks.{sumOnes}
 use Rattle.network.proofs.Laying.{HoldsIn}
 use Rattle.network.proofs.Holding.{holds-map}
 use Rattle.state.specs.Fields.{boardsIn, slotsIn, nodesAt, maskIn, sampledIn, masksIn, slotRecordAt, boardOfIn, steppedIn, startIn, lengthIn, stretchEnd, slotBytes, formulaIn}
 use Rattle.state.specs.Clauses.{allZero, unfoldedOwn, loneOther, isConstantIn, recordOk, formulaOk, gapOk}
-use Rattle.state.specs.Bytes.{someFormula, formulaAt}
+use Rattle.state.specs.Bytes.{formulaAt}
 use Rattle.passing.proofs.Passing.{SlotPassing}
 use Rattle.passing.proofs.Held.{slot-holds, slot-held}
 use Rattle.watching.proofs.Puts.{run-same}
 use Rattle.watching.proofs.Framed.{Framed, boards-same, slots-same, nodes-at-same, record-at-same, masks-same, board-of-same, start-same, end-same}
 use Rattle.watching.proofs.Parts.{record-of, formula-of}
+
+-- a flag that is not 1 is 0
+pub zero-flag : (n : ℕ) → n ≤ 1 → (n ≡ 1 → ⊥) → n ≡ 0
+zero-flag n a b = omega arith
 
 -- two facts of each place holder
 pub holds-both : (Q R : ℕ → Type 0) (f : Formula) → HoldsIn Q f → HoldsIn R f → HoldsIn (λ m. Q m × R m) f
@@ -121,7 +125,4 @@ module _ (s t : List ℕ) (f : Framed s t) (k : ℕ) (l : k < slotsIn s) (x : Sa
             g (holds-both _ _ g holds (slot-held s k p e′));
         not-lone = ap (λ (m : ℕ). loneOther m g) mask ∙ p .not-lone e′;
       }))
-      (λ e. (let w = p .flag in let m = x .mark in ap (λ (m : ℕ). unfoldedOwn m g) mask ∙ p .own (not-one (steppedIn s k) w (λ q. e (m ∙ q)))))
-    where
-      not-one : (n : ℕ) → n ≤ 1 → (n ≡ 1 → ⊥) → n ≡ 0
-      not-one n a b = omega arith
+      (λ e. (let w = p .flag in let m = x .mark in ap (λ (m : ℕ). unfoldedOwn m g) mask ∙ p .own (zero-flag (steppedIn s k) w (λ q. e (m ∙ q)))))

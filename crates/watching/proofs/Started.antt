@@ -9,6 +9,7 @@ use native.Mathlib.Nat.{lt-of-lt-of-le}
 use native.Mathlib.Omega.{arith}
 use lib.ListN.{length}
 use lib.Pow.{pow-mono}
+use Rattle.ltl.specs.Text.{someFormula}
 use Rattle.ltl.specs.Limits.{nodesMost}
 use Rattle.ltl.specs.Formula.{Formula, constant, Within}
 use Rattle.ltl.specs.Meaning.{Event}
@@ -24,7 +25,7 @@ use Rattle.network.proofs.Watched.{watch-sound}
 use Rattle.network.proofs.Choosing.{masks-choice, masks-own, masks-free}
 use Rattle.state.specs.Fields.{boardsIn, slotsIn, nodesIn, ticksIn, sampledIn, masksIn, steppedIn}
 use Rattle.state.specs.Clauses.{slotsMost, stateOk}
-use Rattle.state.specs.Bytes.{nodesOf, stateOf, someFormula, formulaAt, networkOf}
+use Rattle.state.specs.Bytes.{nodesOf, stateOf, formulaAt, networkOf}
 use Rattle.state.proofs.Reading.{reads-boards, reads-slots, reads-nodes, reads-mark, reads-formula, network-reads}
 use Rattle.state.proofs.Fresh.{reads-sampled, reads-masks, reads-ticks}
 use Rattle.passing.proofs.Passing.{passing}

@@ -5,9 +5,8 @@ use Prim.Native.Nat.{_+_}
 use lib.ListN.{length}
 use Rattle.lists.proofs.Parts.{tail-length}
 use Rattle.ltl.specs.Formula.{encode}
-use Rattle.nodes.proofs.Fronts.{parts-as, begins-some, no-code}
+use Rattle.nodes.proofs.Fronts.{parts-as, begins-some, no-code, leaf-within}
 use Rattle.nodes.proofs.Operands.{one-of, two-of}
-use Rattle.scores.proofs.Counting.{leaf-coded}
 use Rattle.cutting.proofs.Walks.{left-walked, walked-leaf, walked-over-one, walked-over-two}
 use native.Mathlib.Omega.{arith}
 use borrow.Author.Needs.{needs}
@@ -49,7 +48,7 @@ count-cuts-enum-known-k : (t : ℕ) → count-cuts-lts.Need-enum-known-k (count-
 count-cuts-enum-known-k t c = search needs
 
 count-cuts-owner-of-requires : (t : ℕ) → count-cuts-lts.Need-owner-of-requires (count-cuts-calls t) (count-cuts-at t) count-cuts.Post
-count-cuts-owner-of-requires t c κs = (leaf-coded (parts-as (c .before .before .before .before .before .before .before .args .s .now) (c .before .before .before .before .before .before .before .pre .1 .0 .formula) (c .before .before .before .before .before .before .before .pre .1 .0 .rest) (c .before .before .before .before .before .before .before .pre .1 .0 .front) (c .before .before .before .of .ensures) (c .before .k .given .1)), c .before .before .before .before .before .before .before .pre .1 .1)
+count-cuts-owner-of-requires t c κs = (leaf-within (parts-as (c .before .before .before .before .before .before .before .args .s .now) (c .before .before .before .before .before .before .before .pre .1 .0 .formula) (c .before .before .before .before .before .before .before .pre .1 .0 .rest) (c .before .before .before .before .before .before .before .pre .1 .0 .front) (c .before .before .before .of .ensures) (c .before .k .given .1)), c .before .before .before .before .before .before .before .pre .1 .1)
 
 count-cuts-over-none-requires : (t : ℕ) → count-cuts-lts.Need-over-none-requires (count-cuts-calls t) (count-cuts-at t) count-cuts.Post
 count-cuts-over-none-requires t c κs = c .owner-of .ensures .1

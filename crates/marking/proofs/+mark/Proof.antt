@@ -8,9 +8,8 @@ use Rattle.lists.specs.Runs.{tailAs}
 use Rattle.lists.proofs.Parts.{tail-length, handed-length}
 use Rattle.kinds.specs.declared.Kind.the-variants.{One, Two}
 use Rattle.ltl.specs.Formula.{encode}
-use Rattle.nodes.proofs.Fronts.{parts-as, begins-some, no-code}
+use Rattle.nodes.proofs.Fronts.{parts-as, begins-some, no-code, leaf-within}
 use Rattle.nodes.proofs.Operands.{one-of, two-of}
-use Rattle.scores.proofs.Counting.{leaf-coded}
 use Rattle.marking.proofs.Tops.{leaf-over, not-small, pair-small}
 use Rattle.marking.proofs.Walks.{some-marks, front-few, left-marked, leaf-done, next-done, eventually-done, always-done, until-done, not-done, pair-done}
 use native.Mathlib.Omega.{arith}
@@ -52,7 +51,7 @@ mark-enum-known-k : (t : ℕ) → mark-lts.Need-enum-known-k (mark-calls t) (mar
 mark-enum-known-k t c = search needs
 
 mark-owner-of-requires : (t : ℕ) → mark-lts.Need-owner-of-requires (mark-calls t) (mark-at t) mark.Post
-mark-owner-of-requires t c κs = (leaf-coded (parts-as (c .before .before .before .before .before .before .before .before .before .args .u .now) (c .before .before .before .before .before .before .before .before .before .pre .1 .0 .formula) (c .before .before .before .before .before .before .before .before .before .pre .1 .0 .rest) (c .before .before .before .before .before .before .before .before .before .pre .1 .0 .front) (c .before .before .before .before .of .ensures) (c .before .before .k .given .1)), c .before .before .before .before .before .before .before .before .before .pre .1 .1)
+mark-owner-of-requires t c κs = (leaf-within (parts-as (c .before .before .before .before .before .before .before .before .before .args .u .now) (c .before .before .before .before .before .before .before .before .before .pre .1 .0 .formula) (c .before .before .before .before .before .before .before .before .before .pre .1 .0 .rest) (c .before .before .before .before .before .before .before .before .before .pre .1 .0 .front) (c .before .before .before .before .of .ensures) (c .before .before .k .given .1)), c .before .before .before .before .before .before .before .before .before .pre .1 .1)
 
 mark-mark-leaf-requires : (t : ℕ) → mark-lts.Need-mark-leaf-requires (mark-calls t) (mark-at t) mark.Post
 mark-mark-leaf-requires t c κs = (some-marks (c .before .before .before .before .before .before .before .before .before .before .args .u .now) (c .before .before .before .before .before .before .before .before .before .before .args .marks .now) (c .before .before .before .before .before .before .before .before .before .before .pre .1 .0) (c .before .before .before .before .before .before .before .before .before .before .pre .1 .2), c .owner-of .ensures .1)

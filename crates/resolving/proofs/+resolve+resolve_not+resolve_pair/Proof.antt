@@ -11,9 +11,9 @@ use Rattle.kinds.specs.declared.Join.the-variants.{And, Or}
 use Rattle.kinds.specs.declared.Binary.the-variants.{Joined}
 use Rattle.kinds.specs.declared.Kind.the-variants.{One, Two}
 use Rattle.ltl.specs.Formula.{size, encode}
-use Rattle.nodes.proofs.Fronts.{single, double, no-code, front-tail, begins-tail}
+use Rattle.nodes.proofs.Fronts.{single, double, no-code, front-tail, begins-tail, leaf-within}
 use Rattle.resolving.specs.Settles.{settled}
-use Rattle.resolving.proofs.Walks.{front-at, parts-at, operand-at, pair-at, settles-read, leaf-settles, leaf-within, front-behind-first, after-first, operand-done, not-constant, not-pending, right-front, lengths, pair-decided, pair-skip, right-front-behind, both-reads, both-sides}
+use Rattle.resolving.proofs.Walks.{front-at, parts-at, operand-at, pair-at, settles-read, leaf-settles, front-behind-first, after-first, operand-done, not-constant, not-pending, right-front, lengths, pair-decided, pair-skip, right-front-behind, both-reads, both-sides}
 use borrow.Fn.Kinds.{In}
 use borrow.Fn.PlainCycle.{Measures, is, falls, and}
 use Rattle.resolving.proofs.resolve.Reads as resolve

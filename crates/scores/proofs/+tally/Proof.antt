@@ -6,8 +6,8 @@ use Prim.Native.Nat.{ℕ, _+_, _<_}
 use lib.ListN.{length}
 use Rattle.lists.proofs.Parts.{tail-length}
 use Rattle.ltl.specs.Formula.{encode}
-use Rattle.nodes.proofs.Fronts.{parts-as, single, double, no-code, begins-some}
-use Rattle.scores.proofs.Counting.{leaf-coded, counted-leaf, left-tallied, tallied-leaf, tallied-one, tallied-two}
+use Rattle.nodes.proofs.Fronts.{parts-as, single, double, no-code, begins-some, leaf-within}
+use Rattle.scores.proofs.Counting.{counted-leaf, left-tallied, tallied-leaf, tallied-one, tallied-two}
 use native.Mathlib.Omega.{arith}
 use borrow.Author.Needs.{needs}
 use borrow.Fn.Kinds.{In}
@@ -44,7 +44,7 @@ tally-enum-known-k : (t : ℕ) → tally-lts.Need-enum-known-k (tally-calls t) (
 tally-enum-known-k t c = search needs
 
 tally-owner-of-requires : (t : ℕ) → tally-lts.Need-owner-of-requires (tally-calls t) (tally-at t) tally.Post
-tally-owner-of-requires t c κs = (leaf-coded (parts-as (c .before .before .before .before .before .before .before .args .s .now) (c .before .before .before .before .before .before .before .pre .1 .0 .formula) (c .before .before .before .before .before .before .before .pre .1 .0 .rest) (c .before .before .before .before .before .before .before .pre .1 .0 .front) (c .before .before .before .of .ensures) (c .before .k .given .1)), c .before .before .before .before .before .before .before .pre .1 .1)
+tally-owner-of-requires t c κs = (leaf-within (parts-as (c .before .before .before .before .before .before .before .args .s .now) (c .before .before .before .before .before .before .before .pre .1 .0 .formula) (c .before .before .before .before .before .before .before .pre .1 .0 .rest) (c .before .before .before .before .before .before .before .pre .1 .0 .front) (c .before .before .before .of .ensures) (c .before .k .given .1)), c .before .before .before .before .before .before .before .pre .1 .1)
 
 tally-one-requires : (t : ℕ) → tally-lts.Need-one-requires (tally-calls t) (tally-at t) tally.Post
 tally-one-requires t c κs = c .owner-of .ensures .1
