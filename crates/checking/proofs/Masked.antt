@@ -2,42 +2,25 @@
 use mathlib.Core.Path.{_≡_, refl, sym, ap, _∙_}
 use mathlib.Core.Bool.{Bool, true, false}
 use mathlib.Core.List.{List, _++_}
-use Prim.Native.Nat.{ℕ, zero, suc, _+_, _<_, _≤_}
-use native.Mathlib.Nat.{add-zero, zero-add}
+use Prim.Native.Nat.{ℕ, _<_, _≤_}
 use native.Mathlib.Omega.{arith}
 use native.Mathlib.Decide.{decLt}
-use lib.ListN.{length, getD, take}
-use lib.Seq.{take-at}
+use lib.ListN.{take}
 use lib.Dec.{leb}
 use borrow.Author.Tests.{le-leb, lt-leb, leb-true}
 use Rattle.lists.specs.Tests.{pick, both, inRange}
+use Rattle.lists.specs.Listed.{listed}
 use Rattle.lists.proofs.Tests.{both-0}
+use Rattle.lists.proofs.Listed.{listed-front}
 use Rattle.masks.specs.Masks.{sumOnes, masksRule}
-use Rattle.state.specs.Fields.{boardsIn, maskIn, masksFrom, masksIn}
+use Rattle.state.specs.Fields.{boardsIn, maskIn, masksIn}
 use Rattle.state.specs.Clauses.{masksOk}
 use Rattle.checking.specs.Header.{propositionsIn}
 use Rattle.checking.proofs.Each.{both-false, range-most}
 
--- ---- the masks of boards i, i + 1, ..
-pub masksFrom-length : (s : List ℕ) (i n : ℕ) → length (masksFrom s i n) ≡ n
-unfolding masksFrom
-masksFrom-length s i zero = refl
-masksFrom-length s i (suc n) = ap suc (masksFrom-length s (i + 1) n)
-
-masksFrom-get : (s : List ℕ) (i n j : ℕ) → j < n → getD (masksFrom s i n) j 0 ≡ maskIn s (i + j)
-unfolding masksFrom
-masksFrom-get s i zero j h = absurd (omega arith)
-masksFrom-get s i (suc n) zero h = ap (maskIn s) (sym (add-zero i))
-masksFrom-get s i (suc n) (suc j) h =
-    let e : i + 1 + j ≡ i + suc j = omega arith in
-    masksFrom-get s (i + 1) n j (omega arith) ∙ ap (maskIn s) e
-
-pub masks-get : (s : List ℕ) (n j : ℕ) → j < n → maskIn s j ≡ getD (masksFrom s 0 n) j 0
-masks-get s n j h = sym (masksFrom-get s 0 n j h ∙ ap (maskIn s) (zero-add j))
-
--- in front of an array
-pub masks-front : (s found rest : List ℕ) (b : ℕ) → b ≡ boardsIn s → found ≡ masksFrom s 0 b ++ rest → take b found ≡ masksIn s
-masks-front s found rest b q e = ap (take b) e ∙ take-at (masksFrom s 0 b) rest b (masksFrom-length s 0 b) ∙ ap (masksFrom s 0) q
+-- ---- in front of an array
+pub masks-front : (s found rest : List ℕ) (b : ℕ) → b ≡ boardsIn s → found ≡ listed (maskIn s) b ++ rest → take b found ≡ masksIn s
+masks-front s found rest b q e = ap (take b) e ∙ listed-front (maskIn s) b rest ∙ ap (listed (maskIn s)) q
 
 -- ---- the number of propositions
 module _ (s : List ℕ) where

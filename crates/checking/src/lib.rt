@@ -5,7 +5,6 @@ mod whole;
 pub use formulas::Span;
 pub use formulas::span_of;
 pub use whole::finished;
-pub use whole::masks_of;
 pub use whole::state_ok;
 ghost use mathlib.Core.Path.{_≡_};
 ghost use mathlib.Core.Bool.{true};

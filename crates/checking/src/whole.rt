@@ -1,10 +1,9 @@
 // The whole state check, its clauses one after the other, and whether a state that passes it is finished.
 ghost use mathlib.Core.Path.{_≡_};
 ghost use mathlib.Core.Bool.{true};
-ghost use mathlib.Core.List.{_++_};
 ghost use Prim.Native.Nat.{_≤_};
-ghost use lib.ListN.{length, drop};
-ghost use Rattle.state.specs.Fields.{stateLength, boardsIn, masksFrom};
+ghost use lib.ListN.{length};
+ghost use Rattle.state.specs.Fields.{stateLength, boardsIn};
 ghost use Rattle.state.specs.Clauses.{stateOk};
 ghost use Rattle.state.specs.Calls.{finishedIn};
 ghost use Rattle.checking.specs.Header.{propositionsIn};
@@ -17,25 +16,13 @@ use crate::header_ok;
 use crate::records_ok;
 use crate::rest_ok;
 
-// The boards' masks, at the front of `masks`.
-pub fn masks_of(s: &[u8], masks: &mut [u64], b: usize)
-    requires { ⌜ (length (now s) ≡ stateLength) × (b ≤ 16) × (b ≤ length (now masks)) ⌝ }
-    ensures { λ _. ⌜ now (masks .exit) ≡ masksFrom (now (s .entry)) 0 b ++ drop b (now (masks .entry)) ⌝ }
-{
-    let mut i: usize = 0;
-    while i < b {
-        masks[i] = le::u64_at(s, 16 + 17 * i);
-        i += 1;
-    }
-}
-
 // The number of propositions, 0 where the masks break their rule.
 fn propositions(s: &[u8], b: usize) -> u64
     requires { ⌜ (length (now s) ≡ stateLength) × (b ≡ boardsIn (now s)) × (b ≤ 16) ⌝ }
     ensures { λ r. ⌜ r ≡ propositionsIn (now (s .entry)) ⌝ }
 {
     let mut found = [0u64; 16];
-    masks_of(s, &mut found, b);
+    le::column(s, 16, 17, &mut found, b);
     let p = masks::sum_ones(&found[..b]);
     if 64 < p {
         return 0;

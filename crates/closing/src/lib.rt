@@ -72,7 +72,7 @@ fn advance(state: &[u8], c: Counts, second: &mut [u8]) -> Outcome
 {
     let b = c.boards;
     let mut masks = [0u64; 16];
-    checking::masks_of(state, &mut masks, b);
+    le::column(state, 16, 17, &mut masks, b);
     let mut owner = [0u8; 64];
     scores::owners(&masks[..b], &mut owner);
     let next = counting::count_next(state, c, &owner);

@@ -13,9 +13,9 @@ use Rattle.answers.specs.Said.{Said, accepted, left}
 use Rattle.answers.proofs.Answers.{left-accepted, order-passed}
 use Rattle.ltl.specs.Limits.{boardsMost, ruleNodesMost, nodesMost}
 use Rattle.nodes.specs.Begins.{Front}
-use Rattle.rules.specs.RuleFile.{masksAt, boardsIn, propositionsIn, nodesIn, masksIn, formulaIn}
+use Rattle.rules.specs.RuleFile.{boardsIn, propositionsIn, nodesIn, maskIn, masksIn, formulaIn}
 use Rattle.rules.specs.Read as read
-use Rattle.rules.proofs.Files.{masksFrom-length}
+use Rattle.lists.proofs.Listed.{listed-length}
 use Rattle.rules.proofs.Outcomes.{counted, ReadPassed}
 use Rattle.state.specs.Clauses.{slotsMost}
 use Rattle.state.specs.Bytes.{nodesOf}
@@ -48,7 +48,7 @@ load-passed file room e =
 loads-of : (file : List ℕ) → LoadPassed file → Loads (propositionsIn file) (masksIn file) (ruleIn file)
 loads-of file x =
     let c = counted (boardsIn file) (propositionsIn file) (nodesIn file) (x .file-passed .counts) in
-    let n = masksFrom-length file masksAt (boardsIn file) in
+    let n = listed-length (maskIn file) (boardsIn file) in
     let a = c .boards-some in
     let b = c .boards-few in
     record {

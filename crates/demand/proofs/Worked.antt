@@ -6,6 +6,7 @@ use mathlib.Core.List.{List, [], _∷_}
 use Prim.Native.Nat.{ℕ, zero, suc}
 use native.Mathlib.Omega.{arith}
 use lib.ListN.{length, getD, replicate, length-replicate}
+use Rattle.lists.specs.Listed.{listed}
 use Rattle.answers.specs.declared.Refusal.{Refusal}
 use Rattle.answers.specs.declared.Refusal.the-variants.{Outside, Unready}
 use Rattle.answers.specs.declared.Outcome.the-variants.{Refused, Done}
@@ -15,7 +16,7 @@ use Rattle.answers.proofs.Answers.{verdict-injective}
 use Rattle.le.specs.Le.{le, leAt}
 use Rattle.ltl.specs.Meaning.{Trace, Satisfies, continued}
 use Rattle.network.specs.Scores.{sampleOf}
-use Rattle.state.specs.Fields.{stateLength, boardsIn, masksFrom}
+use Rattle.state.specs.Fields.{stateLength, boardsIn}
 use Rattle.state.specs.Calls.{sampleSays, stepSays, closeSays, loadedState}
 use Rattle.rules.specs.RuleFile as rule-file
 use Rattle.asking.specs.Ask.{Asks}
@@ -80,13 +81,13 @@ tick-calls ticks x y half last r a b =
     call.stepped c₅ 0 Done (steps half 0 last b)
 
 saw-a : Saw steppedUnderA 1
-unfolding le leAt masksFrom sampleOf
+unfolding le leAt listed sampleOf
 saw-a zero l = refl
 saw-a (suc zero) l = refl
 saw-a (suc (suc b)) l = let e : boardsIn steppedUnderA ≡ 2 = refl in absurd (omega arith)
 
 saw-b : Saw steppedUnderB 2
-unfolding le leAt masksFrom sampleOf
+unfolding le leAt listed sampleOf
 saw-b zero l = refl
 saw-b (suc zero) l = refl
 saw-b (suc (suc b)) l = let e : boardsIn steppedUnderB ≡ 2 = refl in absurd (omega arith)

@@ -6,7 +6,7 @@ use lib.ListN.{take, drop}
 use Rattle.lists.proofs.Stretches.{put-next}
 use Rattle.le.specs.Le.{le}
 
-pub header-put : (a b c d e f g : ℕ) (s s₁ s₂ s₃ s₄ s₅ s₆ s₇ : List ℕ)
+pub header-put : (a b c d e f g : ℕ) (s : List ℕ) {s₁ s₂ s₃ s₄ s₅ s₆ s₇ : List ℕ}
     → s₁ ≡ take 0 s ++ (le 2 a ++ drop (0 + 2) s)
     → s₂ ≡ take 2 s₁ ++ (le 2 b ++ drop (2 + 2) s₁)
     → s₃ ≡ take 4 s₂ ++ (le 2 c ++ drop (4 + 2) s₂)
@@ -16,7 +16,7 @@ pub header-put : (a b c d e f g : ℕ) (s s₁ s₂ s₃ s₄ s₅ s₆ s₇ : L
     → s₇ ≡ take 12 s₆ ++ (le 4 g ++ drop (12 + 4) s₆)
     → s₇ ≡ (le 2 a ++ (le 2 b ++ (le 2 c ++ (le 2 d ++ (le 2 e ++ (le 2 f ++ le 4 g)))))) ++ drop 16 s
 unfolding le
-header-put a b c d e f g s s₁ s₂ s₃ s₄ s₅ s₆ s₇ e₁ e₂ e₃ e₄ e₅ e₆ e₇ =
+header-put a b c d e f g s {s₁} {s₂} {s₃} {s₄} {s₅} {s₆} {s₇} e₁ e₂ e₃ e₄ e₅ e₆ e₇ =
     let a₁ = le 2 a in
     let a₂ = a₁ ++ le 2 b in
     let a₃ = a₂ ++ le 2 c in

@@ -1,8 +1,9 @@
 // Little-endian numbers in a byte slice, once over the width. The calls of a fixed width need no proof of their own.
 ghost use mathlib.Core.Path.{_≡_};
 ghost use mathlib.Core.List.{_++_};
-ghost use Prim.Native.Nat.{ℕ, _+_, _-_, _<_, _≤_, _^_};
+ghost use Prim.Native.Nat.{ℕ, _+_, _-_, _*_, _<_, _≤_, _^_};
 ghost use lib.ListN.{length, take, drop};
+ghost use Rattle.lists.specs.Listed.{listed};
 ghost use Rattle.le.specs.Le.{le, leAt};
 
 fn wide(x: u8) -> u64
@@ -60,6 +61,18 @@ pub fn u64_at(s: &[u8], at: usize) -> u64
     number_at(s, at, 8)
 }
 
+// The first numbers of n rows of `step` bytes, the first row at `at`, to the front of `out`.
+pub fn column(s: &[u8], at: usize, step: usize, out: &mut [u64], n: usize)
+    requires { ⌜ (8 ≤ step) × (at + step * n ≤ length (now s)) × (n ≤ length (now out)) ⌝ }
+    ensures { λ _. ⌜ now (out .exit) ≡ listed (λ i. leAt (now (s .entry)) (at + step * i) 8) n ++ drop n (now (out .entry)) ⌝ }
+{
+    let mut i: usize = 0;
+    while i < n {
+        out[i] = u64_at(s, at + step * i);
+        i += 1;
+    }
+}
+
 pub fn put_u16(s: &mut [u8], at: usize, v: u16)
     requires { ⌜ at + 2 ≤ length (now s) ⌝ }
     ensures { λ _. ⌜ now (s .exit) ≡ take at (now (s .entry)) ++ (le 2 v ++ drop (at + 2) (now (s .entry))) ⌝ }
@@ -79,4 +92,18 @@ pub fn put_u64(s: &mut [u8], at: usize, v: u64)
     ensures { λ _. ⌜ now (s .exit) ≡ take at (now (s .entry)) ++ (le 8 v ++ drop (at + 8) (now (s .entry))) ⌝ }
 {
     put_at(s, at, 8, v);
+}
+
+// Seven numbers in a row, six of two bytes and one of four: the header of a rule file, and of a state.
+pub fn put_header(s: &mut [u8], a: u16, b: u16, c: u16, d: u16, e: u16, f: u16, g: u32)
+    requires { ⌜ 16 ≤ length (now s) ⌝ }
+    ensures { λ _. ⌜ now (s .exit) ≡ (le 2 a ++ (le 2 b ++ (le 2 c ++ (le 2 d ++ (le 2 e ++ (le 2 f ++ le 4 g)))))) ++ drop 16 (now (s .entry)) ⌝ }
+{
+    put_u16(s, 0, a);
+    put_u16(s, 2, b);
+    put_u16(s, 4, c);
+    put_u16(s, 6, d);
+    put_u16(s, 8, e);
+    put_u16(s, 10, f);
+    put_u32(s, 12, g);
 }

@@ -1,5 +1,6 @@
 -- Laws of lists that say nothing of rules.
 pub mod Tests
+pub mod Listed
 pub mod Overlay
 pub mod Parts
 pub mod Stretches

@@ -30,9 +30,9 @@ use Rattle.ltl.proofs.Texts.{RuleText, rule-is, text-of, wider}
 use Rattle.rules.specs.declared.reading.Counts.{Counts}
 use Rattle.rules.specs.declared.reading.ReadAnswer.{ReadAnswer}
 use Rattle.rules.specs.declared.reading.ReadAnswer.the-variants.{Rule}
-use Rattle.rules.proofs.Files.{masksFrom-length}
+use Rattle.lists.proofs.Listed.{listed-length}
 use Rattle.rules.proofs.Outcomes.{sized, counted, placed, ReadPassed, read-passed}
-use Rattle.rules.specs.RuleFile.{version, masksAt, formulaAt, countsOk, versionIn, boardsIn, propositionsIn, nodesIn, masksIn, formulaIn}
+use Rattle.rules.specs.RuleFile.{version, formulaAt, countsOk, versionIn, boardsIn, propositionsIn, nodesIn, maskIn, masksIn, formulaIn}
 use Rattle.rules.specs.Read.{offsetsOk, readSays, Reads}
 use Rattle.rules.specs.Read as read
 use Rattle.state.specs.Fields.{stateLength}
@@ -152,7 +152,7 @@ module _ (file : List ℕ) (passed : ReadPassed file boardsMost ruleNodesMost) w
       let b = o .total in
       let d = length-drop (formulaAt (boardsIn file)) file in
       let n = c .nodes-few in
-      let l = masksFrom-length file masksAt (boardsIn file) in
+      let l = listed-length (maskIn file) (boardsIn file) in
       let m = c .boards-few in
       record {
         propositions = propositionsIn file;
@@ -187,7 +187,7 @@ module _ (file : List ℕ) (passed : ReadPassed file boardsMost ruleNodesMost) w
     pub read-masks : take (c .boards) masks′ ≡ masksIn file
     read-masks =
         ap (take (c .boards)) (r .leaves-masks ∙ ap (λ (s : Said). left s (padded boardsMost (masksIn file)) masks) says-read ∙ left-accepted _ (padded boardsMost (masksIn file)) masks)
-        ∙ take-at (masksIn file) (replicate (boardsMost - length (masksIn file)) 0) (c .boards) (masksFrom-length file masksAt (boardsIn file) ∙ sym read-boards)
+        ∙ take-at (masksIn file) (replicate (boardsMost - length (masksIn file)) 0) (c .boards) (listed-length (maskIn file) (boardsIn file) ∙ sym read-boards)
 
     pub read-formula : take (c .nodes) formula′ ≡ formulaIn file
     read-formula =

@@ -1,6 +1,6 @@
 -- Laws of the rule file and its parts: lengths; what a row of puts leaves (`found-..`, `file-put`); and both ways between
--- a file and what it is written from: `header-fields` and `masksFrom-maskBytes` read what was written, `header-is` and
--- `maskBytes-masksFrom` write what was read. Assumes nothing.
+-- a file and what it is written from: `header-fields` and `masks-written` read what was written, `header-is` and
+-- `masks-rewritten` write what was read. Assumes nothing.
 use mathlib.Core.Path.{_≡_, refl, sym, ap, ap₂, _∙_}
 use mathlib.Core.List.{List, [], _∷_, _++_, append-assoc, append-nil}
 use Prim.Native.Nat.{ℕ, zero, suc, _+_, _-_, _*_, _^_, _<_, _≤_}
@@ -8,27 +8,15 @@ use native.Mathlib.Nat.{mod-eq-of-lt}
 use native.Mathlib.Omega.{arith}
 use native.Mathlib.Numerals.{add-one}
 use lib.ListN.{length, getD, take, drop, replicate, length-append, length-drop, length-replicate}
-use lib.Seq.{take-suc, take-at}
+use lib.Seq.{take-suc}
 use Rattle.ltl.specs.Limits.{boardsMost, propositionsMost, ruleNodesMost}
 use Rattle.lists.specs.Runs.{tail, tailAs, padded}
+use Rattle.lists.specs.Listed.{listed}
+use Rattle.lists.proofs.Listed.{listed-length, listed-same, listed-front}
 use Rattle.le.specs.Le.{le, leAt}
 use Rattle.le.proofs.Laws.{Bytes, le-length, leAt-le, le-leAt}
 use Rattle.lists.proofs.Stretches.{tail-put, tail-clear, drop-replicate, take-two}
-use Rattle.rules.specs.RuleFile.{version, masksAt, formulaAt, totalOf, fileMost, header, maskBytes, fileOf, versionIn, boardsIn, propositionsIn, nodesIn, masksOffsetIn, formulaOffsetIn, totalIn, masksFrom}
-
--- ---- the masks in a file
-pub masksFrom-length : (file : List ℕ) (at n : ℕ) → length (masksFrom file at n) ≡ n
-unfolding masksFrom
-masksFrom-length file at zero = refl
-masksFrom-length file at (suc n) = ap suc (masksFrom-length file (at + 8) n)
-
-pub masksFrom-get : (file : List ℕ) (at n i : ℕ) → i < n → getD (masksFrom file at n) i 0 ≡ leAt file (at + 8 * i) 8
-unfolding masksFrom
-masksFrom-get file at zero i h = absurd (omega arith)
-masksFrom-get file at (suc n) zero h = let e : at ≡ at + 8 * 0 = omega arith in ap (λ (x : ℕ). leAt file x 8) e
-masksFrom-get file at (suc n) (suc i) h =
-    let e : at + 8 + 8 * i ≡ at + 8 * suc i = omega arith in
-    masksFrom-get file (at + 8) n i (omega arith) ∙ ap (λ (x : ℕ). leAt file x 8) e
+use Rattle.rules.specs.RuleFile.{version, masksAt, formulaAt, totalOf, fileMost, header, maskBytes, fileOf, versionIn, boardsIn, propositionsIn, nodesIn, masksOffsetIn, formulaOffsetIn, totalIn, maskIn}
 
 -- ---- the bytes of masks
 pub maskBytes-length : (ms : List ℕ) → length (maskBytes ms) ≡ 8 * length ms
@@ -59,18 +47,18 @@ unfolding le
 header-length b p n = refl
 
 -- ---- masks put into an array of zeros
-module _ (file found : List ℕ) (b : ℕ) (e : found ≡ masksFrom file masksAt b ++ drop b (replicate boardsMost 0)) where
+module _ (file found : List ℕ) (b : ℕ) (e : found ≡ listed (maskIn file) b ++ drop b (replicate boardsMost 0)) where
   pub found-length : b ≤ boardsMost → length found ≡ boardsMost
   found-length h =
       let z : List ℕ = replicate boardsMost 0 in
-      omega (arith, ap length e, length-append (masksFrom file masksAt b) (drop b z), masksFrom-length file masksAt b, length-drop b z, length-replicate {A = ℕ} boardsMost 0)
+      omega (arith, ap length e, length-append (listed (maskIn file) b) (drop b z), listed-length (maskIn file) b, length-drop b z, length-replicate {A = ℕ} boardsMost 0)
 
-  pub found-front : take b found ≡ masksFrom file masksAt b
-  found-front = ap (take b) e ∙ take-at (masksFrom file masksAt b) (drop b (replicate boardsMost 0)) b (masksFrom-length file masksAt b)
+  pub found-front : take b found ≡ listed (maskIn file) b
+  found-front = ap (take b) e ∙ listed-front (maskIn file) b _
 
-  pub found-padded : found ≡ padded boardsMost (masksFrom file masksAt b)
+  pub found-padded : found ≡ padded boardsMost (listed (maskIn file) b)
   found-padded =
-      e ∙ ap (λ (u : List ℕ). masksFrom file masksAt b ++ u) (drop-replicate b boardsMost 0 ∙ ap (λ (n : ℕ). replicate {A = ℕ} (boardsMost - n) 0) (sym (masksFrom-length file masksAt b)))
+      e ∙ ap (λ (u : List ℕ). listed (maskIn file) b ++ u) (drop-replicate b boardsMost 0 ∙ ap (λ (n : ℕ). replicate {A = ℕ} (boardsMost - n) 0) (sym (listed-length (maskIn file) b)))
 
 -- ---- the file
 pub fileOf-length : (masks : List ℕ) (p : ℕ) (formula : List ℕ) → length (fileOf masks p formula) ≡ totalOf (length masks) (length formula)
@@ -132,19 +120,30 @@ header-fields b p n rest hb hp hn =
       total-is = omega arith;
     }
 
-pub masksFrom-maskBytes : (a ms rest : List ℕ) (at : ℕ) → length a ≡ at → ((i : ℕ) → getD ms i 0 < 2 ^ 64)
-    → masksFrom (a ++ (maskBytes ms ++ rest)) at (length ms) ≡ ms
-unfolding masksFrom maskBytes
-masksFrom-maskBytes a [] rest at e h = refl
-masksFrom-maskBytes a (m ∷ ms) rest at e h =
+-- the masks from a place on, and those from the next one on
+abbrev from : List ℕ → ℕ → ℕ → ℕ
+from file at i = leAt file (at + 8 * i) 8
+
+from-next : (file : List ℕ) (at n : ℕ) → listed (λ i. from file at (suc i)) n ≡ listed (from file (at + 8)) n
+from-next file at n =
+    listed-same _ _ n (λ i l. (let e : at + 8 * suc i ≡ at + 8 + 8 * i = omega arith in ap (λ (x : ℕ). leAt file x 8) e))
+
+from-first : (file : List ℕ) (at : ℕ) → from file at 0 ≡ leAt file at 8
+from-first file at = let e : at + 8 * 0 ≡ at = omega arith in ap (λ (x : ℕ). leAt file x 8) e
+
+pub masks-written : (a ms rest : List ℕ) (at : ℕ) → length a ≡ at → ((i : ℕ) → getD ms i 0 < 2 ^ 64)
+    → listed (from (a ++ (maskBytes ms ++ rest)) at) (length ms) ≡ ms
+unfolding listed maskBytes
+masks-written a [] rest at e h = refl
+masks-written a (m ∷ ms) rest at e h =
     let tail = maskBytes ms ++ rest in
     let s = ap (λ (u : List ℕ). a ++ u) (append-assoc (le 8 m) (maskBytes ms) rest) in
     let l = length-append a (le 8 m) in
     let k = le-length 8 m in
     ap₂ _∷_
-    (ap (λ (u : List ℕ). leAt u at 8) s ∙ leAt-le a tail at 8 m e ∙ mod-eq-of-lt (h 0))
-    (ap (λ (u : List ℕ). masksFrom u (at + 8) (length ms)) (s ∙ sym (append-assoc a (le 8 m) tail))
-    ∙ masksFrom-maskBytes (a ++ le 8 m) ms rest (at + 8) (omega arith) (λ i. h (suc i)))
+    (from-first _ at ∙ ap (λ (u : List ℕ). leAt u at 8) s ∙ leAt-le a tail at 8 m e ∙ mod-eq-of-lt (h 0))
+    (from-next _ at (length ms) ∙ ap (λ (u : List ℕ). listed (from u (at + 8)) (length ms)) (s ∙ sym (append-assoc a (le 8 m) tail))
+    ∙ masks-written (a ++ le 8 m) ms rest (at + 8) (omega arith) (λ i. h (suc i)))
 
 -- ---- what a file is written from
 module _ (file : List ℕ) (bytes : Bytes file) (headed : masksAt ≤ length file) where
@@ -165,10 +164,10 @@ module _ (file : List ℕ) (bytes : Bytes file) (headed : masksAt ≤ length fil
       let f₂ = field-then 2 2 b 12 _ (omega arith) (k .boards-is) f₃ in
       field-then 0 2 version 14 _ (omega arith) (k .version-is) f₂
 
-pub maskBytes-masksFrom : (file : List ℕ) (at n : ℕ) → Bytes file → at + 8 * n ≤ length file → maskBytes (masksFrom file at n) ≡ take (8 * n) (drop at file)
-unfolding masksFrom maskBytes
-maskBytes-masksFrom file at zero w h = refl
-maskBytes-masksFrom file at (suc n) w h =
+pub masks-rewritten : (file : List ℕ) (at n : ℕ) → Bytes file → at + 8 * n ≤ length file → maskBytes (listed (from file at) n) ≡ take (8 * n) (drop at file)
+unfolding listed maskBytes
+masks-rewritten file at zero w h = refl
+masks-rewritten file at (suc n) w h =
     let e : 8 + 8 * n ≡ 8 * suc n = omega arith in
-    ap₂ _++_ (le-leAt file at 8 w (omega arith)) (maskBytes-masksFrom file (at + 8) n w (omega arith))
+    ap₂ _++_ (ap (le 8) (from-first file at) ∙ le-leAt file at 8 w (omega arith)) (ap maskBytes (from-next file at n) ∙ masks-rewritten file (at + 8) n w (omega arith))
     ∙ sym (take-two file at 8 (8 * n)) ∙ ap (λ (i : ℕ). take i (drop at file)) e

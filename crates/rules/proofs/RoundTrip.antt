@@ -10,6 +10,8 @@ use lib.Seq.{take-at, drop-at, drop-drop}
 use borrow.Author.Tests.{eq-eqb, eqb-true, le-leb}
 use Rattle.ltl.specs.Limits.{boardsMost, ruleNodesMost}
 use Rattle.lists.specs.Runs.{padded}
+use Rattle.lists.specs.Listed.{listed}
+use Rattle.lists.proofs.Listed.{listed-length}
 use Rattle.answers.specs.Said.{Said}
 use Rattle.ltl.specs.Text.{ruleText}
 use Rattle.lists.proofs.Tests.{both-true}
@@ -21,10 +23,10 @@ use Rattle.rules.specs.declared.reading.ReadAnswer.{ReadAnswer}
 use Rattle.rules.specs.declared.reading.ReadAnswer.the-variants.{Rule}
 use Rattle.rules.specs.declared.writing.WriteAnswer.{WriteAnswer}
 use Rattle.rules.specs.declared.writing.WriteAnswer.the-variants.{Written}
-use Rattle.rules.specs.RuleFile.{version, masksAt, formulaAt, fileMost, header, maskBytes, fileOf, countsOk, totalOf, boardsIn, propositionsIn, nodesIn, masksIn, formulaIn, masksFrom}
+use Rattle.rules.specs.RuleFile.{version, masksAt, formulaAt, fileMost, header, maskBytes, fileOf, countsOk, totalOf, boardsIn, propositionsIn, nodesIn, maskIn, masksIn, formulaIn}
 use Rattle.rules.specs.Read.{lengthsOk, offsetsOk, saidRead, Reads}
 use Rattle.rules.specs.Write.{saidWrite, Writes}
-use Rattle.rules.proofs.Files.{Fields, masksFrom-length, maskBytes-length, header-length, fileOf-length, header-fields, masksFrom-maskBytes, header-is, maskBytes-masksFrom}
+use Rattle.rules.proofs.Files.{Fields, maskBytes-length, header-length, fileOf-length, header-fields, masks-written, header-is, masks-rewritten}
 use Rattle.rules.proofs.Outcomes.{sized, Counted, counted, placed, ReadPassed, read-passed, read-rule, write-passed, write-written}
 use Rattle.rules.proofs.Determined.{reads-determined, writes-determined}
 
@@ -38,8 +40,8 @@ module _ (masks : List ℕ) (p : ℕ) (formula : List ℕ) (words : (i : ℕ) �
   unfolding fileOf
   file-masks =
       let h = header (length masks) p (length formula) in
-      ap (λ (b : ℕ). masksFrom (fileOf masks p formula) masksAt b) (file-fields .boards-is)
-      ∙ masksFrom-maskBytes h masks formula masksAt (header-length (length masks) p (length formula)) words
+      ap (listed (maskIn (fileOf masks p formula))) (file-fields .boards-is)
+      ∙ masks-written h masks formula masksAt (header-length (length masks) p (length formula)) words
 
   file-formula : formulaIn (fileOf masks p formula) ≡ formula
   unfolding fileOf
@@ -117,17 +119,17 @@ module _ (file m f : List ℕ) (bytes : Bytes file) (o : ReadPassed file (length
       let s = sized file (length m) (length f) (o .lengths) in
       let t = placed file (o .offsets) in
       let b = boardsIn file in
-      let h = ap₂ (λ (i j : ℕ). header i (propositionsIn file) j) (masksFrom-length file masksAt b) formula-length
+      let h = ap₂ (λ (i j : ℕ). header i (propositionsIn file) j) (listed-length (maskIn file) b) formula-length
       ∙ header-is file bytes (s .headed) b (propositionsIn file) (nodesIn file) read-fields in
       let v : maskBytes (masksIn file) ++ formulaIn file ≡ drop masksAt file =
-      ap₂ _++_ (maskBytes-masksFrom file masksAt b bytes (omega arith)) (sym (drop-drop (8 * b) masksAt file)) ∙ take-append-drop (8 * b) (drop masksAt file) in
+      ap₂ _++_ (masks-rewritten file masksAt b bytes (omega arith)) (sym (drop-drop (8 * b) masksAt file)) ∙ take-append-drop (8 * b) (drop masksAt file) in
       ap₂ _++_ h v ∙ take-append-drop masksAt file
 
   read-total : totalOf (length (masksIn file)) (length (formulaIn file)) ≡ length file
   read-total =
       let s = sized file (length m) (length f) (o .lengths) in
       let t = placed file (o .offsets) in
-      omega (arith, masksFrom-length file masksAt (boardsIn file), formula-length)
+      omega (arith, listed-length (maskIn file) (boardsIn file), formula-length)
 
 pub read-written : (file m f m′ f′ : List ℕ) (c : Counts) → Bytes file → Reads file m f m′ f′ (Rule c)
     → (out out′ : List ℕ) (answer : WriteAnswer) → length out ≡ fileMost
@@ -139,7 +141,7 @@ read-written file m f m′ f′ c bytes r out out′ answer room w =
     let p = propositionsIn file in
     let fs = formulaIn file in
     let fl = formula-length file m f bytes o in
-    let ml = masksFrom-length file masksAt (boardsIn file) in
+    let ml = listed-length (maskIn file) (boardsIn file) in
     let d = reads-determined file m f m′ f′ (padded boardsMost ms) (padded ruleNodesMost fs) (Rule c) _ r
     (read-rule file m f (o .lengths) (o .version) (o .counts) (o .offsets) (o .masks) (o .formula)
     (record { boards = boardsIn file; propositions = p; nodes = nodesIn file }) (padded boardsMost ms) (padded ruleNodesMost fs) refl refl refl refl refl) in

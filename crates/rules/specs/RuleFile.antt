@@ -1,10 +1,11 @@
 -- The rule file: a header of 16 bytes of counts and offsets, a mask of 64 bits for each board, the formula.
 -- Assumes nothing: these are definitions.
-use Prim.Native.Nat.{ℕ, zero, suc, _+_, _*_}
+use Prim.Native.Nat.{ℕ, _+_, _*_}
 use mathlib.Core.Bool.{Bool}
 use mathlib.Core.List.{List, [], _∷_, _++_}
 use lib.ListN.{length, drop}
 use Rattle.lists.specs.Tests.{both, inRange}
+use Rattle.lists.specs.Listed.{listed}
 use Rattle.ltl.specs.Limits.{boardsMost, propositionsMost, ruleNodesMost}
 use Rattle.le.specs.Le.{le, leAt}
 
@@ -67,13 +68,11 @@ formulaOffsetIn file = leAt file 10 2
 abbrev pub totalIn : List ℕ → ℕ
 totalIn file = leAt file 12 4
 
--- n masks from a place on
-unfoldable pub masksFrom : List ℕ → ℕ → ℕ → List ℕ
-masksFrom file at zero = []
-masksFrom file at (suc n) = leAt file at 8 ∷ masksFrom file (at + 8) n
+abbrev pub maskIn : List ℕ → ℕ → ℕ
+maskIn file i = leAt file (masksAt + 8 * i) 8
 
 abbrev pub masksIn : List ℕ → List ℕ
-masksIn file = masksFrom file masksAt (boardsIn file)
+masksIn file = listed (maskIn file) (boardsIn file)
 
 abbrev pub formulaIn : List ℕ → List ℕ
 formulaIn file = drop (formulaAt (boardsIn file)) file

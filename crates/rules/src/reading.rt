@@ -1,11 +1,10 @@
 // The call `read`: a rule file's counts, masks and formula, or the refusal.
 ghost use mathlib.Core.Path.{_≡_};
-ghost use mathlib.Core.List.{_++_};
 ghost use Prim.Native.Nat.{ℕ, _≤_};
-ghost use lib.ListN.{length, drop};
+ghost use lib.ListN.{length};
 ghost use Rattle.ltl.specs.Limits.{boardsMost, ruleNodesMost};
 ghost use Rattle.lists.specs.Runs.{padded};
-ghost use Rattle.rules.specs.RuleFile.{masksAt, formulaAt, boardsIn, nodesIn, masksFrom};
+ghost use Rattle.rules.specs.RuleFile.{masksAt, boardsIn, nodesIn};
 ghost use Rattle.rules.specs.Read.{lengthsOk, offsetsOk, Reads};
 use crate::counts::BOARDS_MOST;
 use crate::counts::MASKS_AT;
@@ -55,18 +54,6 @@ fn offsets_ok(file: &[u8], b: usize, n: usize) -> bool
     le::u32_at(file, 12) as usize == MASKS_AT + 8 * b + n
 }
 
-// The file's masks, at the front of `masks`.
-fn masks_of(file: &[u8], masks: &mut [u64], b: usize)
-    requires { ⌜ (formulaAt b ≤ length (now file)) × (b ≤ length (now masks)) ⌝ }
-    ensures { λ _. ⌜ now (masks .exit) ≡ masksFrom (now (file .entry)) masksAt b ++ drop b (now (masks .entry)) ⌝ }
-{
-    let mut i: usize = 0;
-    while i < b {
-        masks[i] = le::u64_at(file, MASKS_AT + 8 * i);
-        i += 1;
-    }
-}
-
 // The masks and the formula into the lent outputs, zero past them.
 fn hand_out(found: &[u64], text: &[u8], masks: &mut [u64], formula: &mut [u8])
     requires { ⌜ (length (now found) ≡ length (now masks)) × (length (now text) ≤ length (now formula)) ⌝ }
@@ -97,7 +84,7 @@ pub fn read(file: &[u8], masks: &mut [u64], formula: &mut [u8]) -> ReadAnswer
         return ReadAnswer::Refused(Refusal::Offset);
     }
     let mut found = [0u64; BOARDS_MOST];
-    masks_of(file, &mut found, b);
+    le::column(file, MASKS_AT, 8, &mut found, b);
     if !masks::follow_rule(&found[..b], p) {
         return ReadAnswer::Refused(Refusal::Masks);
     }

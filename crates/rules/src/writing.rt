@@ -24,13 +24,7 @@ fn put_header(file: &mut [u8], b: u16, p: u16, n: u16)
 {
     let first = MASKS_AT as u16;
     let at = first + 8 * b;
-    le::put_u16(file, 0, VERSION);
-    le::put_u16(file, 2, b);
-    le::put_u16(file, 4, p);
-    le::put_u16(file, 6, n);
-    le::put_u16(file, 8, first);
-    le::put_u16(file, 10, at);
-    le::put_u32(file, 12, (at + n) as u32);
+    le::put_header(file, VERSION, b, p, n, first, at, (at + n) as u32);
 }
 
 // The masks' bytes, at the front of `out`.

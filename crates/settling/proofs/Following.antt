@@ -5,9 +5,13 @@ use mathlib.Core.Bool.{true, false}
 use mathlib.Core.List.{List, []}
 use Prim.Native.Nat.{ℕ, suc, _+_, _-_, _<_, _≤_}
 use native.Mathlib.Omega.{arith}
+use native.Mathlib.Numerals.{add-one}
 use lib.Bits.{bitAnd, bitOr}
+use lib.ListN.{length, getD, drop, drop-of-length-le}
+use lib.Seq.{drop-cons}
 use borrow.Author.Tests.{ne-eqb, eq-eqb}
 use Rattle.lists.specs.Tests.{pick}
+use Rattle.lists.specs.Listed.{listed}
 use Rattle.answers.specs.declared.Outcome.{Outcome}
 use Rattle.answers.specs.declared.Outcome.the-variants.{Refused, Done}
 use Rattle.answers.specs.declared.Refusal.{Refusal}
@@ -15,7 +19,7 @@ use Rattle.answers.specs.declared.Refusal.the-variants.{State, Outside}
 use Rattle.answers.specs.Said.{accepted, refused, numberOf, saidOutcome}
 use Rattle.answers.proofs.Answers.{number-some, order-ok, order-refused, order-done}
 use Rattle.masks.specs.Masks.{unionWith}
-use Rattle.state.specs.Fields.{boardsIn, slotsIn, maskIn, masksFrom, masksIn}
+use Rattle.state.specs.Fields.{boardsIn, slotsIn, maskIn, masksIn}
 use Rattle.state.specs.Clauses.{inMask, stateOk}
 use Rattle.state.specs.Calls.{sampleSays, sampleLeaves, stepSays, stepLeaves}
 use Rattle.sampling.specs.Sample.{Samples}
@@ -88,14 +92,14 @@ unfolding steppedBelow
 stepped-all s n e = rw e (record { says = refl; leaves = refl })
 
 -- ---- the masks' union
-pub union-more : (s : List ℕ) (n i all mask : ℕ) → i < n → mask ≡ maskIn s i
-    → unionWith all (masksFrom s i (n - i)) ≡ unionWith (bitOr all mask) (masksFrom s (i + 1) (n - (i + 1)))
-unfolding masksFrom unionWith
-union-more s n i all mask l q = let e : n - i ≡ suc (n - (i + 1)) = omega arith in rw (e, q)
+-- the masks from i on are joined to those before
+pub union-more : (masks : List ℕ) (i all : ℕ) → i < length masks → unionWith all (drop i masks) ≡ unionWith (bitOr all (getD masks i 0)) (drop (i + 1) masks)
+unfolding unionWith
+union-more masks i all l = rw (drop-cons masks i 0 l, add-one)
 
-pub union-all : (s : List ℕ) (n i all : ℕ) → n ≤ i → unionWith all (masksFrom s i (n - i)) ≡ all
-unfolding masksFrom unionWith
-union-all s n i all h = let e : n - i ≡ 0 = omega arith in rw e
+pub union-all : (masks : List ℕ) (i all : ℕ) → length masks ≤ i → unionWith all (drop i masks) ≡ all
+unfolding unionWith
+union-all masks i all h = rw (drop-of-length-le masks {i = i} h)
 
 -- ---- the ways out
 module _ (s : List ℕ) (event : ℕ) where
@@ -107,10 +111,10 @@ module _ (s : List ℕ) (event : ℕ) where
 
   module _ (ok : stateOk s ≡ true) (b : ℕ) (boards : b ≡ boardsIn s) where
     -- the event's check, by the union that was found
-    union-is : (u : ℕ) → u ≡ unionWith 0 (masksFrom s 0 b) → u ≡ unionWith 0 (masksIn s)
-    union-is u q = q ∙ ap (λ (x : ℕ). unionWith 0 (masksFrom s 0 x)) boards
+    union-is : (u : ℕ) → u ≡ unionWith 0 (listed (maskIn s) b) → u ≡ unionWith 0 (masksIn s)
+    union-is u q = q ∙ ap (λ (x : ℕ). unionWith 0 (listed (maskIn s) x)) boards
 
-    pub settled-outside : (u : ℕ) → u ≡ unionWith 0 (masksFrom s 0 b) → (bitAnd event u ≡ event → ⊥) → Comes (settledUnder s event) s (Refused Outside)
+    pub settled-outside : (u : ℕ) → u ≡ unionWith 0 (listed (maskIn s) b) → (bitAnd event u ≡ event → ⊥) → Comes (settledUnder s event) s (Refused Outside)
     unfolding settledUnder takenBy
     settled-outside u q n =
         comes-ends _ s (steppedBelow (slotsIn s)) (Refused Outside) Outside refl
@@ -122,7 +126,7 @@ module _ (s : List ℕ) (event : ℕ) where
           leaves = refl;
         }))
 
-    module _ (u : ℕ) (q : u ≡ unionWith 0 (masksFrom s 0 b)) (e : bitAnd event u ≡ event) where
+    module _ (u : ℕ) (q : u ≡ unionWith 0 (listed (maskIn s) b)) (e : bitAnd event u ≡ event) where
       taken : Comes (after (takenBy s event) s) s Done
       unfolding takenBy
       taken =

@@ -3,8 +3,9 @@
 ghost use mathlib.Core.Path.{_≡_};
 ghost use Prim.Native.Nat.{_<_, _≤_};
 ghost use lib.ListN.{length};
+ghost use Rattle.lists.specs.Listed.{listed};
 ghost use Rattle.masks.specs.Masks.{unionWith};
-ghost use Rattle.state.specs.Fields.{stateLength, maskIn, masksFrom};
+ghost use Rattle.state.specs.Fields.{stateLength, maskIn};
 ghost use Rattle.settling.specs.Settle.{sampledFrom, steppedBelow, settledUnder, Comes};
 use answers::Outcome;
 use answers::Refusal;
@@ -20,7 +21,7 @@ fn mask_of(state: &[u8], i: usize) -> u64
 // The union of the boards' masks.
 fn union(state: &[u8], boards: usize) -> u64
     requires { ⌜ (length (now state) ≡ stateLength) × (boards ≤ 16) ⌝ }
-    ensures { λ r. ⌜ r ≡ unionWith 0 (masksFrom (now (state .entry)) 0 boards) ⌝ }
+    ensures { λ r. ⌜ r ≡ unionWith 0 (listed (maskIn (now (state .entry))) boards) ⌝ }
 {
     let mut all: u64 = 0;
     let mut i: usize = 0;

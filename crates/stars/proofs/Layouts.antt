@@ -6,13 +6,14 @@ use mathlib.Core.List.{List, [], _∷_, map}
 use Prim.Native.Nat.{ℕ, zero, suc}
 use lib.ListN.{length}
 use Rattle.lists.specs.Tests.{pick, both, bit}
+use Rattle.lists.specs.Listed.{listed}
 use Rattle.answers.specs.Said.{accepted, refused, inOrder}
 use Rattle.kinds.specs.Kinds.{kindOf}
 use Rattle.le.specs.Le.{le, leAt}
 use Rattle.masks.specs.Masks.{sumTo, onesOf, sumOnes, unionWith, masksRule}
 use Rattle.ltl.specs.Formula.{leafOver, over}
 use Rattle.ltl.specs.Text.{textOver, formulaOf}
-use Rattle.rules.specs.RuleFile.{countsOk, maskBytes, fileOf, masksFrom}
+use Rattle.rules.specs.RuleFile.{countsOk, maskBytes, fileOf}
 use Rattle.rules.specs.Read.{offsetsOk}
 use Rattle.network.specs.Scores.{highest, chosen}
 use Rattle.network.specs.Layout.{Slot, looked, laid, load}
@@ -65,7 +66,7 @@ pub record Layouts : Type 0 where
   pub always-over : loadSays (fileOf (1 ∷ []) 1 (always 88)) stateLength ≡ refused 8
 
 pub layouts : Layouts
-unfolding pick both bit inOrder kindOf le leAt sumTo onesOf sumOnes unionWith masksRule leafOver over textOver countsOk maskBytes fileOf masksFrom offsetsOk highest chosen looked laid load lengthsOk loadSays
+unfolding pick both bit inOrder kindOf le leAt sumTo onesOf sumOnes unionWith masksRule leafOver over textOver countsOk maskBytes fileOf listed offsetsOk highest chosen looked laid load lengthsOk loadSays
 layouts =
     record {
       until-ever = refl;

@@ -7,6 +7,7 @@ use mathlib.Core.Option.{some}
 use Prim.Native.Nat.{ℕ}
 use lib.ListN.{replicate}
 use Rattle.lists.specs.Tests.{pick, both, either, bit}
+use Rattle.lists.specs.Listed.{listed}
 use Rattle.answers.specs.Said.{refused, inOrder, left}
 use Rattle.answers.specs.declared.Verdict.the-variants.{True, Pending}
 use Rattle.kinds.specs.Kinds.{kindOf}
@@ -15,15 +16,14 @@ use Rattle.masks.specs.Masks.{sumTo, onesOf, sumOnes, unionWith, masksRule}
 use Rattle.ltl.specs.Formula.{sameBool, leafOver, over}
 use Rattle.ltl.specs.Progression.{unfolded, isConstant, joined}
 use Rattle.ltl.specs.Text.{textOver, formulaOf}
-use Rattle.rules.specs.RuleFile.{countsOk, maskBytes, fileOf, masksFrom}
+use Rattle.rules.specs.RuleFile.{countsOk, maskBytes, fileOf}
 use Rattle.rules.specs.Read.{offsetsOk}
 use Rattle.network.specs.Scores.{highest, chosen}
 use Rattle.network.specs.Layout.{Slot, looked, laid, load, close}
 use Rattle.network.specs.Tick.{holdsOnly}
-use Rattle.state.specs.Fields as fields
 use Rattle.state.specs.Fields.{stretchEnd}
 use Rattle.state.specs.Clauses.{eachBelow, allZero, eachTrue, tidy, unfoldedOwn, loneOther, heldBy, among, distinct, boardOk, recordOk, gapOk, holdersIn, headerOk, masksOk, restOk, stateOk}
-use Rattle.state.specs.Bytes.{stateOf, slotsFrom}
+use Rattle.state.specs.Bytes.{stateOf}
 use Rattle.state.specs.Calls.{finishedIn, verdictIn, askSays, sampleSays, readyIn, stepSays, steppedTo, doneIn, closeSays}
 use Rattle.loading.specs.Load.{lengthsOk, loadSays}
 use Rattle.stars.proofs.Layouts.{twoMasks}
@@ -118,7 +118,7 @@ pub record Split : Type 0 where
   pub b-over : (b bits : ℕ) → sampleSays finished b bits ≡ refused 10
 
 pub split : Split
-unfolding pick both either bit inOrder left kindOf le leAt sumTo onesOf sumOnes unionWith masksRule sameBool leafOver over textOver isConstant joined countsOk maskBytes fileOf masksFrom offsetsOk highest chosen looked laid load close holdsOnly fields.masksFrom stretchEnd eachBelow allZero eachTrue tidy unfoldedOwn loneOther heldBy among distinct boardOk recordOk gapOk holdersIn headerOk masksOk restOk stateOk stateOf slotsFrom finishedIn verdictIn askSays sampleSays readyIn stepSays steppedTo doneIn closeSays lengthsOk loadSays
+unfolding pick both either bit inOrder left kindOf le leAt sumTo onesOf sumOnes unionWith masksRule sameBool leafOver over textOver isConstant joined countsOk maskBytes fileOf listed offsetsOk highest chosen looked laid load close holdsOnly stretchEnd eachBelow allZero eachTrue tidy unfoldedOwn loneOther heldBy among distinct boardOk recordOk gapOk holdersIn headerOk masksOk restOk stateOk stateOf finishedIn verdictIn askSays sampleSays readyIn stepSays steppedTo doneIn closeSays lengthsOk loadSays
 split =
     record {
       file = refl;

@@ -5,6 +5,7 @@ use mathlib.Core.Path.{_≡_, refl}
 use mathlib.Core.List.{List, [], _∷_}
 use Prim.Native.Nat.{ℕ}
 use Rattle.lists.specs.Tests.{pick, both, either, bit}
+use Rattle.lists.specs.Listed.{listed}
 use Rattle.answers.specs.Said.{refused, inOrder, left}
 use Rattle.answers.specs.declared.Verdict.the-variants.{True, Pending}
 use Rattle.kinds.specs.Kinds.{kindOf}
@@ -13,15 +14,14 @@ use Rattle.masks.specs.Masks.{sumTo, onesOf, sumOnes, unionWith, masksRule}
 use Rattle.ltl.specs.Formula.{sameBool, leafOver, over}
 use Rattle.ltl.specs.Progression.{isConstant, joined}
 use Rattle.ltl.specs.Text.{textOver}
-use Rattle.rules.specs.RuleFile.{countsOk, maskBytes, fileOf, masksFrom}
+use Rattle.rules.specs.RuleFile.{countsOk, maskBytes, fileOf}
 use Rattle.rules.specs.Read.{offsetsOk}
 use Rattle.network.specs.Scores.{highest, chosen}
 use Rattle.network.specs.Layout.{looked, laid, load, close}
 use Rattle.network.specs.Tick.{holdsOnly}
-use Rattle.state.specs.Fields as fields
 use Rattle.state.specs.Fields.{stretchEnd}
 use Rattle.state.specs.Clauses.{eachBelow, allZero, eachTrue, tidy, unfoldedOwn, loneOther, heldBy, distinct, boardOk, recordOk, gapOk, holdersIn, headerOk, masksOk, restOk, stateOk}
-use Rattle.state.specs.Bytes.{stateOf, slotsFrom}
+use Rattle.state.specs.Bytes.{stateOf}
 use Rattle.state.specs.Calls.{finishedIn, verdictIn, askSays, sampleSays, readyIn, stepSays, steppedTo, doneIn, closeSays}
 use Rattle.loading.specs.Load.{lengthsOk, loadSays}
 use Rattle.stars.proofs.States.{board, slot, state, LoadGives, SampleGives, StepGives, CloseGives, close-gives, AskGives}
@@ -66,7 +66,7 @@ pub record Unsplit : Type 0 where
   pub or-ends : AskGives (trueLaid 1) True 1 1 1
 
 pub unsplit : Unsplit
-unfolding pick both either bit inOrder left kindOf le leAt sumTo onesOf sumOnes unionWith masksRule sameBool leafOver over textOver isConstant joined countsOk maskBytes fileOf masksFrom offsetsOk highest chosen looked laid load close holdsOnly fields.masksFrom stretchEnd eachBelow allZero eachTrue tidy unfoldedOwn loneOther heldBy distinct boardOk recordOk gapOk holdersIn headerOk masksOk restOk stateOk stateOf slotsFrom finishedIn verdictIn askSays sampleSays readyIn stepSays steppedTo doneIn closeSays lengthsOk loadSays
+unfolding pick both either bit inOrder left kindOf le leAt sumTo onesOf sumOnes unionWith masksRule sameBool leafOver over textOver isConstant joined countsOk maskBytes fileOf listed offsetsOk highest chosen looked laid load close holdsOnly stretchEnd eachBelow allZero eachTrue tidy unfoldedOwn loneOther heldBy distinct boardOk recordOk gapOk holdersIn headerOk masksOk restOk stateOk stateOf finishedIn verdictIn askSays sampleSays readyIn stepSays steppedTo doneIn closeSays lengthsOk loadSays
 unsplit =
     record {
       true-loads = record { says = refl; leaves = λ before. refl };

@@ -7,7 +7,7 @@ use Prim.Native.Nat.{ℕ, zero, suc, _+_, _-_, _*_, _^_, _<_, _≤_}
 use native.Mathlib.Nat.{mod-eq-of-lt}
 use native.Mathlib.Omega.{arith}
 use lib.ListN.{length, getD, take, drop, replicate, length-append}
-use lib.Seq.{take-at, drop-at, drop-drop, getD-append-add}
+use lib.Seq.{take-at, drop-at, drop-drop, getD-append-add, ext-getD}
 use Rattle.le.specs.Le.{le, leAt}
 use Rattle.le.proofs.Laws.{le-length, leAt-behind, leAt-le}
 use Rattle.ltl.specs.Formula.{size, encode, Within}
@@ -15,7 +15,8 @@ use Rattle.ltl.specs.Text.{textOf, someFormula}
 use Rattle.ltl.proofs.Texts.{length-encode, text-of}
 use Rattle.network.specs.Layout.{Slot, slotAt}
 use Rattle.state.specs.Fields.{stateLength, boardsIn, slotsIn, nodesIn, boardsAt, slotsAt, nodesAt, boardOfIn, steppedIn, startIn, lengthIn, slotBytes, formulaIn}
-use Rattle.state.specs.Bytes.{nodesOf, header, boardRecords, slotRecords, nodeBytes, stateOf, slotsFrom, networkOf}
+use Rattle.state.specs.Bytes.{nodesOf, header, boardRecords, slotRecords, nodeBytes, stateOf, slotIn, networkOf}
+use Rattle.state.proofs.Rows.{network-length, network-at}
 
 -- a field behind other bytes
 pub skip : (m v : ℕ) (x : List ℕ) (at n : ℕ) → leAt (le m v ++ x) (m + at) n ≡ leAt x at n
@@ -26,14 +27,8 @@ field n v x h = leAt-le [] x 0 n v refl ∙ mod-eq-of-lt h
 
 -- ---- lengths
 pub header-length : (b s n ticks : ℕ) → length (header b s n ticks) ≡ 16
-header-length b s n ticks =
-    let a1 = length-append (le 2 b) (le 2 s ++ (le 2 n ++ (le 2 boardsAt ++ (le 2 (slotsAt b) ++ (le 2 (nodesAt b s) ++ le 4 ticks))))) in
-    let a2 = length-append (le 2 s) (le 2 n ++ (le 2 boardsAt ++ (le 2 (slotsAt b) ++ (le 2 (nodesAt b s) ++ le 4 ticks)))) in
-    let a3 = length-append (le 2 n) (le 2 boardsAt ++ (le 2 (slotsAt b) ++ (le 2 (nodesAt b s) ++ le 4 ticks))) in
-    let a4 = length-append (le 2 boardsAt) (le 2 (slotsAt b) ++ (le 2 (nodesAt b s) ++ le 4 ticks)) in
-    let a5 = length-append (le 2 (slotsAt b)) (le 2 (nodesAt b s) ++ le 4 ticks) in
-    let a6 = length-append (le 2 (nodesAt b s)) (le 4 ticks) in
-    omega (arith, le-length 2 b, le-length 2 s, le-length 2 n, le-length 2 boardsAt, le-length 2 (slotsAt b), le-length 2 (nodesAt b s), le-length 4 ticks)
+unfolding le
+header-length b s n ticks = refl
 
 pub boards-length : (masks : List ℕ) → length (boardRecords masks) ≡ 17 * length masks
 boards-length [] = refl
@@ -220,18 +215,10 @@ module _ (masks : List ℕ) (slots : List Slot) (ticks : ℕ) (few-boards : leng
     reads-formula = ap textOf reads-bytes ∙ text-of (slotAt slots k .formula) (coded k l)
 
   -- the network that was written is the one that is read
-  reads-from : (n k : ℕ) (ss : List Slot) → k + n ≡ length slots → length ss ≡ n → ((i : ℕ) → i < n → slotAt ss i ≡ slotAt slots (k + i)) → slotsFrom (stateOf masks slots ticks) k n ≡ ss
-  unfolding slotsFrom
-  reads-from zero k [] e m h = refl
-  reads-from zero k (s ∷ ss) e m h = absurd (omega arith)
-  reads-from (suc n) k [] e m h = absurd (omega arith)
-  reads-from (suc n) k (s ∷ ss) e m h =
-      let z : k + 0 ≡ k = omega arith in
-      let q : s ≡ slotAt slots k = h 0 (omega arith) ∙ ap (slotAt slots) z in
-      ap₂ _∷_
-      (λ i. record { board = reads-board k (omega arith) i; formula = ap someFormula (reads-formula k (omega arith)) i })
-      (reads-from n (k + 1) ss (omega arith) (omega arith) (λ i l. (let y : k + suc i ≡ k + 1 + i = omega arith in h (suc i) (omega arith) ∙ ap (slotAt slots) y)))
-      ∙ ap (λ (x : Slot). x ∷ ss) (sym q)
+  slot-reads : (k : ℕ) (l : k < length slots) → slotIn (stateOf masks slots ticks) k ≡ slotAt slots k
+  slot-reads k l = λ i. record { board = reads-board k l i; formula = ap someFormula (reads-formula k l) i }
 
   pub network-reads : networkOf (stateOf masks slots ticks) ≡ slots
-  network-reads = rw reads-slots (reads-from (length slots) 0 slots (omega arith) refl (λ i l. (let y : i ≡ 0 + i = omega arith in ap (slotAt slots) y)))
+  network-reads =
+      let n = network-length (stateOf masks slots ticks) in
+      ext-getD _ _ slots (n ∙ reads-slots) (λ k l. network-at (stateOf masks slots ticks) k (omega arith) ∙ slot-reads k (omega (arith, reads-slots)))

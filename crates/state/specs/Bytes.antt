@@ -1,9 +1,10 @@
 -- A network as the bytes of a state with nothing sampled or stepped, and the network that a state holds.
 -- Assumes nothing: these are definitions.
-use Prim.Native.Nat.{ℕ, zero, suc, _+_}
+use Prim.Native.Nat.{ℕ, _+_}
 use mathlib.Core.List.{List, [], _∷_, _++_}
 use lib.ListN.{length, replicate}
 use Rattle.lists.specs.Runs.{padded}
+use Rattle.lists.specs.Listed.{listed}
 use Rattle.le.specs.Le.{le}
 use Rattle.ltl.specs.Text.{someFormula}
 use Rattle.ltl.specs.Formula.{Formula, size, encode}
@@ -42,10 +43,9 @@ stateOf masks slots ticks =
 abbrev pub formulaAt : List ℕ → ℕ → Formula
 formulaAt s k = someFormula (formulaIn s k)
 
--- slots k, k + 1, .. , n of them
-unfoldable pub slotsFrom : List ℕ → ℕ → ℕ → List Slot
-slotsFrom s k zero = []
-slotsFrom s k (suc n) = record { board = boardOfIn s k; formula = formulaAt s k } ∷ slotsFrom s (k + 1) n
+-- a slot as the network has it
+abbrev pub slotIn : List ℕ → ℕ → Slot
+slotIn s k = record { board = boardOfIn s k; formula = formulaAt s k }
 
 abbrev pub networkOf : List ℕ → List Slot
-networkOf s = slotsFrom s 0 (slotsIn s)
+networkOf s = listed (slotIn s) (slotsIn s)

@@ -1,11 +1,12 @@
 -- The state's fields: a header of 16 bytes, a record of 17 bytes for each board, one of 6 for each slot, the nodes, and zeros to the
 -- end. Assumes nothing: these are definitions.
-use Prim.Native.Nat.{ℕ, zero, suc, _+_, _*_}
-use mathlib.Core.List.{List, [], _∷_}
+use Prim.Native.Nat.{ℕ, _+_, _*_}
+use mathlib.Core.List.{List}
 use mathlib.Core.Option.{Option}
 use lib.ListN.{take, drop, getD}
 use lib.Dec.{ltb}
 use Rattle.lists.specs.Tests.{pick}
+use Rattle.lists.specs.Listed.{listed}
 use Rattle.le.specs.Le.{leAt}
 use Rattle.ltl.specs.Formula.{Formula}
 use Rattle.ltl.specs.Text.{textOf}
@@ -59,13 +60,8 @@ sampleIn s i = leAt s (boardAt i + 8) 8
 abbrev pub sampledIn : List ℕ → ℕ → ℕ
 sampledIn s i = getD s (boardAt i + 16) 0
 
--- the masks of boards i, i + 1, .. , n of them
-unfoldable pub masksFrom : List ℕ → ℕ → ℕ → List ℕ
-masksFrom s i zero = []
-masksFrom s i (suc n) = maskIn s i ∷ masksFrom s (i + 1) n
-
 abbrev pub masksIn : List ℕ → List ℕ
-masksIn s = masksFrom s 0 (boardsIn s)
+masksIn s = listed (maskIn s) (boardsIn s)
 
 -- ---- a slot's record: board 1, stepped 1, start 2, length 2
 abbrev pub slotRecordAt : List ℕ → ℕ → ℕ

@@ -16,13 +16,8 @@ fn put_header(state: &mut [u8], b: u16, n: u16, m: u16, ticks: u32)
     requires { ⌜ (boardsAt ≤ length (now state)) × (b ≤ 16) × (n ≤ 64) ⌝ }
     ensures { λ _. ⌜ now (state .exit) ≡ header b n m ticks ++ drop boardsAt (now (state .entry)) ⌝ }
 {
-    le::put_u16(state, 0, b);
-    le::put_u16(state, 2, n);
-    le::put_u16(state, 4, m);
-    le::put_u16(state, 6, 16);
-    le::put_u16(state, 8, 16 + 17 * b);
-    le::put_u16(state, 10, 16 + 17 * b + 6 * n);
-    le::put_u32(state, 12, ticks);
+    let at = 16 + 17 * b;
+    le::put_header(state, b, n, m, 16, at, at + 6 * n, ticks);
 }
 
 // The record of a board that has not sampled, at the front of `out`.

@@ -21,7 +21,8 @@ use Rattle.state.specs.Calls.{closeSays, closeLeaves}
 use Rattle.state.proofs.Rows.{masks-length, masks-at}
 use Rattle.passing.proofs.Passing.{passing}
 use Rattle.watching.specs.Watch.{Calls, Saw, Tick}
-use Rattle.watching.proofs.Listed.{listed, listed-length, listed-at}
+use Rattle.lists.specs.Listed.{listed}
+use Rattle.lists.proofs.Listed.{listed-length, listed-at}
 use Rattle.watching.proofs.Bits.{union-own}
 
 abbrev pub eventOf : List ℕ → Event

@@ -1,5 +1,4 @@
 -- What the calls of a watch keep, and the claims about a watch.
-pub mod Listed
 pub mod Bits
 pub mod Puts
 pub mod Framed

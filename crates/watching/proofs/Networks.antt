@@ -26,7 +26,8 @@ use Rattle.state.specs.Calls.{readyIn, steppedTo}
 use Rattle.state.proofs.Rows.{network-length, network-at}
 use Rattle.passing.proofs.Passing.{passing}
 use Rattle.passing.proofs.Held.{slot-holds}
-use Rattle.watching.proofs.Listed.{listed, listed-length, listed-at}
+use Rattle.lists.specs.Listed.{listed}
+use Rattle.lists.proofs.Listed.{listed-length, listed-at}
 use Rattle.watching.proofs.Framed.{slots-same, board-of-same}
 use Rattle.watching.proofs.Slots.{same-formula-at}
 use Rattle.watching.proofs.Sampling.{sampled, sample-framed, sample-slot}

@@ -8,6 +8,7 @@ use Prim.Native.Nat.{ℕ, zero, suc}
 use native.Mathlib.Omega.{arith}
 use lib.ListN.{replicate}
 use Rattle.lists.specs.Tests.{pick, both, either, bit}
+use Rattle.lists.specs.Listed.{listed}
 use Rattle.answers.specs.Said.{accepted, left, inOrder}
 use Rattle.kinds.specs.declared.Leaf.the-variants.{Prop}
 use Rattle.kinds.specs.declared.Unary.the-variants.{Next}
@@ -21,9 +22,9 @@ use Rattle.masks.specs.Masks.{sumTo, onesOf, sumOnes, unionWith, masksRule}
 use Rattle.network.specs.Scores.{highest, chosen, sampleOf}
 use Rattle.network.specs.Layout.{looked, laid, load, relaid, close}
 use Rattle.network.specs.Tick.{holdsOnly}
-use Rattle.state.specs.Fields.{boardsIn, masksFrom, stretchEnd}
+use Rattle.state.specs.Fields.{boardsIn, stretchEnd}
 use Rattle.state.specs.Clauses.{eachBelow, allZero, eachTrue, tidy, unfoldedOwn, loneOther, heldBy, among, distinct, boardOk, recordOk, gapOk, holdersIn, headerOk, masksOk, restOk, stateOk}
-use Rattle.state.specs.Bytes.{stateOf, slotsFrom}
+use Rattle.state.specs.Bytes.{stateOf}
 use Rattle.state.specs.Calls.{finishedIn, sampleSays, sampleLeaves, readyIn, stepSays, steppedTo, stepLeaves, doneIn, closeSays, closeLeaves, loadedState}
 use Rattle.watching.specs.Watch.{Loads, none, sample, step, Saw, Watch, begun, ticked}
 use Rattle.watching.proofs.Demand.{watch-verdict, watch-true}
@@ -53,13 +54,13 @@ pub closed : List ℕ
 closed = closeLeaves answered (replicate 4768 7)
 
 saw : Saw answered 2
-unfolding answered pick both either bit left inOrder kindOf le leAt sameBool sameLeaf same leafOver over isConstant negated member joined sumTo onesOf sumOnes unionWith masksRule highest chosen sampleOf looked laid load relaid close holdsOnly masksFrom stretchEnd eachBelow allZero eachTrue tidy unfoldedOwn loneOther heldBy among distinct boardOk recordOk gapOk holdersIn headerOk masksOk restOk stateOk stateOf slotsFrom finishedIn sampleSays readyIn stepSays steppedTo doneIn closeSays
+unfolding answered pick both either bit left inOrder kindOf le leAt sameBool sameLeaf same leafOver over isConstant negated member joined sumTo onesOf sumOnes unionWith masksRule highest chosen sampleOf looked laid load relaid close holdsOnly listed stretchEnd eachBelow allZero eachTrue tidy unfoldedOwn loneOther heldBy among distinct boardOk recordOk gapOk holdersIn headerOk masksOk restOk stateOk stateOf finishedIn sampleSays readyIn stepSays steppedTo doneIn closeSays
 saw zero l = refl
 saw (suc zero) l = refl
 saw (suc (suc b)) l = let e : boardsIn answered ≡ 2 = refl in absurd (omega arith)
 
 pub until-watch : Watch 2 (1 ∷ 2 ∷ []) rule (2 ∷ []) closed
-unfolding answered closed pick both either bit left inOrder kindOf le leAt sameBool sameLeaf same leafOver over isConstant negated member joined sumTo onesOf sumOnes unionWith masksRule highest chosen looked laid load relaid close holdsOnly masksFrom stretchEnd eachBelow allZero eachTrue tidy unfoldedOwn loneOther heldBy among distinct boardOk recordOk gapOk holdersIn headerOk masksOk restOk stateOk stateOf slotsFrom finishedIn sampleSays readyIn stepSays steppedTo doneIn closeSays
+unfolding answered closed pick both either bit left inOrder kindOf le leAt sameBool sameLeaf same leafOver over isConstant negated member joined sumTo onesOf sumOnes unionWith masksRule highest chosen looked laid load relaid close holdsOnly listed stretchEnd eachBelow allZero eachTrue tidy unfoldedOwn loneOther heldBy among distinct boardOk recordOk gapOk holdersIn headerOk masksOk restOk stateOk stateOf finishedIn sampleSays readyIn stepSays steppedTo doneIn closeSays
 until-watch = ticked (begun loads) 2 (record { last = answered; calls = step (step (sample (sample none 0 0) 1 2) 1) 0; saw = saw; second = replicate 4768 7; closes = refl; leaves = refl })
 
 pub until-met : (w : Trace) → Satisfies (continued (2 ∷ []) w) rule
@@ -77,5 +78,5 @@ pub record Handed : Type 0 where
   pub fails : stateOk (stepLeaves (sampleLeaves handed 0 0) 0) ≡ false
 
 pub handed-fails : Handed
-unfolding handed pick both either bit left inOrder kindOf le leAt sameBool sameLeaf same leafOver over isConstant negated member joined sumTo onesOf sumOnes unionWith masksRule highest chosen looked laid load relaid close holdsOnly masksFrom stretchEnd eachBelow allZero eachTrue tidy unfoldedOwn loneOther heldBy among distinct boardOk recordOk gapOk holdersIn headerOk masksOk restOk stateOk stateOf slotsFrom finishedIn sampleSays readyIn stepSays steppedTo doneIn closeSays
+unfolding handed pick both either bit left inOrder kindOf le leAt sameBool sameLeaf same leafOver over isConstant negated member joined sumTo onesOf sumOnes unionWith masksRule highest chosen looked laid load relaid close holdsOnly listed stretchEnd eachBelow allZero eachTrue tidy unfoldedOwn loneOther heldBy among distinct boardOk recordOk gapOk holdersIn headerOk masksOk restOk stateOk stateOf finishedIn sampleSays readyIn stepSays steppedTo doneIn closeSays
 handed-fails = record { passes = refl; steps = refl; fails = refl }

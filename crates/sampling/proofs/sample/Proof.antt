@@ -1,7 +1,13 @@
--- One law of proofs/Outcomes.antt for each way out. Assumes nothing.
-use mathlib.Core.Path.{sym, ap, _∙_}
+-- What each check that was passed tells, at the place behind it; one law of proofs/Outcomes.antt for each way out. Assumes nothing.
+use mathlib.Core.Path.{_≡_, sym, ap, _∙_}
+use mathlib.Core.Bool.{true, false}
+use Prim.Native.Nat.{_<_}
 use lib.Bits.{bitAnd}
 use borrow.Author.Tests.{not-true, not-false}
+use Rattle.state.specs.Fields.{boardsIn, maskIn}
+use Rattle.state.specs.Clauses.{stateOk}
+use Rattle.state.specs.Calls.{finishedIn}
+use Rattle.checking.specs.Header.{Sized}
 use Rattle.checking.proofs.Assembled.{passed-length, passed-sized}
 use Rattle.sampling.proofs.Outcomes.{refused-state, refused-finished, refused-nowhere, refused-outside, refused-already, done}
 use native.Mathlib.Omega.{arith}
@@ -9,103 +15,61 @@ use borrow.Author.Needs.{needs}
 use Rattle.sampling.proofs.sample.Statement.{statement}
 use Rattle.sampling.proofs.sample.Tie as tie
 
-state-ok-requires : tie.Need-state-ok-requires
-state-ok-requires c κs = search needs
+-- ---- from behind a check back to the one before it
+abbrev entry : tie.Else1 → tie.Start
+entry c = c .before .before .before .before
 
-same-length : tie.Need-same-length
-same-length c = search needs
+abbrev checked : tie.Else2 → tie.Else1
+checked c = c .before .before .before
 
-returns : tie.Need-returns
-returns c = refused-state (c .before .before .before .before .args .state .now) (c .before .before .before .before .args .board) (c .before .before .before .before .args .bits) (sym (c .before .state-ok .ensures) ∙ not-true (c .before .state-ok .result) (c .if1 .taken))
+abbrev unfinished : tie.Else3 → tie.Else2
+unfinished c = c .before .before .before
 
-finished-requires : tie.Need-finished-requires
-finished-requires c κs = sym (c .before .before .state-ok .ensures) ∙ not-false (c .before .before .state-ok .result) (c .before .if1 .left)
+abbrev found : tie.Else4 → tie.Else3
+found c = c .before .before .before
 
-same-length-2 : tie.Need-same-length-2
-same-length-2 c = search needs
+-- ---- what is known there
+passes : (c : tie.Else1) → stateOk (entry c .args .state .now) ≡ true
+passes c = sym (c .before .state-ok .ensures) ∙ not-false _ (c .if1 .left)
 
-returns-2 : tie.Need-returns-2
-returns-2 c = refused-finished (c .before .before .before .before .before .before .before .args .state .now) (c .before .before .before .before .before .before .before .args .board) (c .before .before .before .before .before .before .before .args .bits) (sym (c .before .before .before .before .state-ok .ensures) ∙ not-false (c .before .before .before .before .state-ok .result) (c .before .before .before .if1 .left)) (sym (c .before .finished .ensures) ∙ c .if2 .taken)
+going : (c : tie.Else2) → finishedIn (entry (checked c) .args .state .now) ≡ false
+going c = sym (c .before .finished .ensures) ∙ c .if2 .left
 
-counts-of-requires : tie.Need-counts-of-requires
-counts-of-requires c κs = passed-length (c .before .before .before .before .before .before .before .before .args .state .now) (sym (c .before .before .before .before .before .state-ok .ensures) ∙ not-false (c .before .before .before .before .before .state-ok .result) (c .before .before .before .before .if1 .left))
+there : (c : tie.Else3) → let a = entry (checked (unfinished c)) .args in a .board < boardsIn (a .state .now)
+there c = let q = c .before .counts-of .ensures .boards-are in omega arith
 
-same-length-3 : tie.Need-same-length-3
-same-length-3 c = search needs
+sized : (c : tie.Else3) → let n = c .before .counts-of .result in Sized (entry (checked (unfinished c)) .args .state .now) (n .boards) (n .slots) (n .nodes)
+sized c = passed-sized _ _ _ _ (passes (checked (unfinished c))) (c .before .counts-of .ensures)
 
-returns-3 : tie.Need-returns-3
-returns-3 c = refused-nowhere (c .before .before .before .before .before .before .before .before .before .before .args .state .now) (c .before .before .before .before .before .before .before .before .before .before .args .board) (c .before .before .before .before .before .before .before .before .before .before .args .bits) (sym (c .before .before .before .before .before .before .before .state-ok .ensures) ∙ not-false (c .before .before .before .before .before .before .before .state-ok .result) (c .before .before .before .before .before .before .if1 .left)) (sym (c .before .before .before .before .finished .ensures) ∙ c .before .before .before .if2 .left) (let q = c .before .counts-of .ensures .boards-are in omega arith)
-
-mul-at : tie.Need-mul-at
-mul-at c = let z = passed-sized (c .before .before .before .before .before .before .before .before .before .before .args .state .now) (c .before .counts-of .result .boards) (c .before .counts-of .result .slots) (c .before .counts-of .result .nodes) (sym (c .before .before .before .before .before .before .before .state-ok .ensures) ∙ not-false (c .before .before .before .before .before .before .before .state-ok .result) (c .before .before .before .before .before .before .if1 .left)) (c .before .counts-of .ensures) in omega arith
-
-add-at : tie.Need-add-at
-add-at c = let z = passed-sized (c .before .before .before .before .before .before .before .before .before .before .args .state .now) (c .before .counts-of .result .boards) (c .before .counts-of .result .slots) (c .before .counts-of .result .nodes) (sym (c .before .before .before .before .before .before .before .state-ok .ensures) ∙ not-false (c .before .before .before .before .before .before .before .state-ok .result) (c .before .before .before .before .before .before .if1 .left)) (c .before .counts-of .ensures) in omega arith
-
-u64-at-requires : tie.Need-u64-at-requires
-u64-at-requires c κs = let z = passed-sized (c .before .before .before .before .before .before .before .before .before .before .before .args .state .now) (c .before .before .counts-of .result .boards) (c .before .before .counts-of .result .slots) (c .before .before .counts-of .result .nodes) (sym (c .before .before .before .before .before .before .before .before .state-ok .ensures) ∙ not-false (c .before .before .before .before .before .before .before .before .state-ok .result) (c .before .before .before .before .before .before .before .if1 .left)) (c .before .before .counts-of .ensures) in omega arith
-
-same-length-4 : tie.Need-same-length-4
-same-length-4 c = search needs
-
-returns-4 : tie.Need-returns-4
-returns-4 c = refused-outside (c .before .before .before .before .before .before .before .before .before .before .before .before .before .args .state .now) (c .before .before .before .before .before .before .before .before .before .before .before .before .before .args .board) (c .before .before .before .before .before .before .before .before .before .before .before .before .before .args .bits) (sym (c .before .before .before .before .before .before .before .before .before .before .state-ok .ensures) ∙ not-false (c .before .before .before .before .before .before .before .before .before .before .state-ok .result) (c .before .before .before .before .before .before .before .before .before .if1 .left)) (sym (c .before .before .before .before .before .before .before .finished .ensures) ∙ c .before .before .before .before .before .before .if2 .left) (let q = c .before .before .before .before .counts-of .ensures .boards-are in omega arith) (λ q. c .if4 .taken (ap (bitAnd (c .before .before .before .before .before .before .before .before .before .before .before .before .before .args .bits)) (c .before .u64-at .ensures) ∙ q))
-
-add-if5 : tie.Need-add-if5
-add-if5 c = let z = passed-sized (c .before .before .before .before .before .before .before .before .before .before .before .before .before .args .state .now) (c .before .before .before .before .counts-of .result .boards) (c .before .before .before .before .counts-of .result .slots) (c .before .before .before .before .counts-of .result .nodes) (sym (c .before .before .before .before .before .before .before .before .before .before .state-ok .ensures) ∙ not-false (c .before .before .before .before .before .before .before .before .before .before .state-ok .result) (c .before .before .before .before .before .before .before .before .before .if1 .left)) (c .before .before .before .before .counts-of .ensures) in omega arith
-
-slice-read-if5 : tie.Need-slice-read-if5
-slice-read-if5 c = let z = passed-sized (c .before .before .before .before .before .before .before .before .before .before .before .before .before .before .args .state .now) (c .before .before .before .before .before .counts-of .result .boards) (c .before .before .before .before .before .counts-of .result .slots) (c .before .before .before .before .before .counts-of .result .nodes) (sym (c .before .before .before .before .before .before .before .before .before .before .before .state-ok .ensures) ∙ not-false (c .before .before .before .before .before .before .before .before .before .before .before .state-ok .result) (c .before .before .before .before .before .before .before .before .before .before .if1 .left)) (c .before .before .before .before .before .counts-of .ensures) in omega arith
-
-same-length-5 : tie.Need-same-length-5
-same-length-5 c = search needs
-
-returns-5 : tie.Need-returns-5
-returns-5 c = refused-already (c .before .before .before .before .before .before .before .before .before .before .before .before .before .before .before .args .state .now) (c .before .before .before .before .before .before .before .before .before .before .before .before .before .before .before .args .board) (c .before .before .before .before .before .before .before .before .before .before .before .before .before .before .before .args .bits) (sym (c .before .before .before .before .before .before .before .before .before .before .before .before .state-ok .ensures) ∙ not-false (c .before .before .before .before .before .before .before .before .before .before .before .before .state-ok .result) (c .before .before .before .before .before .before .before .before .before .before .before .if1 .left)) (sym (c .before .before .before .before .before .before .before .before .before .finished .ensures) ∙ c .before .before .before .before .before .before .before .before .if2 .left) (let q = c .before .before .before .before .before .before .counts-of .ensures .boards-are in omega arith) (sym (ap (bitAnd (c .before .before .before .before .before .before .before .before .before .before .before .before .before .before .before .args .bits)) (c .before .before .before .u64-at .ensures)) ∙ c .before .before .if4 .left) (c .if5 .taken)
-
-add-put-u64 : tie.Need-add-put-u64
-add-put-u64 c = let z = passed-sized (c .before .before .before .before .before .before .before .before .before .before .before .before .before .before .before .before .args .state .now) (c .before .before .before .before .before .before .before .counts-of .result .boards) (c .before .before .before .before .before .before .before .counts-of .result .slots) (c .before .before .before .before .before .before .before .counts-of .result .nodes) (sym (c .before .before .before .before .before .before .before .before .before .before .before .before .before .state-ok .ensures) ∙ not-false (c .before .before .before .before .before .before .before .before .before .before .before .before .before .state-ok .result) (c .before .before .before .before .before .before .before .before .before .before .before .before .if1 .left)) (c .before .before .before .before .before .before .before .counts-of .ensures) in omega arith
-
-put-u64-requires : tie.Need-put-u64-requires
-put-u64-requires c κs = let z = passed-sized (c .before .before .before .before .before .before .before .before .before .before .before .before .before .before .before .before .args .state .now) (c .before .before .before .before .before .before .before .counts-of .result .boards) (c .before .before .before .before .before .before .before .counts-of .result .slots) (c .before .before .before .before .before .before .before .counts-of .result .nodes) (sym (c .before .before .before .before .before .before .before .before .before .before .before .before .before .state-ok .ensures) ∙ not-false (c .before .before .before .before .before .before .before .before .before .before .before .before .before .state-ok .result) (c .before .before .before .before .before .before .before .before .before .before .before .before .if1 .left)) (c .before .before .before .before .before .before .before .counts-of .ensures) in omega arith
-
-add-state : tie.Need-add-state
-add-state c = let z = passed-sized (c .before .before .before .before .before .before .before .before .before .before .before .before .before .before .before .before .before .before .before .args .state .now) (c .before .before .before .before .before .before .before .before .before .before .counts-of .result .boards) (c .before .before .before .before .before .before .before .before .before .before .counts-of .result .slots) (c .before .before .before .before .before .before .before .before .before .before .counts-of .result .nodes) (sym (c .before .before .before .before .before .before .before .before .before .before .before .before .before .before .before .before .state-ok .ensures) ∙ not-false (c .before .before .before .before .before .before .before .before .before .before .before .before .before .before .before .before .state-ok .result) (c .before .before .before .before .before .before .before .before .before .before .before .before .before .before .before .if1 .left)) (c .before .before .before .before .before .before .before .before .before .before .counts-of .ensures) in omega arith
-
-slice-write-state : tie.Need-slice-write-state
-slice-write-state c = let k = c .before .before .put-u64 .kept .0 in let z = passed-sized (c .before .before .before .before .before .before .before .before .before .before .before .before .before .before .before .before .before .before .before .args .state .now) (c .before .before .before .before .before .before .before .before .before .before .counts-of .result .boards) (c .before .before .before .before .before .before .before .before .before .before .counts-of .result .slots) (c .before .before .before .before .before .before .before .before .before .before .counts-of .result .nodes) (sym (c .before .before .before .before .before .before .before .before .before .before .before .before .before .before .before .before .state-ok .ensures) ∙ not-false (c .before .before .before .before .before .before .before .before .before .before .before .before .before .before .before .before .state-ok .result) (c .before .before .before .before .before .before .before .before .before .before .before .before .before .before .before .if1 .left)) (c .before .before .before .before .before .before .before .before .before .before .counts-of .ensures) in omega arith
-
-same-length-6 : tie.Need-same-length-6
-same-length-6 c = search needs
-
-returns-6 : tie.Need-returns-6
-returns-6 c = done (c .before .before .before .before .before .before .before .before .before .before .before .before .before .before .before .before .before .before .before .args .state .now) (c .before .before .before .before .before .before .before .before .before .before .before .before .before .before .before .before .before .before .before .args .board) (c .before .before .before .before .before .before .before .before .before .before .before .before .before .before .before .before .before .before .before .args .bits) (sym (c .before .before .before .before .before .before .before .before .before .before .before .before .before .before .before .before .state-ok .ensures) ∙ not-false (c .before .before .before .before .before .before .before .before .before .before .before .before .before .before .before .before .state-ok .result) (c .before .before .before .before .before .before .before .before .before .before .before .before .before .before .before .if1 .left)) (sym (c .before .before .before .before .before .before .before .before .before .before .before .before .before .finished .ensures) ∙ c .before .before .before .before .before .before .before .before .before .before .before .before .if2 .left) (let q = c .before .before .before .before .before .before .before .before .before .before .counts-of .ensures .boards-are in omega arith) (sym (ap (bitAnd (c .before .before .before .before .before .before .before .before .before .before .before .before .before .before .before .before .before .before .before .args .bits)) (c .before .before .before .before .before .before .before .u64-at .ensures)) ∙ c .before .before .before .before .before .before .if4 .left) (c .before .before .before .before .if5 .left) (let z = passed-sized (c .before .before .before .before .before .before .before .before .before .before .before .before .before .before .before .before .before .before .before .args .state .now) (c .before .before .before .before .before .before .before .before .before .before .counts-of .result .boards) (c .before .before .before .before .before .before .before .before .before .before .counts-of .result .slots) (c .before .before .before .before .before .before .before .before .before .before .counts-of .result .nodes) (sym (c .before .before .before .before .before .before .before .before .before .before .before .before .before .before .before .before .state-ok .ensures) ∙ not-false (c .before .before .before .before .before .before .before .before .before .before .before .before .before .before .before .before .state-ok .result) (c .before .before .before .before .before .before .before .before .before .before .before .before .before .before .before .if1 .left)) (c .before .before .before .before .before .before .before .before .before .before .counts-of .ensures) in omega arith) (c .before .before .put-u64 .last .0) (c .before .before .put-u64 .ensures)
+inside : (c : tie.Else4) → let a = entry (checked (unfinished (found c))) .args in bitAnd (a .bits) (maskIn (a .state .now) (a .board)) ≡ a .bits
+inside c = sym (ap (bitAnd (entry (checked (unfinished (found c))) .args .bits)) (c .before .u64-at .ensures)) ∙ c .if4 .left
 
 pub sample-spec : {M : Type 1} → statement M
 sample-spec =
     tie.close
     (tie.spec
-    state-ok-requires
-    same-length
-    returns
-    finished-requires
-    same-length-2
-    returns-2
-    counts-of-requires
-    same-length-3
-    returns-3
-    mul-at
-    add-at
-    u64-at-requires
-    same-length-4
-    returns-4
-    add-if5
-    slice-read-if5
-    same-length-5
-    returns-5
-    add-put-u64
-    put-u64-requires
-    add-state
-    slice-write-state
-    same-length-6
-    returns-6)
+    (λ c κs. search needs)
+    (λ c. search needs)
+    (λ c. refused-state _ _ _ (sym (c .before .state-ok .ensures) ∙ not-true _ (c .if1 .taken)))
+    (λ c κs. passes (c .before))
+    (λ c. search needs)
+    (λ c. refused-finished _ _ _ (passes (c .before .before .before)) (sym (c .before .finished .ensures) ∙ c .if2 .taken))
+    (λ c κs. passed-length _ (passes (c .before .before .before .before)))
+    (λ c. search needs)
+    (λ c. let e = c .before .before .before in refused-nowhere _ _ _ (passes (checked e)) (going e) (let q = c .before .counts-of .ensures .boards-are in omega arith))
+    (λ c. let z = sized c in omega arith)
+    (λ c. let z = sized c in omega arith)
+    (λ c κs. let z = sized (c .before) in omega arith)
+    (λ c. search needs)
+    (λ c. let e = c .before .before .before in let f = unfinished e in refused-outside _ _ _ (passes (checked f)) (going f) (there e) (λ q. c .if4 .taken (ap (bitAnd (entry (checked f) .args .bits)) (c .before .u64-at .ensures) ∙ q)))
+    (λ c. let z = sized (found c) in omega arith)
+    (λ c. let z = sized (found (c .before)) in omega arith)
+    (λ c. search needs)
+    (λ c. let d = c .before .before in let e = found d in let f = unfinished e in refused-already _ _ _ (passes (checked f)) (going f) (there e) (inside d) (c .if5 .taken))
+    (λ c. let z = sized (found (c .before .before .before)) in omega arith)
+    (λ c κs. let z = sized (found (c .before .before .before)) in omega arith)
+    (λ c. let z = sized (found (c .before .before .before .before .before .before)) in omega arith)
+    (λ c. let k = c .before .before .put-u64 .kept .0 in let z = sized (found (c .before .before .before .before .before .before)) in omega arith)
+    (λ c. search needs)
+    (λ c. let d = c .before .before .before .before .before .before in let e = found d in let f = unfinished e in let z = sized e in
+    done _ _ _ (passes (checked f)) (going f) (there e) (inside d) (c .before .before .before .before .if5 .left) (omega arith) _ (c .before .before .put-u64 .ensures)))
