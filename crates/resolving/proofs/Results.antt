@@ -50,15 +50,15 @@ cleared g p z more n e k q =
     a ∙ ap (encode g ++_) (q ∙ ap (λ (i : ℕ). replicate i 0) t)
 
 -- ---- a formula's bytes, resolved from their front on
-module _ (seen : Seen) (p p₁ : List ℕ) (at : Settled) (m : Makes (settled seen) 0 p p₁ at) where
+module _ (seen : Seen) {p p₁ : List ℕ} {at : Settled} (m : Makes (settled seen) 0 p p₁ at) where
   -- where the result stands
   pub rewrite-result : (b : Begins p) → Result (settled seen (b .formula)) p₁ at
   rewrite-result b = result (settled seen (b .formula)) p₁ (b .rest) at (m (b .formula) (b .rest) (b .front) .stands)
 
   -- all of it: the result at the front, and zeros up to the end
-  pub rewrite-done : (n : ℕ) (p₂ z : List ℕ) → n ≡ at .end - at .start → p₂ ≡ take n (drop (at .start) p₁) ++ drop n p₁
+  pub rewrite-done : {n : ℕ} {p₂ z : List ℕ} → n ≡ at .end - at .start → p₂ ≡ take n (drop (at .start) p₁) ++ drop n p₁
       → z ≡ replicate (length (tail n p₂)) 0 → length p₂ ≡ length p → Rewritten seen p (take n p₂ ++ (z ++ drop (length p₂ - n) (drop n p₂))) n
-  rewrite-done n p₂ z k e q l = record { bytes = λ f rest x. done f rest x .0; count = λ f rest x. done f rest x .1 }
+  rewrite-done {n} {p₂} {z} k e q l = record { bytes = λ f rest x. done f rest x .0; count = λ f rest x. done f rest x .1 }
     where
       done : (f : Formula) (rest : List ℕ) → Front p f rest
           → (take n p₂ ++ (z ++ drop (length p₂ - n) (drop n p₂)) ≡ padded (length p) (encode (settled seen f))) × (n ≡ size (settled seen f))
