@@ -22,12 +22,11 @@ pub record Result (g : Formula) (p : List ℕ) (at : Settled) : Type 0 where
   pub within : at .end ≤ length p
   pub some : 0 < at .end - at .start
 
-module _ (g : Formula) (p rest : List ℕ) (at : Settled) (stood : Stands g p rest at) where
+module _ {g : Formula} {p rest : List ℕ} {at : Settled} (stood : Stands g p rest at) where
   result : Result g p at
   result =
-      let b = stands-bounds g p rest at stood in
-      let l = stands-length g p rest at stood in
-      let e = stood .end-is in
+      let b = stands-bounds stood in
+      let l = stands-length stood in
       let z = size-some g in
       record { order = omega arith; length-is = omega arith; within = omega arith; some = omega arith }
 
@@ -53,7 +52,7 @@ cleared g p z more n e k q =
 module _ (seen : Seen) {p p₁ : List ℕ} {at : Settled} (m : Makes (settled seen) 0 p p₁ at) where
   -- where the result stands
   pub rewrite-result : (b : Begins p) → Result (settled seen (b .formula)) p₁ at
-  rewrite-result b = result (settled seen (b .formula)) p₁ (b .rest) at (m (b .formula) (b .rest) (b .front) .stands)
+  rewrite-result b = result (m (b .formula) (b .rest) (b .front) .stands)
 
   -- all of it: the result at the front, and zeros up to the end
   pub rewrite-done : {n : ℕ} {p₂ z : List ℕ} → n ≡ at .end - at .start → p₂ ≡ take n (drop (at .start) p₁) ++ drop n p₁
@@ -65,5 +64,5 @@ module _ (seen : Seen) {p p₁ : List ℕ} {at : Settled} (m : Makes (settled se
       done f rest x =
           let g = settled seen f in
           let stood = m f rest x .stands in
-          let i : n ≡ size g = k ∙ result g p₁ rest at stood .length-is in
-          (cleared g p₂ z (drop (size g) p₁) n (moved g p₁ rest at stood n p₂ k e) i q ∙ ap (λ (j : ℕ). padded j (encode g)) l, i)
+          let i : n ≡ size g = k ∙ result stood .length-is in
+          (cleared g p₂ z (drop (size g) p₁) n (moved stood n p₂ k e) i q ∙ ap (λ (j : ℕ). padded j (encode g)) l, i)

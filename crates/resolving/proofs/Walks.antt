@@ -55,7 +55,7 @@ module _ (p : List ℕ) (at : ℕ) {f : Formula} {rest : List ℕ} (x : Front (d
       let q = e f rest (front-tail at p f rest x) in
       let l = placed in
       let b : p′ ≡ encode f ++ drop (size f) p = k ∙ ap (λ (i : ℕ). take i (drop at p) ++ drop i p) q ∙ ap (_++ drop (size f) p) (front-own (drop at p) f rest x) in
-      rw q (record { reads = refl; stands = stands-front f p p′ rest (at + size f) b (omega arith) front-behind (omega arith) })
+      rw q (record { reads = refl; stands = stands-front p b (omega arith) front-behind (omega arith) })
 
 -- ---- a node that stands from a place on, with its operands one place on
 pub record SingleAt (p : List ℕ) (from : ℕ) (f : Formula) (rest : List ℕ) (o : Unary) : Type 0 where
@@ -133,7 +133,7 @@ leaf-settles seen p from {f} {rest} x {a = a} y {b = b} e =
     let l = placed p from x in
     let r : drop (from + 1) p ≡ rest = ap (λ (n : ℕ). drop (from + n) p) (sym s) ∙ front-behind p from x in
     settles-as (ap (settled seen) z ∙ settled-leaf seen a)
-    (stands-front (leaf (settledLeaf seen a)) p (set p 0 b) rest (from + 1) (set-first p b (omega arith) ∙ ap (_∷ drop 1 p) e) (omega arith) r (omega arith))
+    (stands-front p (set-first p b (omega arith) ∙ ap (_∷ drop 1 p) e) (omega arith) r (omega arith))
     (ap (from +_) (sym s))
 
 -- ---- the operand one place on, in the part behind the first byte
@@ -167,16 +167,16 @@ operand-done {seen} {p} {q} {from} {a} {f} {rest} m x =
     let s = m f rest (first-behind p from x) in
     let h = length-take-le 1 p (let l = placed p (from + 1) x in omega arith) in
     let e = handed-tail p (take 1 p) (drop 1 p) 1 (sym (take-append-drop 1 p)) h q in
-    let y = stands-behind (settled seen f) q rest a (s .stands) (take 1 p) 1 h in
+    let y = stands-behind (s .stands) (take 1 p) 1 h in
     let z = subst (λ (k : List ℕ). Stands (settled seen f) k rest (one-on a)) (sym e) y in
-    let w = stands-bounds (settled seen f) q rest a (s .stands) in
+    let w = stands-bounds (s .stands) in
     record {
       reads = s .reads;
       stands = z;
-      long = stands-length (settled seen f) (after-first p q) rest (one-on a) z;
+      long = stands-length z;
       some = w .0;
       order = w .1;
-      first-is = stands-first (settled seen f) (after-first p q) rest (one-on a) z;
+      first-is = stands-first z;
     }
 
 -- ---- not
@@ -190,7 +190,7 @@ module _ {seen : Seen} {p q : List ℕ} {from : ℕ} {a : Settled} {f : Formula}
       let e = x .first-is in
       let n = first-negated (settled seen f) (omega arith) in
       settles-as (n .1)
-      (stands-constant (n .0) (1 - getD now (1 + a .start) 0) now rest (1 + a .next) (ap (1 -_) e ∙ n .2) (stands-rest (settled seen f) now rest (one-on a) (x .stands)) (omega arith) (omega arith))
+      (stands-constant now (ap (1 -_) e ∙ n .2) (stands-rest (x .stands)) (omega arith) (omega arith))
       (omega arith)
 
   pub not-pending : 2 ≤ getD now (1 + a .start) 0
@@ -198,7 +198,7 @@ module _ {seen : Seen} {p q : List ℕ} {from : ℕ} {a : Settled} {f : Formula}
   not-pending h =
       let e = x .first-is in
       settles-as (negated-pending (settled seen f) (first-pending (settled seen f) (omega arith)))
-      (stands-top (settled seen f) now rest (one-on a) (x .stands) (one Not (settled seen f)) 2 (a .start) refl (omega arith))
+      (stands-top (x .stands) (one Not (settled seen f)) 2 (a .start) refl (omega arith))
       (omega arith)
 
 -- ---- and and or, where the left operand was resolved; the right one stands behind what was read
@@ -223,7 +223,7 @@ left-settled {seen} {p} {q} {from} {a} {f = f} {g = g} {rest = rest} m y =
     record {
       pair = y;
       left = x;
-      right = record { coded = y .right; bytes = stands-rest (settled seen f) (after-first p q) (encode g ++ rest) (one-on a) (x .stands) };
+      right = record { coded = y .right; bytes = stands-rest (x .stands) };
       long = omega arith;
       read = x .reads;
       order = x .order;
@@ -253,7 +253,7 @@ module _ {seen : Seen} {p q : List ℕ} {from : ℕ} {a : Settled} {op decide : 
       let c = first-constant (deciding j) (settled seen f) (sym (x .left .first-is) ∙ e ∙ d) in
       let r : drop (1 + a .next + n) left-now ≡ rest = ap (λ (i : ℕ). drop (1 + a .next + i) left-now) s ∙ front-behind left-now (1 + a .next) (x .right) in
       settles-as (joined-left j (settled seen f) (settled seen g) c)
-      (stands-constant (deciding j) decide left-now rest (1 + a .next + n) d r (omega arith) (omega arith))
+      (stands-constant left-now d r (omega arith) (omega arith))
       (omega arith)
 
   -- it says nothing
