@@ -10,7 +10,7 @@ use Rattle.lists.proofs.Stretches.{set-first}
 use Rattle.kinds.specs.declared.Leaf.the-variants.{Const}
 use Rattle.kinds.specs.declared.Join.{Join}
 use Rattle.kinds.specs.Kinds.{leafCode}
-use Rattle.ltl.specs.Formula.{Formula, one, constant, join, size, encode}
+use Rattle.ltl.specs.Formula.{Formula, constant, join, size, encode}
 use Rattle.ltl.specs.Progression.{isConstant, deciding, joined}
 use Rattle.ltl.proofs.Texts.{size-some, length-encode}
 use Rattle.resolving.specs.declared.Settled.{Settled}
@@ -65,8 +65,6 @@ module _ {p : List ℕ} {op decide start end : ℕ} {right : Settled} {j : Join}
   front-length =
       let a = length-append (x .low) (encode l) in
       let b = length-encode l in
-      let s = x .start-is in
-      let e = x .end-is in
       omega arith
 
   right-first : getD p (end + right .start) 0 ≡ first r
@@ -112,14 +110,12 @@ module _ {p : List ℕ} {op decide start end : ℕ} {right : Settled} {j : Join}
 
   left-bytes : left-part ≡ encode l
   left-bytes =
-      let e = x .end-is in
       let k : end - start ≡ size l = omega arith in
       rw k (ap (take (size l)) (ap (drop start) (x .bytes) ∙ drop-at (x .low) (encode l ++ drop end p) start (sym (x .start-is))) ∙ take-at (encode l) (drop end p) (size l) (length-encode l))
 
   right-bytes : right-part ≡ encode r
   right-bytes =
       let y = x .stands in
-      let e = y .end-is in
       let k : end + right .end - (end + right .start) ≡ size r = omega arith in
       rw (k, ← drop-drop (right .start) end p)
       (ap (take (size r)) (ap (drop (right .start)) (y .bytes) ∙ drop-at (y .low) (encode r ++ (y .high ++ rest)) (right .start) (sym (y .start-is)))
@@ -142,8 +138,6 @@ module _ {p : List ℕ} {op decide start end : ℕ} {right : Settled} {j : Join}
       let y = x .stands in
       let a = length-append (y .low) (encode r) in
       let b = length-encode r in
-      let s = y .start-is in
-      let e = y .end-is in
       omega arith
 
   right-is : drop end p ≡ (x .stands .low ++ encode r) ++ (x .stands .high ++ rest)
@@ -158,7 +152,6 @@ module _ {p : List ℕ} {op decide start end : ℕ} {right : Settled} {j : Join}
   freed-length =
       let a = length-drop (size r) (x .stands .low ++ encode r) in
       let b = right-length in
-      let e = x .stands .end-is in
       omega arith
 
   moved : take (size r) (drop (right .start) (take (right .end) (drop end p))) ++ drop (size r) (take (right .end) (drop end p)) ≡ encode r ++ freed
@@ -173,22 +166,19 @@ module _ {p : List ℕ} {op decide start end : ℕ} {right : Settled} {j : Join}
       (record { next = end + right .next; start = start - 1; end = end + size r })
   both-stand =
       let y = x .stands in
-      let s = x .start-is in
-      let z = x .some in
-      let w = x .end-is in
       let f = freed-length in
       let low = x .low in
       let t : take end p ≡ low ++ encode l = ap (take end) front-is ∙ take-at (low ++ encode l) (drop end p) end front-length in
       let d : drop (right .end) (drop end p) ≡ y .high ++ rest = ap (drop (right .end)) right-is ∙ drop-at (y .low ++ encode r) (y .high ++ rest) (right .end) right-length in
-      let one : set (low ++ (encode l ++ ((encode r ++ freed) ++ (y .high ++ rest)))) (start - 1) op ≡ take (start - 1) low ++ (op ∷ (encode l ++ ((encode r ++ freed) ++ (y .high ++ rest)))) = set-last low (encode l ++ ((encode r ++ freed) ++ (y .high ++ rest))) (start - 1) op (omega arith) in
+      let put : set (low ++ (encode l ++ ((encode r ++ freed) ++ (y .high ++ rest)))) (start - 1) op ≡ take (start - 1) low ++ (op ∷ (encode l ++ ((encode r ++ freed) ++ (y .high ++ rest)))) = set-last low (encode l ++ ((encode r ++ freed) ++ (y .high ++ rest))) (start - 1) op (omega arith) in
       record {
         low = take (start - 1) low;
         high = freed ++ y .high;
-        bytes = rw (t, d, append-assoc low (encode l) ((encode r ++ freed) ++ (y .high ++ rest)), one)
+        bytes = rw (t, d, append-assoc low (encode l) ((encode r ++ freed) ++ (y .high ++ rest)), put)
             (ap₂ (λ (v : ℕ) (k : List ℕ). take (start - 1) low ++ (v ∷ k)) (x .op-is) (regrouped (encode l) (encode r) freed (y .high) rest));
         start-is = let a = length-take-le (start - 1) low (omega arith) in omega arith;
         end-is = omega arith;
-        next-is = let a = length-append freed (y .high) in let b = y .next-is in let c = y .end-is in omega arith;
+        next-is = let a = length-append freed (y .high) in omega arith;
       }
     where
       regrouped : (a b c d e : List ℕ) → a ++ ((b ++ c) ++ (d ++ e)) ≡ (a ++ b) ++ ((c ++ d) ++ e)
@@ -214,6 +204,6 @@ module _ {p : List ℕ} {op decide start end : ℕ} {right : Settled} {j : Join}
         (record { next = end + right .next; start = start - 1; end = end + (right .end - right .start) })
     sides-both m t {y} e =
         let k : end + right .end - end ≡ right .end = omega arith in
-        let n : right .end - right .start ≡ size r = (let q = x .stands .end-is in omega arith) in
+        let n : right .end - right .start ≡ size r = omega arith in
         let f : y ≡ encode r ++ freed = rw (k, n) at e ∙ moved in
         settles-as (joined-both j l r (x .pending) pending-right (sym (m j l r sides-compare) ∙ t)) (rw (k, n, f) both-stand) refl

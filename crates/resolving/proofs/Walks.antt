@@ -3,8 +3,8 @@ use mathlib.Core.Path.{_≡_, refl, sym, ap, _∙_, subst}
 use mathlib.Core.List.{List, _++_, append-assoc, _∷_}
 use Prim.Native.Nat.{ℕ, _+_, _-_, _<_, _≤_}
 use native.Mathlib.Omega.{arith}
-use lib.ListN.{take-append-drop, length, getD, set, take, drop, length-append, length-drop}
-use lib.Seq.{drop-drop, drop-at, getD-drop, length-take-le}
+use lib.ListN.{take-append-drop, length, getD, set, take, drop, length-append}
+use lib.Seq.{drop-drop, drop-at, length-take-le}
 use Rattle.lists.specs.Runs.{tail}
 use Rattle.lists.proofs.Parts.{tail-is, tail-length, handed-tail}
 use Rattle.lists.proofs.Stretches.{set-first}
@@ -13,90 +13,39 @@ use Rattle.kinds.specs.declared.Leaf.the-variants.{Const}
 use Rattle.kinds.specs.declared.Unary.{Unary}
 use Rattle.kinds.specs.declared.Unary.the-variants.{Not}
 use Rattle.kinds.specs.declared.Join.{Join}
-use Rattle.kinds.specs.declared.Binary.{Binary}
 use Rattle.kinds.specs.declared.Binary.the-variants.{Joined}
-use Rattle.kinds.specs.declared.Kind.{Kind}
-use Rattle.kinds.specs.declared.Kind.the-variants.{Zero, One, Two}
-use Rattle.kinds.specs.Kinds.{kindOf, leafCode, joinCode}
-use Rattle.ltl.specs.Formula.{Formula, leaf, one, two, size, encode, Within}
+use Rattle.kinds.specs.declared.Kind.the-variants.{Zero}
+use Rattle.kinds.specs.Kinds.{leafCode, joinCode}
+use Rattle.ltl.specs.Formula.{Formula, leaf, one, size, encode}
 use Rattle.ltl.specs.Progression.{negated, deciding, joined}
 use Rattle.ltl.proofs.Texts.{size-some, length-encode}
 use Rattle.nodes.specs.Begins.{Front, Begins, Ends}
-use Rattle.nodes.proofs.Fronts.{Parts, isZero, parts-as, single, double, front-length, front-tail, begins-tail, front-own, front-rest}
+use Rattle.nodes.proofs.Fronts.{Parts, isZero, front-tail, begins-tail, front-own}
 use Rattle.resolving.specs.declared.Seen.{Seen}
 use Rattle.resolving.specs.declared.Settled.{Settled}
 use Rattle.resolving.specs.Settles.{settled, settledLeaf, Stands, Settles, Makes, Pair, Pairs, PairMakes, Sides, Joinable, Joins}
 use Rattle.resolving.proofs.Coded.{settled-leaf, settled-coded}
 use Rattle.resolving.proofs.Firsts.{first, first-constant, first-other, first-pending, first-negated, joined-left, joined-skip, negated-pending}
 use Rattle.resolving.proofs.Places.{stands-front, stands-length, stands-bounds, stands-first, stands-rest, stands-behind, stands-top}
+use Rattle.resolving.proofs.Standing.{placed, front-behind, SingleAt, DoubleAt}
 use Rattle.resolving.proofs.Sides.{settles-as, stands-constant}
 
--- ---- a formula that stands from a place on lies within the bytes
-pub record Placed (p : List ℕ) (at : ℕ) (f : Formula) (rest : List ℕ) : Type 0 where
-  pub long : at + size f + length rest ≡ length p
-  pub some : 0 < size f
+-- ---- moved to the front as it is
+pub kept : (p : List ℕ) (at : ℕ) {f : Formula} {rest : List ℕ} → Front (drop at p) f rest → {p′ : List ℕ} {n : ℕ} → Ends (tail at p) n → p′ ≡ take n (drop at p) ++ drop n p
+    → Settles f (at + size f) p′ rest (record { next = at + n; start = 0; end = n })
+kept p at {f} {rest} x {p′} e k =
+    let q = e f rest (front-tail at p f rest x) in
+    let l = placed p at x in
+    let b : p′ ≡ encode f ++ drop (size f) p = k ∙ ap (λ (i : ℕ). take i (drop at p) ++ drop i p) q ∙ ap (_++ drop (size f) p) (front-own (drop at p) f rest x) in
+    rw q (record { reads = refl; stands = stands-front p b (omega arith) (front-behind p at x) (omega arith) })
 
-module _ (p : List ℕ) (at : ℕ) {f : Formula} {rest : List ℕ} (x : Front (drop at p) f rest) where
-  pub placed : Placed p at f rest
-  placed =
-      let l = front-length (drop at p) f rest x in
-      let d = length-drop at p in
-      let z = size-some f in
-      record { long = omega arith; some = z }
-
-  -- what stands behind it
-  front-behind : drop (at + size f) p ≡ rest
-  front-behind = sym (drop-drop (size f) at p) ∙ front-rest (drop at p) f rest x
-
-  -- moved to the front as it is
-  pub kept : {p′ : List ℕ} {n : ℕ} → Ends (tail at p) n → p′ ≡ take n (drop at p) ++ drop n p
-      → Settles f (at + size f) p′ rest (record { next = at + n; start = 0; end = n })
-  kept {p′ = p′} e k =
-      let q = e f rest (front-tail at p f rest x) in
-      let l = placed in
-      let b : p′ ≡ encode f ++ drop (size f) p = k ∙ ap (λ (i : ℕ). take i (drop at p) ++ drop i p) q ∙ ap (_++ drop (size f) p) (front-own (drop at p) f rest x) in
-      rw q (record { reads = refl; stands = stands-front p b (omega arith) front-behind (omega arith) })
-
--- ---- a node that stands from a place on, with its operands one place on
-pub record SingleAt (p : List ℕ) (from : ℕ) (f : Formula) (rest : List ℕ) (o : Unary) : Type 0 where
-  pub operand : Formula
-  pub same : f ≡ one o operand
-  pub front : Front (drop (from + 1) p) operand rest
-
-pub record DoubleAt (p : List ℕ) (from : ℕ) (f : Formula) (rest : List ℕ) (o : Binary) : Type 0 where
-  pub left : Formula
-  pub right : Formula
-  pub same : f ≡ two o left right
-  pub front : Front (drop (from + 1) p) left (encode right ++ rest)
-  pub coded : Within 64 64 right
-
--- by the kind that the code found there, and the variant that it was matched with
-module _ (p : List ℕ) (from : ℕ) {f : Formula} {rest : List ℕ} (x : Front (drop from p) f rest) {r : Kind} (e : r ≡ kindOf (getD p from 0)) where
-  pub parts-at : {k : Kind} → r ≡ k → Parts (drop from p) rest f k
-  parts-at h =
-      let z : from + 0 ≡ from = omega arith in
-      parts-as (drop from p) f rest x (e ∙ ap kindOf (ap (λ (i : ℕ). getD p i 0) (sym z) ∙ sym (getD-drop from p 0 0))) h
-
-  next-front : {g : Formula} {l : List ℕ} → Front (tail 1 (drop from p)) g l → Front (drop (from + 1) p) g l
-  next-front y = record { coded = y .coded; bytes = sym (drop-drop 1 from p) ∙ sym (tail-is 1 (drop from p)) ∙ y .bytes }
-
-  pub single-at : {o v : Unary} → r ≡ One o → o ≡ v → SingleAt p from f rest v
-  single-at h q = let y = single (parts-at (h ∙ ap One q)) in record { operand = y .operand; same = y .same; front = next-front (y .front) }
-
-  pub double-at : {o v : Binary} → r ≡ Two o → o ≡ v → DoubleAt p from f rest v
-  double-at h q =
-      let y = double (parts-at (h ∙ ap Two q)) in
-      record { left = y .left; right = y .right; same = y .same; front = next-front (y .front); coded = y .second .coded }
-
-module _ {p : List ℕ} {from : ℕ} {f : Formula} {rest : List ℕ} where
-  pub single-begins : {o : Unary} → SingleAt p from f rest o → Begins (drop (from + 1) p)
-  single-begins y = record { formula = y .operand; rest = rest; front = y .front }
-
-  double-pair : {j : Join} (y : DoubleAt p from f rest (Joined j)) → Pair p (from + 1) (joinCode j) (leafCode (Const (deciding j))) j (y .left) (y .right) rest
+-- ---- the operands of and and or
+module _ {p : List ℕ} {from : ℕ} {f : Formula} {rest : List ℕ} {j : Join} where
+  double-pair : (y : DoubleAt p from f rest (Joined j)) → Pair p (from + 1) (joinCode j) (leafCode (Const (deciding j))) j (y .left) (y .right) rest
   double-pair y = record { left = y .front; right = y .coded; op-is = refl; decide-is = refl }
 
-  pub double-pairs : {j : Join} → DoubleAt p from f rest (Joined j) → Pairs p (from + 1) (joinCode j) (leafCode (Const (deciding j)))
-  double-pairs {j = j} y = record { j = j; f = y .left; g = y .right; rest = rest; pair = double-pair y }
+  pub double-pairs : DoubleAt p from f rest (Joined j) → Pairs p (from + 1) (joinCode j) (leafCode (Const (deciding j)))
+  double-pairs y = record { j = j; f = y .left; g = y .right; rest = rest; pair = double-pair y }
 
 -- ---- what is made of such a node
 -- the same result by another name of its formula and of what was read
@@ -147,7 +96,7 @@ module _ (p : List ℕ) (from : ℕ) {f : Formula} {rest : List ℕ} (x : Front 
   begins-behind = record { formula = f; rest = rest; front = first-behind }
 
 -- the whole, with the part behind the first byte as the walk left it
-abbrev pub after-first : List ℕ → List ℕ → List ℕ
+abbrev after-first : List ℕ → List ℕ → List ℕ
 after-first p q = take 1 p ++ (q ++ drop (length p - 1) (drop 1 p))
 
 abbrev one-on : Settled → Settled
@@ -196,7 +145,6 @@ module _ {seen : Seen} {p q : List ℕ} {from : ℕ} {a : Settled} {f : Formula}
   pub not-pending : 2 ≤ getD now (1 + a .start) 0
       → Settles (negated (settled seen f)) (from + 1 + size f) (set now (a .start) 2) rest (record { next = 1 + a .next; start = a .start; end = 1 + a .end })
   not-pending h =
-      let e = x .first-is in
       settles-as (negated-pending (settled seen f) (first-pending (settled seen f) (omega arith)))
       (stands-top (x .stands) (one Not (settled seen f)) 2 (a .start) refl (omega arith))
       (omega arith)
@@ -262,7 +210,6 @@ module _ {seen : Seen} {p q : List ℕ} {from : ℕ} {a : Settled} {op decide : 
   pair-skip n h m =
       let s = m g rest (x .right) in
       let e = x .left .first-is in
-      let r = s .reads in
       let c = first-other j (settled seen f) (omega arith) (λ k. n (e ∙ k ∙ sym (x .pair .decide-is))) in
       settles-as (joined-skip j (settled seen f) (settled seen g) c) (s .stands) (omega arith)
 
@@ -288,10 +235,9 @@ module _ {seen : Seen} {p q : List ℕ} {from : ℕ} {a : Settled} {op decide : 
     both-sides =
         let s = m g rest right-front in
         let v = x .left .stands in
-        let e = x .left .first-is in
         let lf = settled seen f in
         let cut : left-now ≡ (v .low ++ encode lf) ++ (v .high ++ (encode g ++ rest)) = v .bytes ∙ sym (append-assoc (v .low) (encode lf) (v .high ++ (encode g ++ rest))) in
-        let k : length (v .low ++ encode lf) ≡ 1 + a .end = (let i = length-append (v .low) (encode lf) in let u = length-encode lf in let t = v .start-is in let w = v .end-is in omega arith) in
+        let k : length (v .low ++ encode lf) ≡ 1 + a .end = (let i = length-append (v .low) (encode lf) in let u = length-encode lf in omega arith) in
         let whole : both-now ≡ (v .low ++ encode lf) ++ r = handed-tail left-now (v .low ++ encode lf) (v .high ++ (encode g ++ rest)) (1 + a .end) cut k r in
         let d : drop (1 + a .end) both-now ≡ r = ap (drop (1 + a .end)) whole ∙ drop-at (v .low ++ encode lf) r (1 + a .end) k in
         record {

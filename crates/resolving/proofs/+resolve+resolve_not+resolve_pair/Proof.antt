@@ -16,7 +16,8 @@ use Rattle.ltl.specs.Formula.{Formula, encode}
 use Rattle.nodes.specs.Begins.{Front}
 use Rattle.nodes.proofs.Fronts.{Parts, no-code, leaf-within}
 use Rattle.resolving.specs.Settles.{Pair}
-use Rattle.resolving.proofs.Walks.{Placed, placed, parts-at, SingleAt, single-at, single-begins, DoubleAt, double-at, double-pairs, same-settles, operand-settles, pair-settles, leaf-settles, begins-behind, Operand, operand-done, not-constant, not-pending, LeftSettled, left-settled, right-begins, right-ends, pair-decided, pair-skip, right-behind, pair-joinable, pair-joined}
+use Rattle.resolving.proofs.Standing.{Placed, placed, parts-at, SingleAt, single-at, single-begins, DoubleAt, double-at}
+use Rattle.resolving.proofs.Walks.{double-pairs, same-settles, operand-settles, pair-settles, leaf-settles, begins-behind, Operand, operand-done, not-constant, not-pending, LeftSettled, left-settled, right-begins, right-ends, pair-decided, pair-skip, right-behind, pair-joinable, pair-joined}
 use borrow.Fn.Kinds.{In}
 use borrow.Fn.PlainCycle.{Measures, is, falls, and}
 use Rattle.resolving.proofs.resolve.Reads as resolve

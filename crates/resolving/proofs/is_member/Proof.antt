@@ -43,7 +43,7 @@ is-member-spec =
     (λ c κs. chain-begins (c .before .before .before .before .before .before .before .loop .inv) (c .before .before .before .before .before .if1 .taken))
     (λ c. let e = chain-bound (again c) in omega arith)
     (λ c. let b = chain-bound (c .before .before .before .before .before .before .before .before .loop .inv) in let e = chain-bound (again c) in omega arith)
-    (λ c. again c)
+    again
     (λ c. let b = chain-bound (c .before .before .loop .inv) in omega arith)
     (λ c. let b = chain-bound (c .before .before .loop .inv) in omega arith)
     (λ c. let b = chain-bound (c .before .before .loop .inv) in omega arith)

@@ -4,7 +4,8 @@ use borrow.Author.Needs.{needs}
 use mathlib.Core.Path.{_≡_}
 use Rattle.ltl.specs.Formula.{size}
 use Rattle.nodes.proofs.Fronts.{front-tail, begins-tail}
-use Rattle.resolving.proofs.Walks.{Placed, placed, kept}
+use Rattle.resolving.proofs.Standing.{Placed, placed}
+use Rattle.resolving.proofs.Walks.{kept}
 use Rattle.resolving.proofs.keep.Statement.{statement}
 use Rattle.resolving.proofs.keep.Tie as tie
 
