@@ -137,7 +137,7 @@ module _ {l r : List ℕ} {op at : ℕ} (c : Chain l r op at) where
     chain-node = double-at r at (c .here) refl (ap kindOf (n ∙ c .compared .op-is) ∙ kind-binary (Joined (c .j))) refl
 
     pub chain-begins : Begins (tail (at + 1) r)
-    chain-begins = begins-tail (at + 1) r (chain-node .left) (encode (chain-node .right) ++ []) (chain-node .front)
+    chain-begins = begins-tail (at + 1) r (chain-node .front)
 
     here-member : member (c .j) (c .f) (c .h) ≡ either (same (c .f) (c .h)) (either (same (c .f) (chain-node .left)) (member (c .j) (c .f) (chain-node .right)))
     here-member =
@@ -161,7 +161,7 @@ module _ {l r : List ℕ} {op at : ℕ} (c : Chain l r op at) where
       unfolding either
       chain-again e q =
           let d = chain-node in
-          let k = q (d .left) (encode (d .right) ++ []) (front-tail (at + 1) r (d .left) (encode (d .right) ++ []) (d .front)) in
+          let k = q (d .left) (encode (d .right) ++ []) (front-tail (at + 1) r (d .front)) in
           record {
             j = c .j;
             f = c .f;

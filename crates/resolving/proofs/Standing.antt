@@ -15,7 +15,7 @@ use Rattle.kinds.specs.declared.Kind.the-variants.{One, Two}
 use Rattle.kinds.specs.Kinds.{kindOf}
 use Rattle.ltl.specs.Formula.{Formula, one, two, size, encode, Within}
 use Rattle.ltl.proofs.Texts.{size-some}
-use Rattle.nodes.specs.Begins.{Front, Begins}
+use Rattle.nodes.specs.Begins.{Front}
 use Rattle.nodes.proofs.Fronts.{Parts, parts-as, single, double, front-length, front-rest}
 
 -- the byte at a place
@@ -67,9 +67,6 @@ module _ (p : List ℕ) (from : ℕ) {f : Formula} {rest : List ℕ} (x : Front 
   double-at h q =
       let y = double (parts-at (h ∙ ap Two q)) in
       record { left = y .left; right = y .right; same = y .same; front = next-front (y .front); coded = y .second .coded }
-
-pub single-begins : {p : List ℕ} {from : ℕ} {f : Formula} {rest : List ℕ} {o : Unary} → SingleAt p from f rest o → Begins (drop (from + 1) p)
-single-begins {rest = rest} y = record { formula = y .operand; rest = rest; front = y .front }
 
 pub double-second : {p : List ℕ} {from : ℕ} {f : Formula} {rest : List ℕ} {o : Binary} (y : DoubleAt p from f rest o) → Front (drop (from + 1 + size (y .left)) p) (y .right) rest
 double-second {p} {from} y = record { coded = y .coded; bytes = front-behind p (from + 1) (y .front) }

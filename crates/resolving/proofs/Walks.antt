@@ -20,7 +20,7 @@ use Rattle.ltl.specs.Formula.{Formula, leaf, one, size, encode}
 use Rattle.ltl.specs.Progression.{negated, deciding, joined}
 use Rattle.ltl.proofs.Texts.{size-some, length-encode}
 use Rattle.nodes.specs.Begins.{Front, Begins, Ends}
-use Rattle.nodes.proofs.Fronts.{Parts, isZero, front-tail, begins-tail, front-own}
+use Rattle.nodes.proofs.Fronts.{Parts, isZero, front-tail, front-begins, begins-tail, front-own}
 use Rattle.resolving.specs.declared.Seen.{Seen}
 use Rattle.resolving.specs.declared.Settled.{Settled}
 use Rattle.resolving.specs.Settles.{settled, settledLeaf, Stands, Settles, Makes, Pair, Pairs, PairMakes, Sides, Joinable, Joins}
@@ -34,7 +34,7 @@ use Rattle.resolving.proofs.Sides.{settles-as, stands-constant}
 pub kept : (p : List ℕ) (at : ℕ) {f : Formula} {rest : List ℕ} → Front (drop at p) f rest → {p′ : List ℕ} {n : ℕ} → Ends (tail at p) n → p′ ≡ take n (drop at p) ++ drop n p
     → Settles f (at + size f) p′ rest (record { next = at + n; start = 0; end = n })
 kept p at {f} {rest} x {p′} e k =
-    let q = e f rest (front-tail at p f rest x) in
+    let q = e f rest (front-tail at p x) in
     let l = placed p at x in
     let b : p′ ≡ encode f ++ drop (size f) p = k ∙ ap (λ (i : ℕ). take i (drop at p) ++ drop i p) q ∙ ap (_++ drop (size f) p) (front-own (drop at p) f rest x) in
     rw q (record { reads = refl; stands = stands-front p b (omega arith) (front-behind p at x) (omega arith) })
@@ -93,7 +93,7 @@ module _ (p : List ℕ) (from : ℕ) {f : Formula} {rest : List ℕ} (x : Front 
       record { coded = x .coded; bytes = ap (drop from) (tail-is 1 p) ∙ drop-drop from 1 p ∙ ap (λ (n : ℕ). drop n p) e ∙ x .bytes }
 
   pub begins-behind : Begins (drop from (tail 1 p))
-  begins-behind = record { formula = f; rest = rest; front = first-behind }
+  begins-behind = front-begins first-behind
 
 -- the whole, with the part behind the first byte as the walk left it
 abbrev after-first : List ℕ → List ℕ → List ℕ
@@ -187,10 +187,10 @@ module _ {seen : Seen} {p q : List ℕ} {from : ℕ} {a : Settled} {op decide : 
   left-now = after-first p q
 
   pub right-begins : Begins (tail (1 + a .next) left-now)
-  right-begins = begins-tail (1 + a .next) left-now g rest (x .right)
+  right-begins = begins-tail (1 + a .next) left-now (x .right)
 
   pub right-ends : {n : ℕ} → Ends (tail (1 + a .next) left-now) n → n ≡ size g
-  right-ends k = k g rest (front-tail (1 + a .next) left-now g rest (x .right))
+  right-ends k = k g rest (front-tail (1 + a .next) left-now (x .right))
 
   -- the left operand settles it
   pub pair-decided : getD left-now (1 + a .start) 0 ≡ decide → {n : ℕ} → Ends (tail (1 + a .next) left-now) n
@@ -224,7 +224,7 @@ module _ {seen : Seen} {p q : List ℕ} {from : ℕ} {a : Settled} {op decide : 
       }
 
   pub right-behind : Begins (drop (1 + a .next - (1 + a .end)) (tail (1 + a .end) left-now))
-  right-behind = record { formula = g; rest = rest; front = right-front }
+  right-behind = front-begins right-front
 
   module _ (h : 2 ≤ getD left-now (1 + a .start) 0) {r : List ℕ} {c : Settled}
       (m : Makes (settled seen) (1 + a .next - (1 + a .end)) (tail (1 + a .end) left-now) r c) where

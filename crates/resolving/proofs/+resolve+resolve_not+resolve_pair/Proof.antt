@@ -14,9 +14,9 @@ use Rattle.kinds.specs.declared.Join.{Join}
 use Rattle.kinds.specs.declared.Kind.{Kind}
 use Rattle.ltl.specs.Formula.{Formula, encode}
 use Rattle.nodes.specs.Begins.{Front}
-use Rattle.nodes.proofs.Fronts.{Parts, no-code, leaf-within}
+use Rattle.nodes.proofs.Fronts.{Parts, no-code, leaf-within, front-begins}
 use Rattle.resolving.specs.Settles.{Pair}
-use Rattle.resolving.proofs.Standing.{Placed, placed, parts-at, SingleAt, single-at, single-begins, DoubleAt, double-at}
+use Rattle.resolving.proofs.Standing.{Placed, placed, parts-at, SingleAt, single-at, DoubleAt, double-at}
 use Rattle.resolving.proofs.Walks.{double-pairs, same-settles, operand-settles, pair-settles, leaf-settles, begins-behind, Operand, operand-done, not-constant, not-pending, LeftSettled, left-settled, right-begins, right-ends, pair-decided, pair-skip, right-behind, pair-joinable, pair-joined}
 use borrow.Fn.Kinds.{In}
 use borrow.Fn.PlainCycle.{Measures, is, falls, and}
@@ -156,10 +156,10 @@ pub +resolve+resolve-not+resolve-pair-spec : {M : Type 1} → statement M
     (λ c. let l = room t (c .before .before .before .before .before .before .before) in omega arith)
     (λ c. search needs)
     (λ c. search needs)
-    (λ c κs. (omega arith, single-begins (single t (c .before .before .before .before) (c .before .before .before .before .before .before .before .before .before .pre .1 .front) (c .before .enum-told .given .1))))
+    (λ c κs. (omega arith, front-begins (single t (c .before .before .before .before) (c .before .before .before .before .before .before .before .before .before .pre .1 .front) (c .before .enum-told .given .1) .front)))
     (λ c. search needs)
     (λ c. let l = room t (c .before .before .before .before .before .before .before .before .before) in omega arith)
-    (λ c κs. single-begins (single t (c .before .before .before .before) (c .before .before .before .before .before .before .before .before .before .pre .1 .front) (c .before .enum-told2 .given .1)))
+    (λ c κs. front-begins (single t (c .before .before .before .before) (c .before .before .before .before .before .before .before .before .before .pre .1 .front) (c .before .enum-told2 .given .1) .front))
     (λ c. search needs)
     (λ c κs. c .before .before .before .before .before .before .before .before .before .pre .1)
     (λ c. search needs)
@@ -226,7 +226,7 @@ pub +resolve+resolve-not+resolve-pair-spec : {M : Type 1} → statement M
     (λ c. let l = done-pair t (back t (c .before .before .before .before)) in let n = right-ends l (c .operand-end .ensures) in omega arith)
     (λ c. search needs)
     (λ c j f g rest y. pair-decided (left t (back t (c .before .before .before .before)) y) (c .before .before .before .if1 .taken) (c .operand-end .ensures))
-    (λ c κs. let l = done-pair t (back t (c .before .before .before)) in (omega arith, record { formula = _; rest = _; front = l .right }))
+    (λ c κs. let l = done-pair t (back t (c .before .before .before)) in (omega arith, front-begins (l .right)))
     (λ c. search needs)
     (λ c j f g rest y. pair-skip (left t (back t (c .before .before .before .before .before .before)) y) (c .before .before .before .before .before .if1 .left) (c .before .before .before .before .if2 .taken) (c .before .before .resolve2 .ensures))
     (λ c. let l = done-pair t (back t (c .before .before)) in omega arith)

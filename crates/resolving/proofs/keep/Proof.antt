@@ -15,7 +15,7 @@ room c = placed (c .args .p .now) (c .args .at) (c .pre .front)
 
 -- its end was found
 found : (c : tie.After-operand-end) → c .operand-end .result ≡ size (c .before .before .before .before .pre .formula)
-found c = c .operand-end .ensures _ _ (front-tail (c .before .before .before .before .args .at) (c .before .before .before .before .args .p .now) _ _ (c .before .before .before .before .pre .front))
+found c = c .operand-end .ensures _ _ (front-tail (c .before .before .before .before .args .at) (c .before .before .before .before .args .p .now) (c .before .before .before .before .pre .front))
 
 pub keep-spec : {M : Type 1} → statement M
 keep-spec =
@@ -24,7 +24,7 @@ keep-spec =
     (λ c. let l = room (c .before) in omega arith)
     (λ c. let l = room (c .before .before) in omega arith)
     (λ c. search needs)
-    (λ c κs. begins-tail (c .before .before .before .args .at) (c .before .before .before .args .p .now) _ _ (c .before .before .before .pre .front))
+    (λ c κs. begins-tail (c .before .before .before .args .at) (c .before .before .before .args .p .now) (c .before .before .before .pre .front))
     (λ c κs. let l = room (c .before .before .before .before .before) in let n = found (c .before) in omega arith)
     (λ c. let l = room (c .before .before .before .before .before .before .before .before) in let n = found (c .before .before .before .before) in omega arith)
     (λ c. search needs)
