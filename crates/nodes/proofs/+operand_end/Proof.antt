@@ -40,7 +40,8 @@ module _ (t : ℕ) where
   double : (c : lts.After-enum-told3 calls here operand-end.Post) {f : Formula} {rest : List ℕ} → let s = c .before .before .before .before .before .args .s .now in Front s f rest → Double s rest f (c .enum-told3 .given .0 .0)
   double c y = two-of y (c .before .before .of .ensures) (c .enum-told3 .given .1)
 
-  left : (c : lts.After-operand-end2 calls here operand-end.Post) {f : Formula} {rest : List ℕ} → let s = c .before .before .before .before .before .before .before .args .s .now in Front s f rest → LeftEnded s rest f (c .before .before .enum-told3 .given .0 .0) (c .operand-end2 .result)
+  left : (c : lts.After-operand-end2 calls here operand-end.Post) {f : Formula} {rest : List ℕ}
+      → let s = c .before .before .before .before .before .before .before .args .s .now in Front s f rest → LeftEnded s rest f (c .before .before .enum-told3 .given .0 .0) (c .operand-end2 .result)
   left c y = left-ended (double (c .before .before) y) (c .operand-end2 .ensures)
 
 pub +operand-end-spec : {M : Type 1} → statement M

@@ -98,14 +98,17 @@ module _ (t : ℕ) where
   parts : (c : Known) {f : Formula} {rest : List ℕ} {k : Kind} → Stood (first c) f rest → c .of .result ≡ k → Parts (drop (first c .args .from) (first c .args .p .now)) rest f k
   parts c x h = parts-at (first c .args .p .now) (first c .args .from) x (c .of .ensures) h
 
-  single : (c : lts.After-k2 (calls t) (here t) resolve.Post) {f : Formula} {rest : List ℕ} {o : Unary} → let a = first (c .before .before) in Stood a f rest → c .k2 .given .0 .0 ≡ o → SingleAt (a .args .p .now) (a .args .from) f rest o
+  single : (c : lts.After-k2 (calls t) (here t) resolve.Post) {f : Formula} {rest : List ℕ} {o : Unary}
+      → let a = first (c .before .before) in Stood a f rest → c .k2 .given .0 .0 ≡ o → SingleAt (a .args .p .now) (a .args .from) f rest o
   single c x h = let a = first (c .before .before) in single-at (a .args .p .now) (a .args .from) x (c .before .before .of .ensures) (c .k2 .given .1) h
 
-  double : (c : lts.After-k3 (calls t) (here t) resolve.Post) {f : Formula} {rest : List ℕ} {o : Binary} → let a = first (c .before .before) in Stood a f rest → c .k3 .given .0 .0 ≡ o → DoubleAt (a .args .p .now) (a .args .from) f rest o
+  double : (c : lts.After-k3 (calls t) (here t) resolve.Post) {f : Formula} {rest : List ℕ} {o : Binary}
+      → let a = first (c .before .before) in Stood a f rest → c .k3 .given .0 .0 ≡ o → DoubleAt (a .args .p .now) (a .args .from) f rest o
   double c x h = let a = first (c .before .before) in double-at (a .args .p .now) (a .args .from) x (c .before .before .of .ensures) (c .k3 .given .1) h
 
   -- behind and or or
-  joined : (c : lts.After-o (calls t) (here t) resolve.Post) {f : Formula} {rest : List ℕ} {j : Join} → let a = first (c .before .before .before .before .before) in Stood a f rest → c .o .given .0 .0 ≡ j → DoubleAt (a .args .p .now) (a .args .from) f rest (Joined j)
+  joined : (c : lts.After-o (calls t) (here t) resolve.Post) {f : Formula} {rest : List ℕ} {j : Join}
+      → let a = first (c .before .before .before .before .before) in Stood a f rest → c .o .given .0 .0 ≡ j → DoubleAt (a .args .p .now) (a .args .from) f rest (Joined j)
   joined c x h = double (c .before .before .before) x (c .o .given .1 ∙ ap Joined h)
 
 -- ---- resolve_not
@@ -118,10 +121,13 @@ module _ (t : ℕ) where
   abbrev DoneNot : Type 0
   DoneNot = not-lts.After-resolve (calls-not t) (here-not t) resolve-not.Post
 
-  operand : (c : DoneNot) {f : Formula} {rest : List ℕ} → let a = c .before .before .before in Front (drop (a .args .from + 1) (a .args .p .now)) f rest → Operand (a .args .seen) (a .args .p .now) (c .resolve .last .0) (a .args .from) (c .resolve .result) f rest
+  abbrev Done : DoneNot → Formula → List ℕ → Type 0
+  Done c f rest = let a = c .before .before .before .args in Operand (a .seen) (a .p .now) (c .resolve .last .0) (a .from) (c .resolve .result) f rest
+
+  operand : (c : DoneNot) {f : Formula} {rest : List ℕ} → let a = c .before .before .before .args in Front (drop (a .from + 1) (a .p .now)) f rest → Done c f rest
   operand c x = operand-done (c .resolve .ensures) x
 
-  done-not : (c : DoneNot) → let a = c .before .before .before in Operand (a .args .seen) (a .args .p .now) (c .resolve .last .0) (a .args .from) (c .resolve .result) (a .pre .1 .formula) (a .pre .1 .rest)
+  done-not : (c : DoneNot) → let b = c .before .before .before .pre .1 in Done c (b .formula) (b .rest)
   done-not c = operand c (c .before .before .before .pre .1 .front)
 
 -- ---- resolve_pair
@@ -134,10 +140,13 @@ module _ (t : ℕ) where
   abbrev DonePair : Type 0
   DonePair = pair-lts.After-resolve (calls-pair t) (here-pair t) resolve-pair.Post
 
-  left : (c : DonePair) {j : Join} {f g : Formula} {rest : List ℕ} → let a = c .before .before .before .args in Pair (a .p .now) (a .from + 1) (a .op) (a .decide) j f g rest → LeftSettled (a .seen) (a .p .now) (c .resolve .last .0) (a .from) (c .resolve .result) (a .op) (a .decide) j f g rest
+  abbrev Left : DonePair → Join → Formula → Formula → List ℕ → Type 0
+  Left c j f g rest = let a = c .before .before .before .args in LeftSettled (a .seen) (a .p .now) (c .resolve .last .0) (a .from) (c .resolve .result) (a .op) (a .decide) j f g rest
+
+  left : (c : DonePair) {j : Join} {f g : Formula} {rest : List ℕ} → let a = c .before .before .before .args in Pair (a .p .now) (a .from + 1) (a .op) (a .decide) j f g rest → Left c j f g rest
   left c y = left-settled (c .resolve .ensures) y
 
-  done-pair : (c : DonePair) → let a = c .before .before .before .args in let b = c .before .before .before .pre .1 in LeftSettled (a .seen) (a .p .now) (c .resolve .last .0) (a .from) (c .resolve .result) (a .op) (a .decide) (b .j) (b .f) (b .g) (b .rest)
+  done-pair : (c : DonePair) → let b = c .before .before .before .pre .1 in Left c (b .j) (b .f) (b .g) (b .rest)
   done-pair c = left c (c .before .before .before .pre .1 .pair)
 
   -- from where its result's first byte was read, back to there
@@ -228,12 +237,12 @@ pub +resolve+resolve-not+resolve-pair-spec : {M : Type 1} → statement M
     (λ c j f g rest y. pair-decided (left t (back t (c .before .before .before .before)) y) (c .before .before .before .if1 .taken) (c .operand-end .ensures))
     (λ c κs. let l = done-pair t (back t (c .before .before .before)) in (omega arith, front-begins (l .right)))
     (λ c. search needs)
-    (λ c j f g rest y. pair-skip (left t (back t (c .before .before .before .before .before .before)) y) (c .before .before .before .before .before .if1 .left) (c .before .before .before .before .if2 .taken) (c .before .before .resolve2 .ensures))
+    (λ c j f g rest y. let k = c .before .before .before .before in pair-skip (left t (back t (k .before .before)) y) (k .before .if1 .left) (k .if2 .taken) (c .before .before .resolve2 .ensures))
     (λ c. let l = done-pair t (back t (c .before .before)) in omega arith)
     (λ c. let l = done-pair t (back t (c .before .before)) in omega arith)
     (λ c. let l = done-pair t (back t (c .before .before)) in omega arith)
     (λ c. let l = done-pair t (back t (c .before .before .before)) in omega arith)
     (λ c κs. let l = done-pair t (back t (c .before .before .before)) in (omega arith, right-behind l))
-    (λ c κs. pair-joinable (done-pair t (back t (c .before .before .before .before .before .before .before))) (c .before .before .before .before .before .if2 .left) (c .before .before .before .resolve3 .ensures))
+    (λ c κs. let k = c .before .before .before in pair-joinable (done-pair t (back t (k .before .before .before .before))) (k .before .before .if2 .left) (k .resolve3 .ensures))
     (λ c. search needs)
-    (λ c j f g rest y. pair-joined (left t (back t (c .before .before .before .before .before .before .before .before .before .before)) y) (c .before .before .before .before .before .before .before .before .if2 .left) (c .before .before .before .before .before .before .resolve3 .ensures) (c .before .before .join .ensures))
+    (λ c j f g rest y. let k = c .before .before .before .before .before .before in pair-joined (left t (back t (k .before .before .before .before)) y) (k .before .before .if2 .left) (k .resolve3 .ensures) (c .before .before .join .ensures))

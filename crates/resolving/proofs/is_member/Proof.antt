@@ -14,8 +14,11 @@ abbrev μ-loop : tie.MeasureT-loop
 μ-loop l r op at₀ at = length r - at
 
 -- where the left operand was passed over
-again : (c : tie.After-operand-end Inv-loop μ-loop) → let a = c .before .before .before .before .before .before .before .before .before .before .before .args in Chain (a .l .now) (a .r .now) (a .op) (c .before .before .before .before .before .before .before .before .loop .at + 1 + c .operand-end .result)
-again c = chain-again (c .before .before .before .before .before .before .before .before .loop .inv) (c .before .before .before .before .before .before .if1 .taken) (c .before .before .before .before .before .if2 .left) (c .before .before .before .begins2 .ensures) (c .before .before .if3 .left) (c .operand-end .ensures)
+again : (c : tie.After-operand-end Inv-loop μ-loop)
+    → let k = c .before .before .before .before .before .before .before .before in let a = k .before .before .before .args in Chain (a .l .now) (a .r .now) (a .op) (k .loop .at + 1 + c .operand-end .result)
+again c =
+    let k = c .before .before in
+    chain-again (k .before .before .before .before .before .before .loop .inv) (k .before .before .before .before .if1 .taken) (k .before .before .before .if2 .left) (k .before .begins2 .ensures) (k .if3 .left) (c .operand-end .ensures)
 
 pub is-member-spec : {M : Type 1} → statement M
 is-member-spec =

@@ -39,4 +39,4 @@ join-spec =
     (λ c. let q = room (first (c .before .before .before .before .before .before .before .before .before .before) .pre .sides) in omega arith)
     (λ c. let q = room (first (c .before .before .before .before .before .before .before .before .before .before) .pre .sides) in omega arith)
     (λ c. search needs)
-    (λ c j l r rest x. sides-both x (c .before .before .before .before .before .before .before .before .before .before .if2 .left) (c .before .before .before .before .before .before .is-member .ensures) (c .before .before .before .before .before .if3 .left) (c .before .before .slide .ensures)))
+    (λ c j l r rest x. let k = c .before .before .before .before .before in sides-both x (k .before .before .before .before .before .if2 .left) (k .before .is-member .ensures) (k .if3 .left) (c .before .before .slide .ensures)))

@@ -15,7 +15,7 @@ room c = placed (c .args .p .now) (c .args .at) (c .pre .front)
 
 -- its end was found
 found : (c : tie.After-operand-end) → c .operand-end .result ≡ size (c .before .before .before .before .pre .formula)
-found c = c .operand-end .ensures _ _ (front-tail (c .before .before .before .before .args .at) (c .before .before .before .before .args .p .now) (c .before .before .before .before .pre .front))
+found c = let a = c .before .before .before .before in c .operand-end .ensures _ _ (front-tail (a .args .at) (a .args .p .now) (a .pre .front))
 
 pub keep-spec : {M : Type 1} → statement M
 keep-spec =
@@ -24,8 +24,8 @@ keep-spec =
     (λ c. let l = room (c .before) in omega arith)
     (λ c. let l = room (c .before .before) in omega arith)
     (λ c. search needs)
-    (λ c κs. begins-tail (c .before .before .before .args .at) (c .before .before .before .args .p .now) (c .before .before .before .pre .front))
+    (λ c κs. let a = c .before .before .before in begins-tail (a .args .at) (a .args .p .now) (a .pre .front))
     (λ c κs. let l = room (c .before .before .before .before .before) in let n = found (c .before) in omega arith)
     (λ c. let l = room (c .before .before .before .before .before .before .before .before) in let n = found (c .before .before .before .before) in omega arith)
     (λ c. search needs)
-    (λ c f rest x. kept (c .before .before .before .before .before .before .before .before .args .p .now) (c .before .before .before .before .before .before .before .before .args .at) x (c .before .before .before .before .operand-end .ensures) (c .before .before .slide .ensures)))
+    (λ c f rest x. let a = c .before .before .before .before .before .before .before .before .args in kept (a .p .now) (a .at) x (c .before .before .before .before .operand-end .ensures) (c .before .before .slide .ensures)))

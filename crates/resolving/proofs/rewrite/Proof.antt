@@ -23,4 +23,5 @@ rewrite-spec =
     (λ c. search needs)
     (λ c κs. search needs)
     (λ c. search needs)
-    (λ c. rewrite-done _ (c .before .before .before .before .before .before .before .before .before .before .before .resolve .ensures) refl (c .before .before .before .before .before .before .slide .ensures) (c .before .before .clear .ensures) (c .before .before .before .before .before .before .slide .kept .0 ∙ c .before .before .before .before .before .before .before .before .before .before .before .resolve .kept .0)))
+    (λ c. let m = c .before .before .before .before .before .before .slide in let r = c .before .before .before .before .before .before .before .before .before .before .before .resolve in
+    rewrite-done _ (r .ensures) refl (m .ensures) (c .before .before .clear .ensures) (m .kept .0 ∙ r .kept .0)))
