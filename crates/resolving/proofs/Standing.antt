@@ -1,5 +1,5 @@
--- A formula that stands from a place of some bytes on: how long (`placed`), what stands behind it, and where it is a node, its operands one
--- place on (`single-at`, `double-at`). Assumes nothing.
+-- A formula that stands from a place of some bytes on: how long (`placed`), what stands behind it, the same in a part that was lent
+-- (`front-part`), and where it is a node, its operands one place on (`single-at`, `double-at`). Assumes nothing.
 use mathlib.Core.Path.{_≡_, sym, ap, _∙_}
 use mathlib.Core.List.{List, _++_}
 use Prim.Native.Nat.{ℕ, _+_, _<_}
@@ -39,6 +39,10 @@ module _ (p : List ℕ) (at : ℕ) {f : Formula} {rest : List ℕ} (x : Front (d
   pub front-behind : drop (at + size f) p ≡ rest
   front-behind = sym (drop-drop (size f) at p) ∙ front-rest (drop at p) f rest x
 
+-- in a part that was lent from another place on
+pub front-part : (p : List ℕ) (a n m : ℕ) → a + n ≡ m → {f : Formula} {rest : List ℕ} → Front (drop m p) f rest → Front (drop n (tail a p)) f rest
+front-part p a n m e x = record { coded = x .coded; bytes = ap (drop n) (tail-is a p) ∙ drop-drop n a p ∙ ap (λ (i : ℕ). drop i p) e ∙ x .bytes }
+
 -- ---- a node that stands from a place on, with its operands one place on
 pub record SingleAt (p : List ℕ) (from : ℕ) (f : Formula) (rest : List ℕ) (o : Unary) : Type 0 where
   pub operand : Formula
@@ -68,5 +72,6 @@ module _ (p : List ℕ) (from : ℕ) {f : Formula} {rest : List ℕ} (x : Front 
       let y = double (parts-at (h ∙ ap Two q)) in
       record { left = y .left; right = y .right; same = y .same; front = next-front (y .front); coded = y .second .coded }
 
+-- the right operand, where the left one ends
 pub double-second : {p : List ℕ} {from : ℕ} {f : Formula} {rest : List ℕ} {o : Binary} (y : DoubleAt p from f rest o) → Front (drop (from + 1 + size (y .left)) p) (y .right) rest
 double-second {p} {from} y = record { coded = y .coded; bytes = front-behind p (from + 1) (y .front) }

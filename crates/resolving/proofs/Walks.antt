@@ -4,9 +4,9 @@ use mathlib.Core.List.{List, _++_, append-assoc, _∷_}
 use Prim.Native.Nat.{ℕ, _+_, _-_, _<_, _≤_}
 use native.Mathlib.Omega.{arith}
 use lib.ListN.{take-append-drop, length, getD, set, take, drop, length-append}
-use lib.Seq.{drop-drop, drop-at, length-take-le}
+use lib.Seq.{drop-at, length-take-le}
 use Rattle.lists.specs.Runs.{tail}
-use Rattle.lists.proofs.Parts.{tail-is, tail-length, handed-tail}
+use Rattle.lists.proofs.Parts.{tail-length, handed-tail}
 use Rattle.lists.proofs.Stretches.{set-first}
 use Rattle.kinds.specs.declared.Leaf.{Leaf}
 use Rattle.kinds.specs.declared.Leaf.the-variants.{Const}
@@ -27,7 +27,7 @@ use Rattle.resolving.specs.Settles.{settled, settledLeaf, Stands, Settle
 use Rattle.resolving.proofs.Coded.{settled-leaf, settled-coded}
 use Rattle.resolving.proofs.Firsts.{first, first-constant, first-other, first-pending, first-negated, joined-left, joined-skip, negated-pending}
 use Rattle.resolving.proofs.Places.{stands-front, stands-length, stands-bounds, stands-first, stands-rest, stands-behind, stands-top}
-use Rattle.resolving.proofs.Standing.{placed, front-behind, SingleAt, DoubleAt}
+use Rattle.resolving.proofs.Standing.{placed, front-behind, front-part, SingleAt, DoubleAt}
 use Rattle.resolving.proofs.Sides.{settles-as, stands-constant}
 
 -- ---- moved to the front as it is
@@ -88,9 +88,7 @@ leaf-settles seen p from {f} {rest} x {a = a} y {b = b} e =
 -- ---- the operand one place on, in the part behind the first byte
 module _ (p : List ℕ) (from : ℕ) {f : Formula} {rest : List ℕ} (x : Front (drop (from + 1) p) f rest) where
   first-behind : Front (drop from (tail 1 p)) f rest
-  first-behind =
-      let e : 1 + from ≡ from + 1 = omega arith in
-      record { coded = x .coded; bytes = ap (drop from) (tail-is 1 p) ∙ drop-drop from 1 p ∙ ap (λ (n : ℕ). drop n p) e ∙ x .bytes }
+  first-behind = front-part p 1 from (from + 1) (omega arith) x
 
   pub begins-behind : Begins (drop from (tail 1 p))
   begins-behind = front-begins first-behind
@@ -102,6 +100,7 @@ after-first p q = take 1 p ++ (q ++ drop (length p - 1) (drop 1 p))
 abbrev one-on : Settled → Settled
 one-on a = record { next = 1 + a .next; start = 1 + a .start; end = 1 + a .end }
 
+-- the operand resolved: what was read, where the result stands in the whole, and its first byte
 pub record Operand (seen : Seen) (p q : List ℕ) (from : ℕ) (a : Settled) (f : Formula) (rest : List ℕ) : Type 0 where
   pub reads : a .next ≡ from + size f
   pub stands : Stands (settled seen f) (after-first p q) rest (one-on a)
@@ -155,9 +154,6 @@ pub record LeftSettled (seen : Seen) (p q : List ℕ) (from : ℕ) (a : Settled)
   pub left : Operand seen p q from a f (encode g ++ rest)
   pub right : Front (drop (1 + a .next) (after-first p q)) g rest
   pub long : length (after-first p q) ≡ 1 + a .next + size g + length rest
-  pub read : a .next ≡ from + size f
-  pub order : a .end ≤ a .next
-  pub some : a .start < a .end
   pub some-left : 0 < size f
   pub some-right : 0 < size g
   pub behind : length (tail (1 + a .end) (after-first p q)) ≡ length (after-first p q) - (1 + a .end)
@@ -173,9 +169,6 @@ left-settled {seen} {p} {q} {from} {a} {f = f} {g = g} {rest = rest} m y =
       left = x;
       right = record { coded = y .right; bytes = stands-rest (x .stands) };
       long = omega arith;
-      read = x .reads;
-      order = x .order;
-      some = x .some;
       some-left = size-some f;
       some-right = size-some g;
       behind = tail-length (1 + a .end) (after-first p q);
@@ -215,13 +208,7 @@ module _ {seen : Seen} {p q : List ℕ} {from : ℕ} {a : Settled} {op decide : 
 
   -- the right operand is resolved behind the left one
   right-front : Front (drop (1 + a .next - (1 + a .end)) (tail (1 + a .end) left-now)) g rest
-  right-front =
-      let n = 1 + a .next - (1 + a .end) in
-      let e : 1 + a .end + n ≡ 1 + a .next = omega arith in
-      record {
-        coded = x .pair .right;
-        bytes = ap (drop n) (tail-is (1 + a .end) left-now) ∙ drop-drop n (1 + a .end) left-now ∙ ap (λ (i : ℕ). drop i left-now) e ∙ x .right .bytes;
-      }
+  right-front = front-part left-now (1 + a .end) (1 + a .next - (1 + a .end)) (1 + a .next) (omega arith) (x .right)
 
   pub right-behind : Begins (drop (1 + a .next - (1 + a .end)) (tail (1 + a .end) left-now))
   right-behind = front-begins right-front
