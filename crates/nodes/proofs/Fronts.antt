@@ -38,6 +38,9 @@ front-own s f rest x = ap (take (size f)) (x .bytes) ∙ take-at (encode f) rest
 pub front-one-way : (s : List ℕ) (f g : Formula) (k l : List ℕ) → Front s f k → Front s g l → (f ≡ g) × (k ≡ l)
 front-one-way s f g k l x y = one-way f g k l (x .coded) (y .coded) (sym (x .bytes) ∙ y .bytes)
 
+pub front-begins : {s : List ℕ} {f : Formula} {rest : List ℕ} → Front s f rest → Begins s
+front-begins {f = f} {rest = rest} x = record { formula = f; rest = rest; front = x }
+
 -- ---- a formula in front, by the kind of its first byte
 pub data Parts (s rest : List ℕ) : Formula → Kind → Type 0 where
   isZero : {a : Leaf} → leafWithin 64 64 a → s ≡ leafCode a ∷ rest → Parts s rest (leaf a) (Zero a)
@@ -67,11 +70,11 @@ parts s (two o f g) rest x =
 pub parts-as : (s : List ℕ) (f : Formula) (rest : List ℕ) → Front s f rest → {r k : Kind} → r ≡ kindOf (getD s 0 0) → r ≡ k → Parts s rest f k
 parts-as s f rest x e h = subst (λ (k : Kind). Parts s rest f k) (sym e ∙ h) (parts s f rest x)
 
-pub front-tail : (a : ℕ) (s : List ℕ) (f : Formula) (rest : List ℕ) → Front (drop a s) f rest → Front (tail a s) f rest
-front-tail a s f rest x = record { coded = x .coded; bytes = tail-is a s ∙ x .bytes }
+pub front-tail : (a : ℕ) (s : List ℕ) {f : Formula} {rest : List ℕ} → Front (drop a s) f rest → Front (tail a s) f rest
+front-tail a s x = record { coded = x .coded; bytes = tail-is a s ∙ x .bytes }
 
-pub begins-tail : (a : ℕ) (s : List ℕ) (f : Formula) (rest : List ℕ) → Front (drop a s) f rest → Begins (tail a s)
-begins-tail a s f rest x = record { formula = f; rest = rest; front = front-tail a s f rest x }
+pub begins-tail : (a : ℕ) (s : List ℕ) {f : Formula} {rest : List ℕ} → Front (drop a s) f rest → Begins (tail a s)
+begins-tail a s x = front-begins (front-tail a s x)
 
 -- ---- a node with one operand
 pub record Single (s rest : List ℕ) (f : Formula) (o : Unary) : Type 0 where
@@ -87,7 +90,7 @@ single {s = s} {rest = rest} (isOne {f = g} e y) =
       operand = g;
       same = refl;
       first = e;
-      front = front-tail 1 s g rest y;
+      front = front-tail 1 s y;
       long = let l = front-length (drop 1 s) g rest y in let k = ap length e in omega arith;
     }
 
@@ -108,8 +111,8 @@ double {s = s} {rest = rest} (isTwo {f = g} {g = h} e y z) =
       right = h;
       same = refl;
       first = e;
-      front = front-tail 1 s g (encode h ++ rest) y;
-      second = front-tail (1 + size g) s h rest z;
+      front = front-tail 1 s y;
+      second = front-tail (1 + size g) s z;
       long =
           let l = front-length (drop 1 s) g (encode h ++ rest) y in
           let k = ap length e in

@@ -123,7 +123,7 @@ module _ (j : Join) (l r : Formula) where
       joined-both m = rw (p (deciding j), p (not (deciding j)), q (deciding j), q (not (deciding j)), m)
 
 -- ---- `negated` by its operand
-pub negated-constant : (v : Bool) (f : Formula) → f ≡ constant v → negated f ≡ constant (not v)
+negated-constant : (v : Bool) (f : Formula) → f ≡ constant v → negated f ≡ constant (not v)
 unfolding negated pick
 negated-constant true f e = rw (e, constant-self true)
 negated-constant false f e = rw (e, constant-other true, constant-self false)

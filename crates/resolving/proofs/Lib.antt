@@ -2,6 +2,7 @@
 pub mod Coded
 pub mod Firsts
 pub mod Places
+pub mod Standing
 pub mod Members
 pub mod Sides
 pub mod Walks

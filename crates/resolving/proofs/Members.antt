@@ -5,8 +5,7 @@ use mathlib.Core.Bool.{Bool, true, false}
 use mathlib.Core.List.{List, [], _++_, append-nil}
 use Prim.Native.Nat.{ℕ, _+_, _-_, _<_, _≤_}
 use native.Mathlib.Omega.{arith}
-use lib.ListN.{length, getD, drop, length-drop}
-use lib.Seq.{getD-drop, drop-drop}
+use lib.ListN.{length, getD, drop}
 use borrow.Author.Tests.{eq-eqb}
 use Rattle.lists.specs.Runs.{tail}
 use Rattle.lists.specs.Tests.{pick, either}
@@ -14,19 +13,19 @@ use Rattle.lists.proofs.Tests.{no-true, test-eq}
 use Rattle.lists.proofs.Parts.{tail-is}
 use Rattle.kinds.specs.declared.Join.{Join}
 use Rattle.kinds.specs.declared.Binary.the-variants.{Joined, Until}
-use Rattle.kinds.specs.declared.Kind.the-variants.{Two}
 use Rattle.kinds.specs.Kinds.{kindOf, joinCode}
 use Rattle.kinds.proofs.Codes.{kind-binary}
 use Rattle.ltl.specs.Formula.{Formula, leaf, one, two, join, sameJoin, same, size, encode, Within}
 use Rattle.ltl.specs.Progression.{member}
 use Rattle.ltl.proofs.Equal.{same-eq, same-refl, join-eq}
-use Rattle.ltl.proofs.Texts.{one-way, size-some}
+use Rattle.ltl.proofs.Texts.{one-way}
 use Rattle.runs.specs.Starts.{starts}
 use Rattle.runs.proofs.Turns.{starts-is, starts-of}
-use Rattle.nodes.specs.Begins.{Front, Ends}
-use Rattle.nodes.proofs.Fronts.{parts-as, Double, double, front-length, front-tail, front-one-way}
+use Rattle.nodes.specs.Begins.{Front, Begins, Ends}
+use Rattle.nodes.proofs.Fronts.{front-length, front-tail, begins-tail, front-one-way}
 use Rattle.resolving.specs.Settles.{Compared, Comparable, IsMember}
 use Rattle.resolving.proofs.Firsts.{first, first-is}
+use Rattle.resolving.proofs.Standing.{placed, first-at, DoubleAt, double-at, double-second}
 
 starts-same : (f h : Formula) (rest : List ℕ) → Within 64 64 f → Within 64 64 h → starts (encode f) (encode h ++ rest) ≡ same f h
 starts-same f h rest v w = test-eq (starts (encode f) (encode h ++ rest)) (same f h) there back
@@ -39,10 +38,9 @@ starts-same f h rest v w = test-eq (starts (encode f) (encode h ++ rest)) (same 
     back e = subst (λ (x : Formula). starts (encode f) (encode x ++ rest) ≡ true) (same-eq f h e) (starts-of (encode f) rest)
 
 -- what the code compares: l with what stands from a place on
-module _ (l r : List ℕ) (at : ℕ) (f h : Formula) (rest : List ℕ) (a : Front l f []) (b : Front (drop at r) h rest) where
-  pub begins-same : starts l (tail at r) ≡ same f h
-  begins-same =
-      ap₂ starts (a .bytes ∙ append-nil (encode f)) (tail-is at r ∙ b .bytes) ∙ starts-same f h rest (a .coded) (b .coded)
+begins-same : (r : List ℕ) (at : ℕ) {l : List ℕ} {f h : Formula} {rest : List ℕ} → Front l f [] → Front (drop at r) h rest → starts l (tail at r) ≡ same f h
+begins-same r at {f = f} {h = h} {rest = rest} a b =
+    ap₂ starts (a .bytes ∙ append-nil (encode f)) (tail-is at r ∙ b .bytes) ∙ starts-same f h rest (a .coded) (b .coded)
 
 -- ---- members by the first byte
 same-join : (j : Join) → sameJoin j j ≡ true
@@ -93,71 +91,53 @@ pub record Chain (l r : List ℕ) (op at : ℕ) : Type 0 where
   pub here : Front (drop at r) h []
   pub left-over : member j f g ≡ member j f h
 
-pub chain-start : (l r : List ℕ) (op : ℕ) → Comparable l r op → Chain l r op 0
-chain-start l r op c = record { j = c .j; f = c .f; g = c .g; h = c .g; compared = c .compared; here = c .compared .right; left-over = refl }
+pub chain-start : {l r : List ℕ} {op : ℕ} → Comparable l r op → Chain l r op 0
+chain-start c = record { j = c .j; f = c .f; g = c .g; h = c .g; compared = c .compared; here = c .compared .right; left-over = refl }
 
-module _ (l r : List ℕ) (op at : ℕ) (c : Chain l r op at) where
+module _ {l r : List ℕ} {op at : ℕ} (c : Chain l r op at) where
   pub chain-bound : at < length r
-  chain-bound = let s = front-length (drop at r) (c .h) [] (c .here) in let z = size-some (c .h) in let d = length-drop at r in omega arith
+  chain-bound = let s = placed r at (c .here) in omega arith
 
   -- the first byte of what stands here
   chain-first : getD r at 0 ≡ first (c .h)
-  chain-first =
-      let e : at + 0 ≡ at = omega arith in
-      ap (λ (i : ℕ). getD r i 0) (sym e) ∙ sym (getD-drop at r 0 0) ∙ ap (λ (s : List ℕ). getD s 0 0) (c .here .bytes) ∙ first-is (c .h) []
+  chain-first = first-at r at ∙ ap (λ (s : List ℕ). getD s 0 0) (c .here .bytes) ∙ first-is (c .h) []
 
   -- whatever formulas the bytes are taken for
-  chain-answer : (x : Bool) → x ≡ member (c .j) (c .f) (c .h) → IsMember l r op x
-  chain-answer x e j f g q =
+  chain-answer : {x : Bool} → x ≡ member (c .j) (c .f) (c .h) → IsMember l r op x
+  chain-answer e j f g q =
       let a = front-one-way l (c .f) f [] [] (c .compared .left) (q .left) in
       let b = front-one-way r (c .g) g [] [] (c .compared .right) (q .right) in
       let k = join-eq (c .j) j (eq-eqb (joinCode (c .j)) (joinCode j) (sym (c .compared .op-is) ∙ q .op-is)) in
       e ∙ sym (c .left-over) ∙ ap₂ (λ (i : Join) (y : Formula). member i y (c .g)) k (a .0) ∙ ap (member j f) (b .0)
 
   -- another operator: l is what stands here, or no member
-  pub chain-end : (getD r at 0 ≡ op → ⊥) → (x : Bool) → x ≡ starts l (tail at r) → IsMember l r op x
-  chain-end n x e =
-      chain-answer x
-      (e ∙ begins-same l r at (c .f) (c .h) [] (c .compared .left) (c .here)
+  pub chain-end : (getD r at 0 ≡ op → ⊥) → {x : Bool} → x ≡ starts l (tail at r) → IsMember l r op x
+  chain-end n e =
+      chain-answer
+      (e ∙ begins-same r at (c .compared .left) (c .here)
       ∙ sym (member-end (c .j) (c .f) (c .h) (λ q. n (chain-first ∙ q ∙ sym (c .compared .op-is)))))
 
   chain-sizes : (length l ≡ size (c .f)) × (length r - at ≡ size (c .h))
   chain-sizes =
       let a = front-length l (c .f) [] (c .compared .left) in
-      let b = front-length (drop at r) (c .h) [] (c .here) in
-      let d = length-drop at r in
+      let b = placed r at (c .here) in
       (omega arith, omega arith)
 
   -- no longer than l: l is what stands here, or no member
-  pub chain-short : length r - at ≤ length l → (x : Bool) → x ≡ starts l (tail at r) → IsMember l r op x
-  chain-short w x e =
+  pub chain-short : length r - at ≤ length l → {x : Bool} → x ≡ starts l (tail at r) → IsMember l r op x
+  chain-short w e =
       let s : size (c .h) ≤ size (c .f) = let a = chain-sizes in omega arith in
-      chain-answer x
-      (e ∙ begins-same l r at (c .f) (c .h) [] (c .compared .left) (c .here)
+      chain-answer
+      (e ∙ begins-same r at (c .compared .left) (c .here)
       ∙ sym (member-short (c .j) (c .f) (c .h) s))
 
   -- the same operator
   module _ (n : getD r at 0 ≡ op) where
-    joined-kind : kindOf (getD (drop at r) 0 0) ≡ Two (Joined (c .j))
-    joined-kind =
-        let e : at + 0 ≡ at = omega arith in
-        ap kindOf (getD-drop at r 0 0 ∙ ap (λ (i : ℕ). getD r i 0) e ∙ n ∙ c .compared .op-is) ∙ kind-binary (Joined (c .j))
+    chain-node : DoubleAt r at (c .h) [] (Joined (c .j))
+    chain-node = double-at r at (c .here) refl (ap kindOf (n ∙ c .compared .op-is) ∙ kind-binary (Joined (c .j))) refl
 
-    pub chain-node : Double (drop at r) [] (c .h) (Joined (c .j))
-    chain-node = double (parts-as (drop at r) (c .h) [] (c .here) refl joined-kind)
-
-    -- its operands, as the code finds them
-    pub chain-left : Front (drop (at + 1) r) (chain-node .left) (encode (chain-node .right) ++ [])
-    chain-left =
-        let d = chain-node in
-        record { coded = d .front .coded; bytes = sym (drop-drop 1 at r) ∙ sym (tail-is 1 (drop at r)) ∙ d .front .bytes }
-
-    pub chain-right : Front (drop (at + 1 + size (chain-node .left)) r) (chain-node .right) []
-    chain-right =
-        let d = chain-node in
-        let m = 1 + size (d .left) in
-        let e : at + m ≡ at + 1 + size (d .left) = omega arith in
-        record { coded = d .second .coded; bytes = ap (λ (i : ℕ). drop i r) (sym e) ∙ sym (drop-drop m at r) ∙ sym (tail-is m (drop at r)) ∙ d .second .bytes }
+    pub chain-begins : Begins (tail (at + 1) r)
+    chain-begins = begins-tail (at + 1) r (chain-node .front)
 
     here-member : member (c .j) (c .f) (c .h) ≡ either (same (c .f) (c .h)) (either (same (c .f) (chain-node .left)) (member (c .j) (c .f) (chain-node .right)))
     here-member =
@@ -165,28 +145,29 @@ module _ (l r : List ℕ) (op at : ℕ) (c : Chain l r op at) where
         ap (member (c .j) (c .f)) (d .same) ∙ member-joined (c .j) (c .f) (d .left) (d .right)
         ∙ ap (λ (x : Formula). either (same (c .f) x) (either (same (c .f) (d .left)) (member (c .j) (c .f) (d .right)))) (sym (d .same))
 
-    module _ (w : length l < length r - at) where
+    -- longer than l: l is the left operand, or what is left to be compared are the members of the right one
+    module _ (w : length l < length r - at) {x : Bool} (b : x ≡ starts l (tail (at + 1) r)) where
       not-whole : same (c .f) (c .h) ≡ false
       not-whole = let a = chain-sizes in same-size (c .f) (c .h) (λ e. omega arith)
 
-      left-same : starts l (tail (at + 1) r) ≡ same (c .f) (chain-node .left)
-      left-same = begins-same l r (at + 1) (c .f) (chain-node .left) (encode (chain-node .right) ++ []) (c .compared .left) chain-left
+      left-same : same (c .f) (chain-node .left) ≡ x
+      left-same = sym (b ∙ begins-same r (at + 1) (c .compared .left) (chain-node .front))
 
-      pub chain-onleft : starts l (tail (at + 1) r) ≡ true → IsMember l r op true
+      pub chain-onleft : x ≡ true → IsMember l r op true
       unfolding either
-      chain-onleft e = chain-answer true (sym (here-member ∙ rw (not-whole, sym left-same ∙ e)))
+      chain-onleft e = chain-answer (sym (here-member ∙ rw (not-whole, left-same ∙ e)))
 
-      pub chain-again : starts l (tail (at + 1) r) ≡ false → (n : ℕ) → Ends (tail (at + 1) r) n → Chain l r op (at + 1 + n)
+      pub chain-again : x ≡ false → {n : ℕ} → Ends (tail (at + 1) r) n → Chain l r op (at + 1 + n)
       unfolding either
-      chain-again e n q =
+      chain-again e q =
           let d = chain-node in
-          let k = q (d .left) (encode (d .right) ++ []) (front-tail (at + 1) r (d .left) (encode (d .right) ++ []) chain-left) in
+          let k = q (d .left) (encode (d .right) ++ []) (front-tail (at + 1) r (d .front)) in
           record {
             j = c .j;
             f = c .f;
             g = c .g;
             h = d .right;
             compared = c .compared;
-            here = rw k chain-right;
-            left-over = c .left-over ∙ here-member ∙ rw (not-whole, sym left-same ∙ e);
+            here = rw k (double-second d);
+            left-over = c .left-over ∙ here-member ∙ rw (not-whole, left-same ∙ e);
           }

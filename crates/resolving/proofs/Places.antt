@@ -20,9 +20,9 @@ set-last (x ∷ xs) l zero v e = ap (λ (k : List ℕ). v ∷ (k ++ l)) (none-lo
 set-last (x ∷ xs) l (suc n) v e = ap (x ∷_) (set-last xs l n v (omega arith))
 
 -- ---- a result at the front, over bytes that were read up to `next`
-pub stands-front : (g : Formula) (p p′ rest : List ℕ) (next : ℕ) → p′ ≡ encode g ++ drop (size g) p → size g ≤ next → drop next p ≡ rest
+pub stands-front : (p : List ℕ) {g : Formula} {p′ rest : List ℕ} {next : ℕ} → p′ ≡ encode g ++ drop (size g) p → size g ≤ next → drop next p ≡ rest
     → next ≤ length p → Stands g p′ rest (record { next = next; start = 0; end = size g })
-stands-front g p p′ rest next e h k q =
+stands-front p {g} {rest = rest} {next = next} e h k q =
     let m = next - size g in
     let t : size g + m ≡ next = omega arith in
     let d : drop (size g) p ≡ take m (drop (size g) p) ++ rest = sym (take-append-drop m (drop (size g) p)) ∙ ap (take m (drop (size g) p) ++_) (drop-drop m (size g) p ∙ ap (λ (i : ℕ). drop i p) t ∙ k) in
@@ -36,7 +36,7 @@ stands-front g p p′ rest next e h k q =
     }
 
 -- ---- what a result's place says
-module _ (g : Formula) (p rest : List ℕ) (at : Settled) (x : Stands g p rest at) where
+module _ {g : Formula} {p rest : List ℕ} {at : Settled} (x : Stands g p rest at) where
   pub stands-length : length p ≡ at .next + length rest
   stands-length =
       let a = length-append (x .low) (encode g ++ (x .high ++ rest)) in
@@ -44,19 +44,15 @@ module _ (g : Formula) (p rest : List ℕ) (at : Settled) (x : Stands g p rest a
       let c = length-append (x .high) rest in
       let d = length-encode g in
       let e = ap length (x .bytes) in
-      let s = x .start-is in
-      let n = x .end-is in
-      let m = x .next-is in
       omega arith
 
   pub stands-bounds : (at .start < at .end) × (at .end ≤ at .next)
-  stands-bounds = let s = size-some g in let n = x .end-is in let m = x .next-is in (omega arith, omega arith)
+  stands-bounds = let s = size-some g in (omega arith, omega arith)
 
   -- the result's first byte
   pub stands-first : getD p (at .start) 0 ≡ first g
   stands-first =
-      let s = x .start-is in
-      ap₂ (λ (l : List ℕ) (i : ℕ). getD l i 0) (x .bytes) (s ∙ sym (plain (length (x .low))))
+      ap₂ (λ (l : List ℕ) (i : ℕ). getD l i 0) (x .bytes) (x .start-is ∙ sym (plain (length (x .low))))
       ∙ getD-append-add (x .low) (encode g ++ (x .high ++ rest)) 0 0
       ∙ first-is g (x .high ++ rest)
     where
@@ -69,9 +65,6 @@ module _ (g : Formula) (p rest : List ℕ) (at : Settled) (x : Stands g p rest a
       let a = length-append (x .low) (encode g ++ x .high) in
       let b = length-append (encode g) (x .high) in
       let d = length-encode g in
-      let s = x .start-is in
-      let n = x .end-is in
-      let m = x .next-is in
       ap (drop (at .next)) (x .bytes ∙ ap (x .low ++_) (sym (append-assoc (encode g) (x .high) rest)) ∙ sym (append-assoc (x .low) (encode g ++ x .high) rest))
       ∙ drop-at (x .low ++ (encode g ++ x .high)) rest (at .next) (omega arith)
 
@@ -79,9 +72,6 @@ module _ (g : Formula) (p rest : List ℕ) (at : Settled) (x : Stands g p rest a
   pub stands-behind : (a : List ℕ) (n : ℕ) → length a ≡ n
       → Stands g (a ++ p) rest (record { next = n + at .next; start = n + at .start; end = n + at .end })
   stands-behind a n h =
-      let s = x .start-is in
-      let e = x .end-is in
-      let m = x .next-is in
       record {
         low = a ++ x .low;
         high = x .high;
@@ -95,9 +85,6 @@ module _ (g : Formula) (p rest : List ℕ) (at : Settled) (x : Stands g p rest a
   pub stands-top : (f : Formula) (v n : ℕ) → encode f ≡ v ∷ encode g → at .start ≡ suc n
       → Stands f (set p n v) rest (record { next = at .next; start = n; end = at .end })
   stands-top f v n c h =
-      let s = x .start-is in
-      let e = x .end-is in
-      let m = x .next-is in
       let l = ap length c in
       let k = length-encode f in
       let j = length-encode g in

@@ -22,12 +22,11 @@ pub record Result (g : Formula) (p : List ℕ) (at : Settled) : Type 0 where
   pub within : at .end ≤ length p
   pub some : 0 < at .end - at .start
 
-module _ (g : Formula) (p rest : List ℕ) (at : Settled) (stood : Stands g p rest at) where
+module _ {g : Formula} {p rest : List ℕ} {at : Settled} (stood : Stands g p rest at) where
   result : Result g p at
   result =
-      let b = stands-bounds g p rest at stood in
-      let l = stands-length g p rest at stood in
-      let e = stood .end-is in
+      let b = stands-bounds stood in
+      let l = stands-length stood in
       let z = size-some g in
       record { order = omega arith; length-is = omega arith; within = omega arith; some = omega arith }
 
@@ -50,20 +49,20 @@ cleared g p z more n e k q =
     a ∙ ap (encode g ++_) (q ∙ ap (λ (i : ℕ). replicate i 0) t)
 
 -- ---- a formula's bytes, resolved from their front on
-module _ (seen : Seen) (p p₁ : List ℕ) (at : Settled) (m : Makes (settled seen) 0 p p₁ at) where
+module _ (seen : Seen) {p p₁ : List ℕ} {at : Settled} (m : Makes (settled seen) 0 p p₁ at) where
   -- where the result stands
   pub rewrite-result : (b : Begins p) → Result (settled seen (b .formula)) p₁ at
-  rewrite-result b = result (settled seen (b .formula)) p₁ (b .rest) at (m (b .formula) (b .rest) (b .front) .stands)
+  rewrite-result b = result (m (b .formula) (b .rest) (b .front) .stands)
 
   -- all of it: the result at the front, and zeros up to the end
-  pub rewrite-done : (n : ℕ) (p₂ z : List ℕ) → n ≡ at .end - at .start → p₂ ≡ take n (drop (at .start) p₁) ++ drop n p₁
+  pub rewrite-done : {n : ℕ} {p₂ z : List ℕ} → n ≡ at .end - at .start → p₂ ≡ take n (drop (at .start) p₁) ++ drop n p₁
       → z ≡ replicate (length (tail n p₂)) 0 → length p₂ ≡ length p → Rewritten seen p (take n p₂ ++ (z ++ drop (length p₂ - n) (drop n p₂))) n
-  rewrite-done n p₂ z k e q l = record { bytes = λ f rest x. done f rest x .0; count = λ f rest x. done f rest x .1 }
+  rewrite-done {n} {p₂} {z} k e q l = record { bytes = λ f rest x. done f rest x .0; count = λ f rest x. done f rest x .1 }
     where
       done : (f : Formula) (rest : List ℕ) → Front p f rest
           → (take n p₂ ++ (z ++ drop (length p₂ - n) (drop n p₂)) ≡ padded (length p) (encode (settled seen f))) × (n ≡ size (settled seen f))
       done f rest x =
           let g = settled seen f in
           let stood = m f rest x .stands in
-          let i : n ≡ size g = k ∙ result g p₁ rest at stood .length-is in
-          (cleared g p₂ z (drop (size g) p₁) n (moved g p₁ rest at stood n p₂ k e) i q ∙ ap (λ (j : ℕ). padded j (encode g)) l, i)
+          let i : n ≡ size g = k ∙ result stood .length-is in
+          (cleared g p₂ z (drop (size g) p₁) n (moved stood n p₂ k e) i q ∙ ap (λ (j : ℕ). padded j (encode g)) l, i)

@@ -5,12 +5,9 @@ use Rattle.lists.specs.Tests.{bit}
 use Rattle.resolving.proofs.bit.Statement.{statement}
 use Rattle.resolving.proofs.bit.Tie as tie
 
-shr-result : tie.Need-shr-result
-shr-result c = search needs
-
 returns : tie.Need-returns
 unfolding bit
 returns c = refl
 
 pub bit-spec : {M : Type 1} → statement M
-bit-spec = tie.close (tie.spec shr-result returns)
+bit-spec = tie.close (tie.spec (λ c. search needs) returns)

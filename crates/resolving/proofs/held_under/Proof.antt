@@ -5,22 +5,13 @@ use Rattle.lists.specs.Tests.{pick}
 use Rattle.resolving.proofs.held_under.Statement.{statement}
 use Rattle.resolving.proofs.held_under.Tie as tie
 
-bit-requires : tie.Need-bit-requires
-bit-requires c κs = search needs
-
 returns : tie.Need-returns
 unfolding pick
 returns c = rw (sym (c .before .bit .ensures) ∙ c .if1 .taken)
 
-bit-requires-2 : tie.Need-bit-requires-2
-bit-requires-2 c κs = search needs
-
 returns-2 : tie.Need-returns-2
 unfolding pick
 returns-2 c = rw (sym (c .before .before .before .bit .ensures) ∙ c .before .before .if1 .left, sym (c .before .bit2 .ensures) ∙ c .if2 .taken)
-
-add-result : tie.Need-add-result
-add-result c = search needs
 
 returns-3 : tie.Need-returns-3
 unfolding pick
@@ -28,4 +19,4 @@ returns-3 c = rw (sym (c .before .before .before .bit .ensures) ∙ c .before .b
 
 pub held-under-spec : {M : Type 1} → statement M
 held-under-spec =
-    tie.close (tie.spec bit-requires returns bit-requires-2 returns-2 add-result returns-3)
+    tie.close (tie.spec (λ c κs. search needs) returns (λ c κs. search needs) returns-2 (λ c. search needs) returns-3)
