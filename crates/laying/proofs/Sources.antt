@@ -1,5 +1,4 @@
--- The bytes and marks from a place on: what stands there is still a source of slots (`source-tail`), and the marks of an operand are
--- those that the walk put (`marked-tail`). Assumes nothing.
+-- The bytes and marks from a place on are still a source of slots: `source-tail`. Assumes nothing.
 use mathlib.Core.Path.{_≡_, sym, ap, _∙_, subst}
 use mathlib.Core.List.{List}
 use mathlib.Core.Option.{Option}
@@ -9,10 +8,8 @@ use lib.ListN.{length, getD, drop}
 use lib.Seq.{getD-drop, drop-drop}
 use Rattle.lists.specs.Runs.{tail}
 use Rattle.lists.proofs.Parts.{tail-is, tail-length}
-use Rattle.ltl.specs.Limits.{boardsMost}
 use Rattle.ltl.specs.Formula.{Formula}
 use Rattle.network.specs.Layout.{Laid}
-use Rattle.marking.specs.Marks.{Marks, Marked}
 use Rattle.laying.specs.Lays.{HeldAt, Source}
 
 module _ {choose : Formula → Option ℕ} {hold : ℕ → ℕ → Laid} (a : ℕ) (u marks : List ℕ) where
@@ -29,9 +26,3 @@ module _ {choose : Formula → Option ℕ} {hold : ℕ → ℕ → Laid} (a : �
         single = s .single;
         boards = s .boards;
       }
-
-pub marked-tail : {choose : Formula → Option ℕ} {f : Formula} (a : ℕ) (marks : List ℕ)
-    → Marks choose f boardsMost (getD (drop a marks) 0 0) × Marked choose f (drop a marks)
-    → Marks choose f boardsMost (getD (tail a marks) 0 0) × Marked choose f (tail a marks)
-marked-tail {choose} {f} a marks m =
-    subst (λ (y : List ℕ). Marks choose f boardsMost (getD y 0 0) × Marked choose f y) (sym (tail-is a marks)) m
