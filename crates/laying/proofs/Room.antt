@@ -1,4 +1,4 @@
--- The numbers that the code of the cycle needs: what is there at the entry (`entry`, `hold-entry`, `slot-entry`), that what was laid takes no more than
+-- The numbers that the code of the cycle needs: what is there at the entry (`entry`, `hold-entry`, `slot-begun`), that what was laid takes no more than
 -- there was (`look-done`, `cut-done`), and both for a node that is put in front of its operands (`begun`, `first-done`, `right-begun`,
 -- `both-done`). Assumes nothing.
 use mathlib.Core.Path.{_≡_, refl, ap, _∙_}
@@ -20,13 +20,13 @@ use Rattle.ltl.proofs.Texts.{size-some}
 use Rattle.network.specs.Layout.{Laid}
 use Rattle.nodes.specs.Begins.{Front}
 use Rattle.nodes.proofs.Fronts.{parts-as, front-length}
-use Rattle.marking.specs.Marks.{hereIn, aheadIn}
+use Rattle.marking.specs.Marks.{boardIn, hereIn, aheadIn}
 use Rattle.laying.specs.declared.Place.{Place}
 use Rattle.laying.specs.declared.Lain.{Lain}
 use Rattle.laying.specs.Lays.{Source, Fits, Lays, CutAsk, Cuts, LookAsk, Looks, SlotAsk}
-use Rattle.laying.proofs.Places.{inner, behind}
+use Rattle.laying.proofs.Places.{inner, behind, owned}
 use Rattle.laying.proofs.Parts.{Opens, first-asks, right-asks}
-use Rattle.laying.proofs.Slots.{slot-size, held}
+use Rattle.laying.proofs.Slots.{slot-size, slot-asks, held}
 
 -- ---- at the entry
 pub record Entry (u marks : List ℕ) (at : Place) (p : ℕ) : Type 0 where
@@ -100,6 +100,7 @@ first-done {p = p} {q = q} {b = b} n h e =
 
 -- the right one is looked at, in what the left one has left
 pub record RightBegun (u marks : List ℕ) (at : Place) (p r : List ℕ) (x : Lain) : Type 0 where
+  pub records : 6 * x .slots ≤ length r
   pub fewer : 1 + length (tail (1 + x .read) u) ≤ length u
   pub asks : LookAsk (tail (1 + x .read) u) (tail (1 + x .read) marks) (behind at x) (tail (1 + x .here) p) (tail (6 * x .slots) r)
 
@@ -110,6 +111,7 @@ right-begun {u} {p = p} {q = q} {r1 = r1} {b = b} {x = x} ask kind h d e =
     let P = tailAs 1 (set p 0 b) q in
     let l = tail-length (1 + x .read) u in
     record {
+      records = omega arith;
       fewer = omega arith;
       asks = right-asks ask kind h (tail (1 + x .here) P) (tail (6 * x .slots) r1) (tail-length (1 + x .here) P ∙ ap (_- (1 + x .here)) (d .kept)) (tail-length (6 * x .slots) r1 ∙ ap (_- 6 * x .slots) e);
     }
@@ -150,8 +152,8 @@ hold-entry {u} {marks} ask kind =
     let a = h .ahead in
     record { inside = h .inside; long = n .long; some-bytes = n .some-bytes; fewer = omega arith }
 
--- ---- a slot of its own
-pub record SlotEntry (marks : List ℕ) (at : Place) (p r : List ℕ) : Type 0 where
+-- ---- a slot of its own: its place holder is put, and its parts are laid behind its record
+pub record SlotBegun (u marks : List ℕ) (at : Place) (p r : List ℕ) : Type 0 where
   pub some-marks : 0 < length marks
   pub some-gap : 0 < at .gap
   pub gap-few : at .gap ≤ length p
@@ -160,12 +162,17 @@ pub record SlotEntry (marks : List ℕ) (at : Place) (p r : List ℕ) : Type 0 w
   pub node-few : at .node + hereIn (getD marks 0 0) ≤ 4096
   pub row : 6 ≤ length r
   pub put-length : length (set p 0 (leafCode (Hold (at .slot)))) ≡ length p
+  pub asks : (t : List ℕ) → length t ≡ length r
+      → CutAsk u marks (owned at (boardIn (getD marks 0 0)) (hereIn (getD marks 0 0))) (tail (at .gap) (set p 0 (leafCode (Hold (at .slot))))) (tail 6 t)
+  pub kept : (q : List ℕ) → length q ≡ length (tail (at .gap) (set p 0 (leafCode (Hold (at .slot))))) → length (tailAs (at .gap) (set p 0 (leafCode (Hold (at .slot)))) q) ≡ length p
 
-pub slot-entry : {u marks p r : List ℕ} {at : Place} → SlotAsk u marks at p r → SlotEntry marks at p r
-slot-entry {p = p} {at = at} ask =
+pub slot-begun : {u marks p r : List ℕ} {at : Place} → SlotAsk u marks at p r → SlotBegun u marks at p r
+slot-begun {p = p} {at = at} ask =
     let n = entry (ask .source) (ask .stands .front) (ask .fits) in
     let z = slot-size (ask .source) (ask .stands) (at .slot + 1) in
     let f = ask .fits in
+    let P = set p 0 (leafCode (Hold (at .slot))) in
+    let l : length P ≡ length p = length-set p 0 (leafCode (Hold (at .slot))) in
     record {
       some-marks = omega arith;
       some-gap = n .some-gap;
@@ -174,5 +181,7 @@ slot-entry {p = p} {at = at} ask =
       slot-few = omega arith;
       node-few = omega arith;
       row = omega arith;
-      put-length = length-set p 0 (leafCode (Hold (at .slot)));
+      put-length = l;
+      asks = λ t e. slot-asks ask (tail (at .gap) P) (tail 6 t) (tail-length (at .gap) P ∙ ap (_- at .gap) l) (tail-length 6 t ∙ ap (_- 6) e);
+      kept = λ q e. handed-length (at .gap) P q (omega arith) e ∙ l;
     }

@@ -1,4 +1,4 @@
--- The first slot of a network: there is room for it (`root-asks`), and what was written is the whole network (`root-lays`).
+-- The first slot of a network: there is room for it (`root-begun`), and what was written is the whole network (`root-lays`).
 -- Assumes nothing.
 use mathlib.Core.Path.{_≡_, sym, ap, _∙_, subst}
 use mathlib.Core.List.{List, [], _∷_, _++_, append-assoc}
@@ -7,6 +7,7 @@ use native.Mathlib.Omega.{arith}
 use lib.ListN.{length, getD, take, drop, length-drop, take-append-drop}
 use lib.Seq.{length-take-le, drop-drop}
 use Rattle.lists.specs.Runs.{tail, tailAs}
+use Rattle.lists.proofs.Parts.{tail-length, handed-length}
 use Rattle.le.specs.Le.{le}
 use Rattle.ltl.specs.Formula.{size, encode}
 use Rattle.ltl.proofs.Texts.{size-some}
@@ -20,29 +21,21 @@ use Rattle.laying.proofs.Places.{first}
 use Rattle.laying.proofs.Slots.{slot-size}
 use Rattle.laying.proofs.Writing.{slot-records}
 
--- the numbers that the code needs
-pub record RootNumbers (marks r : List ℕ) : Type 0 where
+-- the numbers that the code needs, and what it asks behind the record
+pub record RootBegun (u marks p r : List ℕ) : Type 0 where
   pub some-marks : 1 ≤ length marks
   pub length-few : hereIn (getD marks 0 0) ≤ 4096
   pub row : 6 ≤ length r
+  pub asks : (t : List ℕ) → length t ≡ length r → CutAsk u marks (first (boardIn (getD marks 0 0)) (hereIn (getD marks 0 0))) p (tail 6 t)
+  pub kept : (t q : List ℕ) → length t ≡ length r → length q ≡ length (tail 6 t) → length (tailAs 6 t q) ≡ length r
 
 module _ {u marks p r : List ℕ} (ask : RootAsk u marks p r) where
   abbrev laid-root : Laid
   laid-root = laid (ask .choose) (ask .hold) (ask .formula) (ask .board) 1
 
-  root-size : hereIn (getD marks 0 0) ≡ size (laid-root .here)
-  root-size = slot-size (ask .source) (ask .stands) 1
-
-  pub root-numbers : RootNumbers marks r
-  root-numbers =
-      let z = root-size in
-      let l = front-length u (ask .formula) (ask .rest) (ask .stands .front) in
-      let s = size-some (ask .formula) in
-      record { some-marks = omega arith; length-few = omega arith; row = omega arith }
-
-  pub root-asks : (t : List ℕ) → length t ≡ length r - 6 → CutAsk u marks (first (boardIn (getD marks 0 0)) (hereIn (getD marks 0 0))) p t
+  root-asks : (t : List ℕ) → length t ≡ length r - 6 → CutAsk u marks (first (boardIn (getD marks 0 0)) (hereIn (getD marks 0 0))) p t
   root-asks t e =
-      let z = root-size in
+      let z = slot-size (ask .source) (ask .stands) 1 in
       let room : Fits laid-root (first (ask .board) (hereIn (getD marks 0 0))) (length p) (length t) =
       record { here = omega arith; nodes = omega arith; records = omega arith; slots = omega arith; numbers = omega arith } in
       record {
@@ -55,6 +48,20 @@ module _ {u marks p r : List ℕ} (ask : RootAsk u marks p r) where
         marked = ask .stands .marked;
         fits =
             subst (λ (i : ℕ). Fits (laid (ask .choose) (ask .hold) (ask .formula) i 1) (first i (hereIn (getD marks 0 0))) (length p) (length t)) (sym (ask .stands .board-is)) room;
+      }
+
+  pub root-begun : RootBegun u marks p r
+  root-begun =
+      let z = slot-size (ask .source) (ask .stands) 1 in
+      let l = front-length u (ask .formula) (ask .rest) (ask .stands .front) in
+      let s = size-some (ask .formula) in
+      let row : 6 ≤ length r = omega arith in
+      record {
+        some-marks = omega arith;
+        length-few = omega arith;
+        row = row;
+        asks = λ t e. root-asks (tail 6 t) (tail-length 6 t ∙ ap (_- 6) e);
+        kept = λ t q e k. handed-length 6 t q (omega arith) k ∙ e;
       }
 
 -- ---- what was written

@@ -5,7 +5,7 @@ use mathlib.Core.List.{List}
 use mathlib.Core.Option.{Option}
 use Prim.Native.Nat.{ℕ, _+_, _-_}
 use native.Mathlib.Omega.{arith}
-use lib.ListN.{length, getD, drop}
+use lib.ListN.{length, getD}
 use Rattle.lists.specs.Runs.{tail}
 use Rattle.lists.proofs.Parts.{tail-is}
 use Rattle.kinds.specs.declared.Leaf.the-variants.{Hold}

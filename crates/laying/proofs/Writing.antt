@@ -172,16 +172,15 @@ row-begun [] board l = absurd (omega arith)
 row-begun (x ∷ []) board l = absurd (omega arith)
 row-begun (x ∷ y ∷ r) board l = refl
 
-pub row-put : (r s t : List ℕ) (board start n : ℕ) → 6 ≤ length r
-    → s ≡ take 2 (set (set r 0 board) 1 0) ++ (le 2 start ++ drop 4 (set (set r 0 board) 1 0)) → t ≡ take 4 s ++ (le 2 n ++ drop 6 s)
-    → t ≡ (board ∷ 0 ∷ (le 2 start ++ le 2 n)) ++ drop 6 r
-row-put r s t board start n l e f =
+pub row-put : (r : List ℕ) {s t : List ℕ} (board start n : ℕ) → 6 ≤ length r → s ≡ take 2 (set (set r 0 board) 1 0) ++ (le 2 start ++ drop 4 (set (set r 0 board) 1 0))
+    → t ≡ take 4 s ++ (le 2 n ++ drop 6 s) → t ≡ (board ∷ 0 ∷ (le 2 start ++ le 2 n)) ++ drop 6 r
+row-put r {s} board start n l e f =
     let A = board ∷ 0 ∷ [] in
     let first : s ≡ (A ++ le 2 start) ++ drop 4 r = e ∙ put-next (set (set r 0 board) 1 0) r A (le 2 start) 2 2 (row-begun r board l) refl in
     f ∙ put-next s r (A ++ le 2 start) (le 2 n) 4 2 first (let i = le-length 2 start in omega arith)
 
 -- ---- a formula as it stands
-pub whole-put : (f : Formula) (u rest p p′ : List ℕ) (n : ℕ) → Front u f rest → n ≡ size f → p′ ≡ take n (drop 0 u) ++ drop (length (take n (drop 0 u))) p → p′ ≡ encode f ++ drop (size f) p
-whole-put f u rest p p′ n x e w =
-    let t : take n (drop 0 u) ≡ encode f = ap (λ (i : ℕ). take i u) e ∙ front-own u f rest x in
+pub whole-put : {f : Formula} {u rest p′ : List ℕ} {n : ℕ} → Front u f rest → n ≡ size f → (p : List ℕ) → p′ ≡ take n (drop 0 u) ++ drop (length (take n (drop 0 u))) p → p′ ≡ encode f ++ drop (size f) p
+whole-put {f} {u} {rest} {n = n} x e p w =
+    let t : take n u ≡ encode f = ap (λ (i : ℕ). take i u) e ∙ front-own u f rest x in
     w ∙ ap (λ (y : List ℕ). y ++ drop (length y) p) t ∙ ap (λ (i : ℕ). encode f ++ drop i p) (length-encode f)

@@ -1,27 +1,22 @@
 -- Each function hands on what the laws of `Parts` and `Slots` say it may ask, with fewer nodes left to read or on the way to a part
 -- that has fewer; the numbers in between are those of `Room`, and each return is a law of `Cutting`. Assumes nothing.
 use mathlib.Core.Path.{_≡_, refl, sym, ap, _∙_}
-use lib.ListN.{getD, set}
-use Rattle.lists.specs.Runs.{tail, tailAs}
-use Rattle.lists.proofs.Parts.{tail-length, handed-length}
+use mathlib.Core.List.{List}
+use Rattle.lists.specs.Runs.{tailAs}
 use Rattle.kinds.specs.declared.Leaf.{Leaf}
-use Rattle.kinds.specs.declared.Leaf.the-variants.{Hold}
 use Rattle.kinds.specs.declared.Unary.{Unary}
 use Rattle.kinds.specs.declared.Binary.{Binary}
 use Rattle.kinds.specs.declared.Kind.the-variants.{Zero, One, Two}
-use Rattle.kinds.specs.Kinds.{kindOf, leafCode}
-use Rattle.marking.specs.Marks.{boardIn, hereIn}
+use Rattle.kinds.specs.Kinds.{kindOf}
 use Rattle.nodes.proofs.Fronts.{parts-as, no-code}
-use Rattle.laying.specs.Lays.{CutAsk}
-use Rattle.laying.proofs.Places.{owned}
 use Rattle.laying.proofs.Parts.{not, pair}
-use Rattle.laying.proofs.Slots.{stay-asks, cut-asks, slot-asks, hold-asks}
-use Rattle.laying.proofs.Room.{Entry, entry, Done, cut-done, Begun, begun, FirstDone, first-done, RightBegun, right-begun, BothDone, both-done, HoldEntry, hold-entry, SlotEntry, slot-entry}
+use Rattle.laying.proofs.Slots.{stay-asks, cut-asks, hold-asks}
+use Rattle.laying.proofs.Room.{Entry, entry, cut-done, Begun, begun, FirstDone, first-done, RightBegun, right-begun, BothDone, both-done, HoldEntry, hold-entry, SlotBegun, slot-begun}
 use Rattle.laying.proofs.Cutting.{constant, proposition, next, eventually, always, until, whole-asks, whole-cuts, leaf-cuts, not-cuts, pair-cuts, stay-looks, cut-looks, slot-lays, hold-cuts}
 use native.Mathlib.Omega.{arith}
 use borrow.Author.Needs.{needs}
-use Prim.Native.Nat.{ℕ, _+_, _-_, _*_, _<_}
-use lib.ListN.{length}
+use Prim.Native.Nat.{ℕ, _+_, _*_, _<_}
+use lib.ListN.{length, getD, set}
 use borrow.Fn.Kinds.{In}
 use borrow.Fn.PlainCycle.{Measures, is, falls, and}
 use Rattle.laying.proofs.cut_not.Reads as cut-not
@@ -87,24 +82,25 @@ module _ (t : ℕ) where
   abbrev not-calls : cut-not-lts.Claims
   not-calls = (look-below t, look.Post)
 
+  -- where the byte is put, and where the operand was laid
   abbrev NotIn : Type 0
   NotIn = cut-not-lts.After-slice-known2 not-calls not-here cut-not.Post
 
   abbrev NotOut : Type 0
-  NotOut = cut-not-lts.After-struct-known2 not-calls not-here cut-not.Post
+  NotOut = cut-not-lts.After-look not-calls not-here cut-not.Post
 
   abbrev not-first : NotIn → cut-not-lts.Start not-calls not-here cut-not.Post
   not-first c = c .before .before .before .before
 
-  abbrev not-look : NotOut → cut-not-lts.After-look not-calls not-here cut-not.Post
-  not-look c = c .before .before .before .before .before
+  abbrev not-in : NotOut → NotIn
+  not-in c = c .before .before .before .before .before .before
 
-  -- where the byte is put, and where the operand was laid
   not-begun : (c : NotIn) → let a = not-first c .args in Begun (a .u .now) (a .marks .now) (a .at) (a .p .now) (a .r .now) 2
   not-begun c = let a = not-first c .pre .1 in begun (a .0) not (a .1) 2
 
-  not-done : (c : NotOut) → let l = not-look c in let a = not-first (l .before .before .before .before .before .before) .args in FirstDone (a .u .now) (a .marks .now) (a .at) (a .p .now) (a .r .now) 2 (l .look .last .1 .1 .1 .0) (l .look .result)
-  not-done c = let l = not-look c in first-done (not-begun (l .before .before .before .before .before .before)) (l .look .ensures) (l .look .kept .1 .1 .1 .0)
+  not-done : (c : NotOut)
+      → let a = not-first (not-in c) .args in FirstDone (a .u .now) (a .marks .now) (a .at) (a .p .now) (a .r .now) 2 (c .look .last .1 .1 .1 .0) (c .look .result)
+  not-done c = first-done (not-begun (not-in c)) (c .look .ensures) (c .look .kept .1 .1 .1 .0)
 
   not-spec : {M : Type 1} → cut-not-lts.Closed not-calls not-here cut-not.Post M
   not-spec =
@@ -120,12 +116,12 @@ module _ (t : ℕ) where
       (λ c. let n = not-begun (c .before .before .before) in omega arith)
       (λ c. let n = not-begun (c .before .before .before) in omega arith)
       (λ c. let n = not-begun (c .before .before .before) in omega arith)
-      (λ c κs. let n = not-begun (c .before .before .before .before .before) in let q = not-first (c .before .before .before .before .before) .pre .0 in (omega arith, n .asks))
-      (λ c. let d = not-done c in let g = not-first (c .before .before .before .before .before .before .before .before .before .before .before) .good in omega arith)
-      (λ c. let d = not-done (c .before) in let g = not-first (c .before .before .before .before .before .before .before .before .before .before .before .before) .good in omega arith)
-      (λ c. not-done (c .before) .kept)
+      (λ c κs. let i = c .before .before .before .before .before in let n = not-begun i in let q = not-first i .pre .0 in (omega arith, n .asks))
+      (λ c. let o = c .before .before .before .before .before in let d = not-done o in let g = not-first (not-in o) .good in omega arith)
+      (λ c. let o = c .before .before .before .before .before .before in let d = not-done o in let g = not-first (not-in o) .good in omega arith)
+      (λ c. not-done (c .before .before .before .before .before .before) .kept)
       (λ c. search needs)
-      (λ c. let l = not-look (c .before) in not-cuts _ (not-first (l .before .before .before .before .before .before) .pre .1 .1) (l .look .ensures) (refl, (refl, refl, refl)))
+      (λ c. let o = c .before .before .before .before .before .before in not-cuts _ (not-first (not-in o) .pre .1 .1) (o .look .ensures) (refl, (refl, refl, refl)))
 
 -- ---- two operands
 module _ (t : ℕ) where
@@ -135,49 +131,54 @@ module _ (t : ℕ) where
   abbrev pair-calls : cut-pair-lts.Claims
   pair-calls = (look-below t, look.Post)
 
+  -- where the byte is put, where the left one was laid, where the right one is handed its part, and where it was laid
   abbrev PairIn : Type 0
   PairIn = cut-pair-lts.After-shared-slice-known3 pair-calls pair-here cut-pair.Post
 
   abbrev LeftOut : Type 0
-  LeftOut = cut-pair-lts.After-struct-known2 pair-calls pair-here cut-pair.Post
+  LeftOut = cut-pair-lts.After-look pair-calls pair-here cut-pair.Post
 
   abbrev RightIn : Type 0
   RightIn = cut-pair-lts.After-struct-known10 pair-calls pair-here cut-pair.Post
 
   abbrev PairOut : Type 0
-  PairOut = cut-pair-lts.After-struct-known11 pair-calls pair-here cut-pair.Post
+  PairOut = cut-pair-lts.After-look2 pair-calls pair-here cut-pair.Post
 
   abbrev pair-first : PairIn → cut-pair-lts.Start pair-calls pair-here cut-pair.Post
   pair-first c = c .before .before .before .before .before
 
-  abbrev pair-look : LeftOut → cut-pair-lts.After-look pair-calls pair-here cut-pair.Post
-  pair-look c = c .before .before .before .before .before
+  abbrev pair-in : LeftOut → PairIn
+  pair-in c = c .before .before .before .before .before .before
 
   abbrev left-out : RightIn → LeftOut
-  left-out c = c .before .before .before .before .before .before .before .before
+  left-out c = c .before .before .before .before .before .before .before .before .before .before .before .before .before
 
-  -- where the byte is put, where the left one was laid, where the right one is looked at, and where it was laid
+  abbrev right-in : PairOut → RightIn
+  right-in c = c .before .before .before .before .before
+
   pair-begun : (c : PairIn) → let a = pair-first c .args in Begun (a .u .now) (a .marks .now) (a .at) (a .p .now) (a .r .now) (getD (a .u .now) 0 0)
   pair-begun c = let a = pair-first c in begun (a .pre .1 .0) pair (a .pre .1 .1 .kind) (getD (a .args .u .now) 0 0)
 
   left-done : (c : LeftOut)
-      → let l = pair-look c in let a = pair-first (l .before .before .before .before .before .before) .args in FirstDone (a .u .now) (a .marks .now) (a .at) (a .p .now) (a .r .now) (getD (a .u .now) 0 0) (l .look .last .1 .1 .1 .0) (l .look .result)
-  left-done c = let l = pair-look c in first-done (pair-begun (l .before .before .before .before .before .before)) (l .look .ensures) (l .look .kept .1 .1 .1 .0)
+      → let a = pair-first (pair-in c) .args in FirstDone (a .u .now) (a .marks .now) (a .at) (a .p .now) (a .r .now) (getD (a .u .now) 0 0) (c .look .last .1 .1 .1 .0) (c .look .result)
+  left-done c = first-done (pair-begun (pair-in c)) (c .look .ensures) (c .look .kept .1 .1 .1 .0)
 
-  right : (c : RightIn)
-      → let l = pair-look (left-out c) in let a = pair-first (l .before .before .before .before .before .before) .args in RightBegun (a .u .now) (a .marks .now) (a .at) (tailAs 1 (set (a .p .now) 0 (getD (a .u .now) 0 0)) (l .look .last .1 .1 .1 .0)) (l .look .last .1 .1 .1 .1 .0) (l .look .result)
-  right c =
-      let l = pair-look (left-out c) in
-      let a = pair-first (l .before .before .before .before .before .before) .pre .1 in
-      right-begun (a .0) (a .1 .kind) (l .look .ensures) (left-done (left-out c)) (l .look .kept .1 .1 .1 .1 .0)
+  -- the nodes as the left one has left them
+  abbrev left-nodes : LeftOut → List ℕ
+  left-nodes c = let a = pair-first (pair-in c) .args in tailAs 1 (set (a .p .now) 0 (getD (a .u .now) 0 0)) (c .look .last .1 .1 .1 .0)
+
+  right-begins : (c : LeftOut)
+      → let a = pair-first (pair-in c) .args in RightBegun (a .u .now) (a .marks .now) (a .at) (left-nodes c) (c .look .last .1 .1 .1 .1 .0) (c .look .result)
+  right-begins c = let a = pair-first (pair-in c) .pre .1 in right-begun (a .0) (a .1 .kind) (c .look .ensures) (left-done c) (c .look .kept .1 .1 .1 .1 .0)
 
   pair-done : (c : PairOut)
-      → let r = c .before .before .before .before .before .look2 in let l = pair-look (left-out (c .before .before .before .before .before .before .before .before .before .before)) in let a = pair-first (l .before .before .before .before .before .before) .args in
-      BothDone (a .u .now) (a .p .now) (a .r .now) (tailAs (1 + l .look .result .here) (tailAs 1 (set (a .p .now) 0 (getD (a .u .now) 0 0)) (l .look .last .1 .1 .1 .0)) (r .last .1 .1 .1 .0)) (tailAs (6 * l .look .result .slots) (l .look .last .1 .1 .1 .1 .0) (r .last .1 .1 .1 .1 .0)) (l .look .result) (r .result)
+      → let l = left-out (right-in c) in let x = l .look .result in let a = pair-first (pair-in l) .args in
+      BothDone (a .u .now) (a .p .now) (a .r .now)
+      (tailAs (1 + x .here) (left-nodes l) (c .look2 .last .1 .1 .1 .0)) (tailAs (6 * x .slots) (l .look .last .1 .1 .1 .1 .0) (c .look2 .last .1 .1 .1 .1 .0))
+      x (c .look2 .result)
   pair-done c =
-      let r = c .before .before .before .before .before .look2 in
-      let l = left-out (c .before .before .before .before .before .before .before .before .before .before) in
-      both-done (left-done l) (pair-look l .look .kept .1 .1 .1 .1 .0) (right (c .before .before .before .before .before .before .before .before .before .before)) (r .ensures) (r .kept .1 .1 .1 .0) (r .kept .1 .1 .1 .1 .0)
+      let l = left-out (right-in c) in
+      both-done (left-done l) (l .look .kept .1 .1 .1 .1 .0) (right-begins l) (c .look2 .ensures) (c .look2 .kept .1 .1 .1 .0) (c .look2 .kept .1 .1 .1 .1 .0)
 
   pair-spec : {M : Type 1} → cut-pair-lts.Closed pair-calls pair-here cut-pair.Post M
   pair-spec =
@@ -194,35 +195,35 @@ module _ (t : ℕ) where
       (λ c. let n = pair-begun (c .before .before .before) in omega arith)
       (λ c. let n = pair-begun (c .before .before .before) in omega arith)
       (λ c. let n = pair-begun (c .before .before .before) in omega arith)
-      (λ c κs. let n = pair-begun (c .before .before .before .before .before) in let q = pair-first (c .before .before .before .before .before) .pre .0 in (omega arith, n .asks))
-      (λ c. let x = left-done c in let g = pair-first (pair-look c .before .before .before .before .before .before) .good in omega arith)
-      (λ c. let x = left-done (c .before) in let g = pair-first (pair-look (c .before) .before .before .before .before .before .before) .good in omega arith)
-      (λ c. let x = left-done (c .before .before) in omega arith)
-      (λ c. let x = left-done (c .before .before .before .before) in omega arith)
-      (λ c. let x = left-done (c .before .before .before .before .before .before) in omega arith)
+      (λ c κs. let i = c .before .before .before .before .before in let n = pair-begun i in let q = pair-first i .pre .0 in (omega arith, n .asks))
+      (λ c. let l = c .before .before .before .before .before in let x = left-done l in let g = pair-first (pair-in l) .good in omega arith)
+      (λ c. let l = c .before .before .before .before .before .before in let x = left-done l in let g = pair-first (pair-in l) .good in omega arith)
       (λ c. let x = left-done (c .before .before .before .before .before .before .before) in omega arith)
-      (λ c. let x = left-done (left-out c) in let g = pair-first (pair-look (left-out c) .before .before .before .before .before .before) .good in omega arith)
+      (λ c. let x = left-done (c .before .before .before .before .before .before .before .before .before) in omega arith)
+      (λ c. let x = left-done (c .before .before .before .before .before .before .before .before .before .before .before) in omega arith)
+      (λ c. let x = left-done (c .before .before .before .before .before .before .before .before .before .before .before .before) in omega arith)
+      (λ c. let l = left-out c in let x = left-done l in let g = pair-first (pair-in l) .good in omega arith)
       (λ c. let x = left-done (left-out c) in omega arith)
       (λ c. let x = left-done (left-out c) in omega arith)
       (λ c. let x = left-done (left-out c) in omega arith)
-      (λ c. let x = left-done (left-out (c .before)) in let g = pair-first (pair-look (left-out (c .before)) .before .before .before .before .before .before) .good in omega arith)
+      (λ c. let l = left-out (c .before) in let x = left-done l in let g = pair-first (pair-in l) .good in omega arith)
       (λ c. let x = left-done (left-out (c .before)) in omega arith)
       (λ c. let x = left-done (left-out (c .before)) in omega arith)
       (λ c. let x = left-done (left-out (c .before)) in omega arith)
       (λ c. let x = left-done (left-out (c .before .before)) in omega arith)
       (λ c. let x = left-done (left-out (c .before .before)) in omega arith)
       (λ c. let x = left-done (left-out (c .before .before)) in omega arith)
-      (λ c. let x = left-done (left-out (c .before .before .before)) in let k = pair-look (left-out (c .before .before .before)) .look .kept .1 .1 .1 .1 .0 in omega arith)
-      (λ c. let x = left-done (left-out (c .before .before .before)) in let k = pair-look (left-out (c .before .before .before)) .look .kept .1 .1 .1 .1 .0 in omega arith)
-      (λ c. let x = left-done (left-out (c .before .before .before)) in let k = pair-look (left-out (c .before .before .before)) .look .kept .1 .1 .1 .1 .0 in omega arith)
-      (λ c κs. let x = right (c .before .before .before .before) in let q = pair-first (pair-look (left-out (c .before .before .before .before)) .before .before .before .before .before .before) .pre .0 in (omega arith, x .asks))
-      (λ c. let x = pair-done c in let g = pair-first (pair-look (left-out (c .before .before .before .before .before .before .before .before .before .before)) .before .before .before .before .before .before) .good in omega arith)
-      (λ c. let x = pair-done (c .before) in let g = pair-first (pair-look (left-out (c .before .before .before .before .before .before .before .before .before .before .before)) .before .before .before .before .before .before) .good in omega arith)
-      (λ c. let x = pair-done (c .before .before .before) in omega arith)
-      (λ c. let x = pair-done (c .before .before .before .before .before) in omega arith)
-      (λ c. pair-done (c .before .before .before .before .before) .kept)
-      (λ c. pair-done (c .before .before .before .before .before) .records-kept)
-      (λ c. let l = pair-look (left-out (c .before .before .before .before .before .before .before .before .before .before .before .before .before .before .before)) in pair-cuts _ (pair-first (l .before .before .before .before .before .before) .pre .1 .1) (l .look .ensures) (c .before .before .before .before .before .before .before .before .before .before .look2 .ensures) (refl, (refl, refl, refl)))
+      (λ c. let x = right-begins (left-out (c .before .before .before)) in omega arith)
+      (λ c. let x = right-begins (left-out (c .before .before .before)) in omega arith)
+      (λ c. let x = right-begins (left-out (c .before .before .before)) in omega arith)
+      (λ c κs. let l = left-out (c .before .before .before .before) in let n = right-begins l in let q = pair-first (pair-in l) .pre .0 in (omega arith, n .asks))
+      (λ c. let o = c .before .before .before .before .before in let x = pair-done o in let g = pair-first (pair-in (left-out (right-in o))) .good in omega arith)
+      (λ c. let o = c .before .before .before .before .before .before in let x = pair-done o in let g = pair-first (pair-in (left-out (right-in o))) .good in omega arith)
+      (λ c. let x = pair-done (c .before .before .before .before .before .before .before .before) in omega arith)
+      (λ c. let x = pair-done (c .before .before .before .before .before .before .before .before .before .before) in omega arith)
+      (λ c. pair-done (c .before .before .before .before .before .before .before .before .before .before) .kept)
+      (λ c. pair-done (c .before .before .before .before .before .before .before .before .before .before) .records-kept)
+      (λ c. let o = c .before .before .before .before .before .before .before .before .before .before in let l = left-out (right-in o) in pair-cuts _ (pair-first (pair-in l) .pre .1 .1) (l .look .ensures) (o .look2 .ensures) (refl, (refl, refl, refl)))
 
 -- ---- a formula in the slot that is being laid
 module _ (t : ℕ) where
@@ -232,17 +233,16 @@ module _ (t : ℕ) where
   abbrev parts-calls : cut-parts-lts.Claims
   parts-calls = (of-reads.Asked, of-reads.Learnt, put-leaf-reads.Asked, put-leaf-reads.Learnt, lay-slot-below t, lay-slot.Post, cut-not-below t, cut-not.Post, put-whole-reads.Asked, put-whole-reads.Learnt, cut-pair-below t, cut-pair.Post)
 
-  -- where the first byte's kind is known
-  abbrev Known : Type 0
-  Known = cut-parts-lts.After-of parts-calls parts-here cut-parts.Post
+  abbrev PartsIn : Type 0
+  PartsIn = cut-parts-lts.Start parts-calls parts-here cut-parts.Post
 
-  abbrev parts-first : Known → cut-parts-lts.Start parts-calls parts-here cut-parts.Post
+  parts-entry : (c : PartsIn) → Entry (c .args .u .now) (c .args .marks .now) (c .args .at) (length (c .args .p .now))
+  parts-entry c = entry (c .pre .1 .source) (c .pre .1 .front) (c .pre .1 .fits)
+
+  -- where the first byte's kind is known, and what it is in each arm
+  abbrev parts-first : cut-parts-lts.After-of parts-calls parts-here cut-parts.Post → PartsIn
   parts-first c = c .before .before .before .before .before .before
 
-  parts-entry : (a : cut-parts-lts.Start parts-calls parts-here cut-parts.Post) → Entry (a .args .u .now) (a .args .marks .now) (a .args .at) (length (a .args .p .now))
-  parts-entry a = entry (a .pre .1 .source) (a .pre .1 .front) (a .pre .1 .fits)
-
-  -- and what it is in each arm
   zero-is : (c : cut-parts-lts.After-k parts-calls parts-here cut-parts.Post) {a : Leaf} → c .k .given .0 .0 ≡ a → kindOf (getD (parts-first (c .before .before) .args .u .now) 0 0) ≡ Zero a
   zero-is c e = sym (c .before .before .of .ensures) ∙ c .k .given .1 ∙ ap Zero e
 
@@ -253,8 +253,11 @@ module _ (t : ℕ) where
   two-is c e = sym (c .before .before .of .ensures) ∙ c .k3 .given .1 ∙ ap Two e
 
   -- at a place holder
-  hold : (c : cut-parts-lts.After-shared-slice-known4 parts-calls parts-here cut-parts.Post) → let a = parts-first (c .before .before .before .before .before .before) .args in HoldEntry (a .u .now) (a .marks .now)
-  hold c = hold-entry (parts-first (c .before .before .before .before .before .before) .pre .1) (zero-is (c .before .before .before .before) (c .before .enum-told3 .given .1))
+  abbrev hold-first : cut-parts-lts.After-enum-told3 parts-calls parts-here cut-parts.Post → PartsIn
+  hold-first c = parts-first (c .before .before .before .before .before)
+
+  hold : (c : cut-parts-lts.After-enum-told3 parts-calls parts-here cut-parts.Post) → HoldEntry (hold-first c .args .u .now) (hold-first c .args .marks .now)
+  hold c = hold-entry (hold-first c .pre .1) (zero-is (c .before .before .before) (c .enum-told3 .given .1))
 
   parts-spec : {M : Type 1} → cut-parts-lts.Closed parts-calls parts-here cut-parts.Post M
   parts-spec =
@@ -267,55 +270,55 @@ module _ (t : ℕ) where
       (λ c. search needs)
       (λ c κs. let n = parts-entry (parts-first (c .before .before .before .before .before .before)) in omega arith)
       (λ c. search needs)
-      (λ c. let n = hold c in omega arith)
-      (λ c. let n = hold c in omega arith)
-      (λ c. let n = hold c in omega arith)
-      (λ c. let n = hold c in omega arith)
-      (λ c. let n = hold c in omega arith)
       (λ c. let n = hold (c .before) in omega arith)
       (λ c. let n = hold (c .before) in omega arith)
       (λ c. let n = hold (c .before) in omega arith)
       (λ c. let n = hold (c .before) in omega arith)
-      (λ c κs. let n = hold (c .before .before .before .before) in let a = parts-first (c .before .before .before .before .before .before .before .before .before .before) .pre in let q = a .0 in (omega arith, hold-asks (a .1) (zero-is (c .before .before .before .before .before .before .before .before) (c .before .before .before .before .before .enum-told3 .given .1))))
+      (λ c. let n = hold (c .before) in omega arith)
+      (λ c. let n = hold (c .before .before) in omega arith)
+      (λ c. let n = hold (c .before .before) in omega arith)
+      (λ c. let n = hold (c .before .before) in omega arith)
+      (λ c. let n = hold (c .before .before) in omega arith)
+      (λ c κs. let e = c .before .before .before .before .before in let n = hold e in let a = hold-first e .pre in let q = a .0 in (omega arith, hold-asks (a .1) (zero-is (e .before .before .before) (e .enum-told3 .given .1))))
       (λ c. search needs)
       (λ c. search needs)
-      (λ c κs. let a = parts-first (c .before .before .before .before .before .before .before) .pre in let q = a .0 in (omega arith, (a .1, one-is (c .before .before .before .before .before) (c .before .before .enum-told4 .given .1))))
+      (λ c κs. let e = c .before .before in let a = parts-first (e .before .before .before .before .before) .pre in let q = a .0 in (omega arith, (a .1, one-is (e .before .before .before) (e .enum-told4 .given .1))))
       (λ c. search needs)
-      (λ c κs. whole-asks (parts-first (c .before .before .before .before .before .before) .pre .1) next (one-is (c .before .before .before .before) (c .before .enum-told5 .given .1)))
+      (λ c κs. let e = c .before in whole-asks (parts-first (e .before .before .before .before .before) .pre .1) next (one-is (e .before .before .before) (e .enum-told5 .given .1)))
       (λ c. search needs)
-      (λ c κs. whole-asks (parts-first (c .before .before .before .before .before .before) .pre .1) eventually (one-is (c .before .before .before .before) (c .before .enum-told6 .given .1)))
+      (λ c κs. let e = c .before in whole-asks (parts-first (e .before .before .before .before .before) .pre .1) eventually (one-is (e .before .before .before) (e .enum-told6 .given .1)))
       (λ c. search needs)
-      (λ c κs. whole-asks (parts-first (c .before .before .before .before .before .before) .pre .1) always (one-is (c .before .before .before .before) (c .before .enum-told7 .given .1)))
+      (λ c κs. let e = c .before in whole-asks (parts-first (e .before .before .before .before .before) .pre .1) always (one-is (e .before .before .before) (e .enum-told7 .given .1)))
       (λ c. search needs)
       (λ c. search needs)
-      (λ c κs. let a = parts-first (c .before .before .before .before .before .before .before) .pre in let q = a .0 in (omega arith, (a .1, record { by = _; kind = two-is (c .before .before .before .before .before) (c .before .before .enum-told8 .given .1) })))
+      (λ c κs. let e = c .before .before in let a = parts-first (e .before .before .before .before .before) .pre in let q = a .0 in (omega arith, (a .1, record { by = _; kind = two-is (e .before .before .before) (e .enum-told8 .given .1) })))
       (λ c. search needs)
-      (λ c κs. whole-asks (parts-first (c .before .before .before .before .before .before) .pre .1) until (two-is (c .before .before .before .before) (c .before .enum-told9 .given .1)))
+      (λ c κs. let e = c .before in whole-asks (parts-first (e .before .before .before .before .before) .pre .1) until (two-is (e .before .before .before) (e .enum-told9 .given .1)))
       (λ c. search needs)
       (λ c κs. let n = parts-entry (parts-first (c .before .before .before)) in omega arith)
       (λ c. search needs)
-      (λ c. leaf-cuts constant (zero-is (c .before .before .before .before .before .before .before) (c .before .before .before .before .enum-told .given .1)) (c .before .before .put-leaf .ensures))
+      (λ c. let e = c .before .before .before .before in leaf-cuts constant (zero-is (e .before .before .before) (e .enum-told .given .1)) (c .before .before .put-leaf .ensures))
       (λ c. search needs)
-      (λ c. leaf-cuts proposition (zero-is (c .before .before .before .before .before .before .before) (c .before .before .before .before .enum-told2 .given .1)) (c .before .before .put-leaf2 .ensures))
+      (λ c. let e = c .before .before .before .before in leaf-cuts proposition (zero-is (e .before .before .before) (e .enum-told2 .given .1)) (c .before .before .put-leaf2 .ensures))
       (λ c. search needs)
       (λ c. search needs)
-      (λ c. hold-cuts _ (zero-is (c .before .before .before .before .before .before .before .before .before .before .before .before .before) (c .before .before .before .before .before .before .before .before .before .before .enum-told3 .given .1)) (c .before .before .before .before .lay-slot .ensures) (refl, (refl, refl, refl)))
+      (λ c. let e = c .before .before .before .before .before .before .before .before .before .before in hold-cuts _ (zero-is (e .before .before .before) (e .enum-told3 .given .1)) (c .before .before .before .before .lay-slot .ensures) (refl, (refl, refl, refl)))
       (λ c. search needs)
       (λ c. search needs)
       (λ c. c .before .before .before .before .cut-not .ensures)
       (λ c. search needs)
-      (λ c. whole-cuts next (one-is (c .before .before .before .before .before .before .before) (c .before .before .before .before .enum-told5 .given .1)) (c .before .before .put-whole .ensures))
+      (λ c. let e = c .before .before .before .before in whole-cuts next (one-is (e .before .before .before) (e .enum-told5 .given .1)) (c .before .before .put-whole .ensures))
       (λ c. search needs)
-      (λ c. whole-cuts eventually (one-is (c .before .before .before .before .before .before .before) (c .before .before .before .before .enum-told6 .given .1)) (c .before .before .put-whole2 .ensures))
+      (λ c. let e = c .before .before .before .before in whole-cuts eventually (one-is (e .before .before .before) (e .enum-told6 .given .1)) (c .before .before .put-whole2 .ensures))
       (λ c. search needs)
-      (λ c. whole-cuts always (one-is (c .before .before .before .before .before .before .before) (c .before .before .before .before .enum-told7 .given .1)) (c .before .before .put-whole3 .ensures))
+      (λ c. let e = c .before .before .before .before in whole-cuts always (one-is (e .before .before .before) (e .enum-told7 .given .1)) (c .before .before .put-whole3 .ensures))
       (λ c. search needs)
       (λ c. search needs)
       (λ c. c .before .before .before .before .cut-pair .ensures)
       (λ c. search needs)
-      (λ c. whole-cuts until (two-is (c .before .before .before .before .before .before .before) (c .before .before .before .before .enum-told9 .given .1)) (c .before .before .put-whole4 .ensures))
+      (λ c. let e = c .before .before .before .before in whole-cuts until (two-is (e .before .before .before) (e .enum-told9 .given .1)) (c .before .before .put-whole4 .ensures))
       (λ c. search needs)
-      (λ c choose hold f rest s front m. absurd (no-code (parts-as _ f rest front (c .before .before .before .before .before .before .of .ensures) (c .before .before .before .before .enum-told10 .given .1))))
+      (λ c choose hold f rest s front m. let e = c .before .before .before .before in absurd (no-code (parts-as _ f rest front (e .before .before .of .ensures) (e .enum-told10 .given .1))))
 
 -- ---- a slot of its own
 module _ (t : ℕ) where
@@ -325,28 +328,27 @@ module _ (t : ℕ) where
   abbrev slot-calls : lay-slot-lts.Claims
   slot-calls = (put-record-reads.Asked, put-record-reads.Learnt, cut-parts-below t, cut-parts.Post)
 
+  -- at the entry, where its record was put, and where its parts were laid
   abbrev SlotIn : Type 0
   SlotIn = lay-slot-lts.After-shared-slice-known3 slot-calls slot-here lay-slot.Post
 
-  abbrev Put : Type 0
-  Put = lay-slot-lts.After-put-record slot-calls slot-here lay-slot.Post
+  abbrev SlotPut : Type 0
+  SlotPut = lay-slot-lts.After-put-record slot-calls slot-here lay-slot.Post
+
+  abbrev SlotOut : Type 0
+  SlotOut = lay-slot-lts.After-cut-parts slot-calls slot-here lay-slot.Post
 
   abbrev slot-first : SlotIn → lay-slot-lts.Start slot-calls slot-here lay-slot.Post
   slot-first c = c .before .before .before .before .before
 
-  abbrev slot-in : Put → SlotIn
+  abbrev slot-in : SlotPut → SlotIn
   slot-in c = c .before .before .before .before
 
-  -- at the entry, where its record is put, and where its parts were laid
-  slot : (c : SlotIn) → let a = slot-first c .args in SlotEntry (a .marks .now) (a .at) (a .p .now) (a .r .now)
-  slot c = slot-entry (slot-first c .pre .1)
+  abbrev slot-put : SlotOut → SlotPut
+  slot-put c = c .before .before .before .before .before .before .before
 
-  slot-parts : (c : Put)
-      → let a = slot-first (slot-in c) .args in CutAsk (a .u .now) (a .marks .now) (owned (a .at) (boardIn (getD (a .marks .now) 0 0)) (hereIn (getD (a .marks .now) 0 0))) (tail (a .at .gap) (set (a .p .now) 0 (leafCode (Hold (a .at .slot))))) (tail 6 (c .put-record .last .0))
-  slot-parts c =
-      let s = slot (slot-in c) in
-      let a = slot-first (slot-in c) in
-      slot-asks (a .pre .1) _ _ (tail-length (a .args .at .gap) (set (a .args .p .now) 0 (leafCode (Hold (a .args .at .slot)))) ∙ ap (_- a .args .at .gap) (s .put-length)) (tail-length 6 (c .put-record .last .0) ∙ ap (_- 6) (c .put-record .kept .0))
+  slot : (c : SlotIn) → let a = slot-first c .args in SlotBegun (a .u .now) (a .marks .now) (a .at) (a .p .now) (a .r .now)
+  slot c = slot-begun (slot-first c .pre .1)
 
   slot-spec : {M : Type 1} → lay-slot-lts.Closed slot-calls slot-here lay-slot.Post M
   slot-spec =
@@ -365,17 +367,15 @@ module _ (t : ℕ) where
       (λ c. let n = slot (slot-in (c .before .before .before .before)) in omega arith)
       (λ c. let n = slot (slot-in (c .before .before .before .before)) in omega arith)
       (λ c. let n = slot (slot-in (c .before .before .before .before)) in omega arith)
-      (λ c. let n = slot (slot-in (c .before .before .before .before .before)) in let k = c .before .before .before .before .before .put-record .kept .0 in omega arith)
-      (λ c. let n = slot (slot-in (c .before .before .before .before .before)) in let k = c .before .before .before .before .before .put-record .kept .0 in omega arith)
-      (λ c. let n = slot (slot-in (c .before .before .before .before .before)) in let k = c .before .before .before .before .before .put-record .kept .0 in omega arith)
-      (λ c κs. let q = slot-first (slot-in (c .before .before .before .before .before .before)) .pre .0 in (omega arith, slot-parts (c .before .before .before .before .before .before)))
-      (λ c. let d = cut-done (slot-parts (c .before .before .before .before .before .before .before .before .before .before .before .before)) (c .before .before .before .before .before .cut-parts .ensures) in omega arith)
-      (λ c. let d = cut-done (slot-parts (c .before .before .before .before .before .before .before .before .before .before .before .before .before)) (c .before .before .before .before .before .before .cut-parts .ensures) in omega arith)
-      (λ c. let n = slot (slot-in (c .before .before .before .before .before .before .before .before .before .before .before .before .before)) in
-      let a = slot-first (slot-in (c .before .before .before .before .before .before .before .before .before .before .before .before .before)) .args in
-      handed-length (a .at .gap) (set (a .p .now) 0 (leafCode (Hold (a .at .slot)))) (c .before .before .before .before .before .before .cut-parts .last .1 .1 .1 .0) (omega arith) (c .before .before .before .before .before .before .cut-parts .kept .1 .1 .1 .0) ∙ n .put-length)
+      (λ c. let k = c .before .before .before .before .before in let n = slot (slot-in k) in let l = k .put-record .kept .0 in omega arith)
+      (λ c. let k = c .before .before .before .before .before in let n = slot (slot-in k) in let l = k .put-record .kept .0 in omega arith)
+      (λ c. let k = c .before .before .before .before .before in let n = slot (slot-in k) in let l = k .put-record .kept .0 in omega arith)
+      (λ c κs. let k = c .before .before .before .before .before .before in let q = slot-first (slot-in k) .pre .0 in (omega arith, slot (slot-in k) .asks (k .put-record .last .0) (k .put-record .kept .0)))
+      (λ c. let o = c .before .before .before .before .before in let k = slot-put o in let d = cut-done (slot (slot-in k) .asks (k .put-record .last .0) (k .put-record .kept .0)) (o .cut-parts .ensures) in omega arith)
+      (λ c. let o = c .before .before .before .before .before .before in let k = slot-put o in let d = cut-done (slot (slot-in k) .asks (k .put-record .last .0) (k .put-record .kept .0)) (o .cut-parts .ensures) in omega arith)
+      (λ c. let o = c .before .before .before .before .before .before in slot (slot-in (slot-put o)) .kept (o .cut-parts .last .1 .1 .1 .0) (o .cut-parts .kept .1 .1 .1 .0))
       (λ c. search needs)
-      (λ c. slot-lays _ (c .before .before .before .before .before .before .before .before .before .before .before .before .before .put-record .ensures) (c .before .before .before .before .before .before .cut-parts .ensures) (refl, (refl, refl, refl)))
+      (λ c. let o = c .before .before .before .before .before .before in slot-lays _ (slot-put o .put-record .ensures) (o .cut-parts .ensures) (refl, (refl, refl, refl)))
 
 -- ---- an operand
 module _ (t : ℕ) where
@@ -391,14 +391,15 @@ module _ (t : ℕ) where
       (λ c. let a = c .before .before .before .before .before .pre .1 in let n = entry (a .source) (a .front) (a .fits) in omega arith)
       (λ c. omega arith)
       (λ c κs. tt)
-      (λ c κs. let a = c .before .before .before .before .before .before .before .before .before .pre in let q = a .0 in (omega arith, stay-asks (a .1) (sym (c .before .before .before .stays-on .ensures) ∙ c .before .before .if1 .taken)))
+      (λ c κs. let s = c .before .before .before in let a = s .before .before .before .before .before .before .pre in let q = a .0 in (omega arith, stay-asks (a .1) (sym (s .stays-on .ensures) ∙ c .before .before .if1 .taken)))
       (λ c. search needs)
       (λ c. search needs)
-      (λ c. stay-looks (sym (c .before .before .before .before .before .before .before .before .stays-on .ensures) ∙ c .before .before .before .before .before .before .before .if1 .taken) (c .before .before .before .before .cut-parts .ensures))
-      (λ c κs. let a = c .before .before .before .before .before .before .before .before .before .pre in let q = a .0 in (omega arith, cut-asks (a .1) (sym (c .before .before .before .stays-on .ensures) ∙ c .before .before .if1 .left)))
+      (λ c. let s = c .before .before .before .before .before .before .before in stay-looks (sym (s .before .stays-on .ensures) ∙ s .if1 .taken) (c .before .before .before .before .cut-parts .ensures))
+      (λ c κs. let s = c .before .before .before in let a = s .before .before .before .before .before .before .pre in let q = a .0 in (omega arith, cut-asks (a .1) (sym (s .stays-on .ensures) ∙ c .before .before .if1 .left)))
       (λ c. search needs)
       (λ c. search needs)
-      (λ c. cut-looks (sym (c .before .before .before .before .before .before .before .before .stays-on .ensures) ∙ c .before .before .before .before .before .before .before .if1 .left) (c .before .before .before .before .lay-slot .ensures))
+      (λ c. let s = c .before .before .before .before .before .before .before in cut-looks (sym (s .before .stays-on .ensures) ∙ s .if1 .left) (c .before .before .before .before .lay-slot .ensures))
 
 pub +cut-not+cut-pair+cut-parts+lay-slot+look-spec : {M : Type 1} → statement M
-+cut-not+cut-pair+cut-parts+lay-slot+look-spec = close μ-cut-not μ-cut-pair μ-cut-parts μ-lay-slot μ-look (λ t. not-spec t) (λ t. pair-spec t) (λ t. parts-spec t) (λ t. slot-spec t) (λ t. look-spec t)
++cut-not+cut-pair+cut-parts+lay-slot+look-spec =
+    close μ-cut-not μ-cut-pair μ-cut-parts μ-lay-slot μ-look (λ t. not-spec t) (λ t. pair-spec t) (λ t. parts-spec t) (λ t. slot-spec t) (λ t. look-spec t)
