@@ -68,6 +68,7 @@ pub data Opens : Kind → Type 0 where
   not : Opens (One Not)
   pair : {j : Join} → Opens (Two (Joined j))
 
+-- such a node in front, with its operands
 pub data Top (choose : Formula → Option ℕ) (u marks rest : List ℕ) : Formula → Kind → Type 0 where
   overOne : {g : Formula} → Operand choose u marks g rest 1 → Top choose u marks rest (one Not g) (One Not)
   overTwo : {j : Join} {g h : Formula} → getD u 0 0 ≡ joinCode j → Operand choose u marks g (encode h ++ rest) 1 → Operand choose u marks h rest (1 + size g)

@@ -19,10 +19,8 @@ module _ {choose : Formula → Option ℕ} {hold : ℕ → ℕ → Laid} (a : �
         long = let x = tail-length a u in let y = tail-length a marks in let z = s .long in omega arith;
         held = λ i m k n e.
             (let x = tail-length a u in
-            let h = s .held (a + i) m (omega arith) n (sym (getD-drop a u i 0) ∙ ap (λ (y : List ℕ). getD y i 0) (sym (tail-is a u)) ∙ e) in
-            let at-u : drop (a + i) u ≡ drop i (tail a u) = sym (drop-drop i a u) ∙ ap (drop i) (sym (tail-is a u)) in
-            let at-marks : drop (a + i) marks ≡ drop i (tail a marks) = sym (drop-drop i a marks) ∙ ap (drop i) (sym (tail-is a marks)) in
-            subst (λ (y : List ℕ). HeldAt choose hold y (drop i (tail a marks)) m) at-u (subst (λ (y : List ℕ). HeldAt choose hold (drop (a + i) u) y m) at-marks h));
+            let h = s .held (a + i) m (omega arith) n (sym (getD-drop a u i 0) ∙ (rw (tail-is a u) at e)) in
+            rw (tail-is a u, tail-is a marks, drop-drop i a u, drop-drop i a marks) h);
         single = s .single;
         boards = s .boards;
       }

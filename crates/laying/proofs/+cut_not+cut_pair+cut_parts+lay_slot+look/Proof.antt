@@ -82,7 +82,6 @@ module _ (t : ℕ) where
   abbrev not-calls : cut-not-lts.Claims
   not-calls = (look-below t, look.Post)
 
-  -- where the byte is put, and where the operand was laid
   abbrev NotIn : Type 0
   NotIn = cut-not-lts.After-slice-known2 not-calls not-here cut-not.Post
 
@@ -95,9 +94,11 @@ module _ (t : ℕ) where
   abbrev not-in : NotOut → NotIn
   not-in c = c .before .before .before .before .before .before
 
+  -- where the byte is put: what is there, and what is asked of the operand
   not-begun : (c : NotIn) → let a = not-first c .args in Begun (a .u .now) (a .marks .now) (a .at) (a .p .now) (a .r .now) 2
   not-begun c = let a = not-first c .pre .1 in begun (a .0) not (a .1) 2
 
+  -- where the operand was laid: it has taken no more than there was
   not-done : (c : NotOut)
       → let a = not-first (not-in c) .args in FirstDone (a .u .now) (a .marks .now) (a .at) (a .p .now) (a .r .now) 2 (c .look .last .1 .1 .1 .0) (c .look .result)
   not-done c = first-done (not-begun (not-in c)) (c .look .ensures) (c .look .kept .1 .1 .1 .0)
@@ -131,7 +132,6 @@ module _ (t : ℕ) where
   abbrev pair-calls : cut-pair-lts.Claims
   pair-calls = (look-below t, look.Post)
 
-  -- where the byte is put, where the left one was laid, where the right one is handed its part, and where it was laid
   abbrev PairIn : Type 0
   PairIn = cut-pair-lts.After-shared-slice-known3 pair-calls pair-here cut-pair.Post
 
@@ -156,21 +156,24 @@ module _ (t : ℕ) where
   abbrev right-in : PairOut → RightIn
   right-in c = c .before .before .before .before .before
 
-  pair-begun : (c : PairIn) → let a = pair-first c .args in Begun (a .u .now) (a .marks .now) (a .at) (a .p .now) (a .r .now) (getD (a .u .now) 0 0)
-  pair-begun c = let a = pair-first c in begun (a .pre .1 .0) pair (a .pre .1 .1 .kind) (getD (a .args .u .now) 0 0)
-
-  left-done : (c : LeftOut)
-      → let a = pair-first (pair-in c) .args in FirstDone (a .u .now) (a .marks .now) (a .at) (a .p .now) (a .r .now) (getD (a .u .now) 0 0) (c .look .last .1 .1 .1 .0) (c .look .result)
-  left-done c = first-done (pair-begun (pair-in c)) (c .look .ensures) (c .look .kept .1 .1 .1 .0)
-
   -- the nodes as the left one has left them
   abbrev left-nodes : LeftOut → List ℕ
   left-nodes c = let a = pair-first (pair-in c) .args in tailAs 1 (set (a .p .now) 0 (getD (a .u .now) 0 0)) (c .look .last .1 .1 .1 .0)
+
+  -- where the byte is put: what is there, and what is asked of the left one
+  pair-begun : (c : PairIn) → let a = pair-first c .args in Begun (a .u .now) (a .marks .now) (a .at) (a .p .now) (a .r .now) (getD (a .u .now) 0 0)
+  pair-begun c = let a = pair-first c in begun (a .pre .1 .0) pair (a .pre .1 .1 .kind) (getD (a .args .u .now) 0 0)
+
+  -- where the left one was laid: it has taken no more than there was, and what is asked of the right one
+  left-done : (c : LeftOut)
+      → let a = pair-first (pair-in c) .args in FirstDone (a .u .now) (a .marks .now) (a .at) (a .p .now) (a .r .now) (getD (a .u .now) 0 0) (c .look .last .1 .1 .1 .0) (c .look .result)
+  left-done c = first-done (pair-begun (pair-in c)) (c .look .ensures) (c .look .kept .1 .1 .1 .0)
 
   right-begins : (c : LeftOut)
       → let a = pair-first (pair-in c) .args in RightBegun (a .u .now) (a .marks .now) (a .at) (left-nodes c) (c .look .last .1 .1 .1 .1 .0) (c .look .result)
   right-begins c = let a = pair-first (pair-in c) .pre .1 in right-begun (a .0) (a .1 .kind) (c .look .ensures) (left-done c) (c .look .kept .1 .1 .1 .1 .0)
 
+  -- where both were laid
   pair-done : (c : PairOut)
       → let l = left-out (right-in c) in let x = l .look .result in let a = pair-first (pair-in l) .args in
       BothDone (a .u .now) (a .p .now) (a .r .now)
@@ -236,6 +239,7 @@ module _ (t : ℕ) where
   abbrev PartsIn : Type 0
   PartsIn = cut-parts-lts.Start parts-calls parts-here cut-parts.Post
 
+  -- at the entry: what is there
   parts-entry : (c : PartsIn) → Entry (c .args .u .now) (c .args .marks .now) (c .args .at) (length (c .args .p .now))
   parts-entry c = entry (c .pre .1 .source) (c .pre .1 .front) (c .pre .1 .fits)
 
@@ -252,10 +256,10 @@ module _ (t : ℕ) where
   two-is : (c : cut-parts-lts.After-k3 parts-calls parts-here cut-parts.Post) {o : Binary} → c .k3 .given .0 .0 ≡ o → kindOf (getD (parts-first (c .before .before) .args .u .now) 0 0) ≡ Two o
   two-is c e = sym (c .before .before .of .ensures) ∙ c .k3 .given .1 ∙ ap Two e
 
-  -- at a place holder
   abbrev hold-first : cut-parts-lts.After-enum-told3 parts-calls parts-here cut-parts.Post → PartsIn
   hold-first c = parts-first (c .before .before .before .before .before)
 
+  -- at a place holder: its slot stands further on
   hold : (c : cut-parts-lts.After-enum-told3 parts-calls parts-here cut-parts.Post) → HoldEntry (hold-first c .args .u .now) (hold-first c .args .marks .now)
   hold c = hold-entry (hold-first c .pre .1) (zero-is (c .before .before .before) (c .enum-told3 .given .1))
 
@@ -328,7 +332,6 @@ module _ (t : ℕ) where
   abbrev slot-calls : lay-slot-lts.Claims
   slot-calls = (put-record-reads.Asked, put-record-reads.Learnt, cut-parts-below t, cut-parts.Post)
 
-  -- at the entry, where its record was put, and where its parts were laid
   abbrev SlotIn : Type 0
   SlotIn = lay-slot-lts.After-shared-slice-known3 slot-calls slot-here lay-slot.Post
 
@@ -347,6 +350,7 @@ module _ (t : ℕ) where
   abbrev slot-put : SlotOut → SlotPut
   slot-put c = c .before .before .before .before .before .before .before
 
+  -- at the entry: what is there, and what is asked of the parts once the record was put
   slot : (c : SlotIn) → let a = slot-first c .args in SlotBegun (a .u .now) (a .marks .now) (a .at) (a .p .now) (a .r .now)
   slot c = slot-begun (slot-first c .pre .1)
 
