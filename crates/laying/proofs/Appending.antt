@@ -1,13 +1,12 @@
 -- Slots one after the other: their nodes counted (`nodes-both`), their bytes (`bytes-both`) and their records (`records-both`). Also
 -- `split`: a list cut at a place. Assumes nothing.
-use mathlib.Core.Path.{_≡_, refl, sym, ap, _∙_}
+use mathlib.Core.Path.{_≡_, refl, sym, ap}
 use mathlib.Core.List.{List, [], _∷_, _++_, append-assoc}
 use Prim.Native.Nat.{ℕ, _+_, _-_, _≤_}
 use native.Mathlib.Omega.{arith}
 use lib.ListN.{length, take, drop, length-drop, take-append-drop}
 use lib.Seq.{length-take-le}
-use Rattle.le.specs.Le.{le}
-use Rattle.ltl.specs.Formula.{size, encode}
+use Rattle.ltl.specs.Formula.{size}
 use Rattle.network.specs.Layout.{Slot}
 use Rattle.state.specs.Bytes.{nodesOf, slotRecords, nodeBytes}
 

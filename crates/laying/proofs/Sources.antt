@@ -1,16 +1,16 @@
 -- The bytes and marks from a place on are still a source of slots: `source-tail`. Assumes nothing.
-use mathlib.Core.Path.{_≡_, sym, ap, _∙_, subst}
+use mathlib.Core.Path.{sym, _∙_}
 use mathlib.Core.List.{List}
 use mathlib.Core.Option.{Option}
 use Prim.Native.Nat.{ℕ, _+_, _≤_}
 use native.Mathlib.Omega.{arith}
-use lib.ListN.{length, getD, drop}
+use lib.ListN.{length}
 use lib.Seq.{getD-drop, drop-drop}
 use Rattle.lists.specs.Runs.{tail}
 use Rattle.lists.proofs.Parts.{tail-is, tail-length}
 use Rattle.ltl.specs.Formula.{Formula}
 use Rattle.network.specs.Layout.{Laid}
-use Rattle.laying.specs.Lays.{HeldAt, Source}
+use Rattle.laying.specs.Lays.{Source}
 
 module _ {choose : Formula → Option ℕ} {hold : ℕ → ℕ → Laid} (a : ℕ) (u marks : List ℕ) where
   pub source-tail : a ≤ length u → Source choose hold u marks → Source choose hold (tail a u) (tail a marks)

@@ -40,36 +40,20 @@ lays-whole f at p r p′ y e x =
       records = λ Q R b q. b ∙ ap (_++ R) (none-long Q q);
     }
 
--- ---- a byte in front of a part that was lent on
-module _ (p rest : List ℕ) (h b : ℕ) (e : p ≡ h ∷ rest) where
-  set-is : set p 0 b ≡ b ∷ rest
-  set-is = ap (λ (x : List ℕ). set x 0 b) e
-
-  lent-rest : tail 1 (set p 0 b) ≡ rest
-  lent-rest = lent-tail (set p 0 b) (b ∷ []) rest 1 set-is refl
-
-  handed-rest : (q : List ℕ) → tailAs 1 (set p 0 b) q ≡ b ∷ q
-  handed-rest q = handed-tail (set p 0 b) (b ∷ []) rest 1 set-is refl q
+-- ---- a part lent on behind A, and handed back as C
+lent-on : {s q C : List ℕ} {a : ℕ} (A B : List ℕ) → s ≡ A ++ B → length A ≡ a → (tail a s ≡ B → q ≡ C) → tailAs a s q ≡ A ++ C
+lent-on {s} {q} {a = a} A B e l h = handed-tail s A B a e l q ∙ ap (A ++_) (h (lent-tail s A B a e l))
 
 -- ---- not
-module _ (o : Unary) (x : Laid) (at : Place) (p r q r′ : List ℕ) (y : Lain)
-    (h : Lays x (inner at) (tail 1 (set p 0 (unaryCode o))) r q r′ y) where
+module _ (o : Unary) (x : Laid) (at : Place) (p r q r′ : List ℕ) (y : Lain) (h : Lays x (inner at) (tail 1 (set p 0 (unaryCode o))) r q r′ y) where
   pub lays-one : (z : Lain) → (z .here ≡ 1 + y .here) × (z .slots ≡ y .slots) × (z .nodes ≡ y .nodes) → Lays (under o x) at p r (tailAs 1 (set p 0 (unaryCode o)) q) r′ z
-  lays-one z e =
-      record {
-        here-is = omega arith;
-        slots-are = e .1 ∙ h .slots-are;
-        nodes-are = e .2 ∙ h .nodes-are;
-        nodes = go;
-        records = h .records;
-      }
+  lays-one z e = record { here-is = omega arith; slots-are = e .1 ∙ h .slots-are; nodes-are = e .2 ∙ h .nodes-are; nodes = go; records = h .records }
     where
       go : (H M Q R : List ℕ) → p ≡ H ++ (M ++ (Q ++ R)) → length H ≡ 1 + size (x .here) → length H + length M ≡ at .gap → length Q ≡ nodesOf (x .slots)
           → tailAs 1 (set p 0 (unaryCode o)) q ≡ encode (one o (x .here)) ++ (M ++ (nodeBytes (x .slots) ++ R))
       go [] M Q R b l g k = absurd (omega arith)
       go (n ∷ H) M Q R b l g k =
-          handed-rest p (H ++ (M ++ (Q ++ R))) n (unaryCode o) b q
-          ∙ ap (unaryCode o ∷_) (h .nodes H M Q R (lent-rest p (H ++ (M ++ (Q ++ R))) n (unaryCode o) b) (omega arith) (omega arith) k)
+          lent-on (unaryCode o ∷ []) (H ++ (M ++ (Q ++ R))) (ap (λ (p : List ℕ). set p 0 (unaryCode o)) b) refl (λ t. h .nodes H M Q R t (omega arith) (omega arith) k)
 
 -- ---- two operands, the byte in front being b
 module _ (o : Binary) (X Y : Laid) (b : ℕ) (code : b ≡ binaryCode o) (at : Place) (p r q r1 : List ℕ) (x : Lain) (h : Lays X (inner at) (tail 1 (set p 0 b)) r q r1 x) (q2 r2 : List ℕ) (y : Lain)
@@ -82,25 +66,23 @@ module _ (o : Binary) (X Y : Laid) (b : ℕ) (code : b ≡ binaryCode o) (at : P
   two-nodes n H G M Q T R e a c g d i =
       let A = b ∷ encode (X .here) in
       let N = nodeBytes (X .slots) in
-      let P = tailAs 1 (set p 0 b) q in
-      let rest = H ++ (G ++ (M ++ (Q ++ (T ++ R)))) in
-      let left : q ≡ encode (X .here) ++ ((G ++ M) ++ (N ++ (T ++ R))) =
-      h .nodes H (G ++ M) Q (T ++ R) (lent-rest p rest n b e ∙ ap (H ++_) (sym (append-assoc G M (Q ++ (T ++ R))))) a (let l = length-append G M in omega arith) d in
-      let P-is : P ≡ A ++ (G ++ ((M ++ N) ++ (T ++ R))) = handed-rest p rest n b e q ∙ ap (b ∷_) left ∙ simp append-assoc in
-      let long : length A ≡ 1 + x .here = let l = length-encode (X .here) in let m = h .here-is in omega arith in
-      let right : q2 ≡ encode (Y .here) ++ ((M ++ N) ++ (nodeBytes (Y .slots) ++ R)) =
-      k .nodes G (M ++ N) T R (lent-tail P A (G ++ ((M ++ N) ++ (T ++ R))) (1 + x .here) P-is long) c
-      (let l = length-append M N in let m = nodes-length (X .slots) in let j = h .here-is in let w = h .nodes-are in omega arith) i in
-      handed-tail P A (G ++ ((M ++ N) ++ (T ++ R))) (1 + x .here) P-is long q2 ∙ ap (A ++_) right ∙ simp (append-assoc, code)
+      let l = length-append G M in
+      let m = length-append M N in
+      let u = length-encode (X .here) in
+      let v = nodes-length (X .slots) in
+      let w = h .here-is in
+      let left : tailAs 1 (set p 0 b) q ≡ A ++ (G ++ ((M ++ N) ++ (T ++ R))) =
+      lent-on (b ∷ []) (H ++ (G ++ (M ++ (Q ++ (T ++ R))))) (ap (λ (p : List ℕ). set p 0 b) e) refl
+      (λ t. h .nodes H (G ++ M) Q (T ++ R) (t ∙ ap (H ++_) (sym (append-assoc G M (Q ++ (T ++ R))))) a (omega arith) d)
+      ∙ simp append-assoc in
+      lent-on A (G ++ ((M ++ N) ++ (T ++ R))) left (omega arith) (λ t. k .nodes G (M ++ N) T R t c (let j = h .nodes-are in omega arith) i) ∙ simp (append-assoc, code)
 
   two-records : (Q T R : List ℕ) → r ≡ Q ++ (T ++ R) → length Q ≡ 6 * length (X .slots) → length T ≡ 6 * length (Y .slots)
       → tailAs (6 * x .slots) r1 r2 ≡ slotRecords (at .node) (X .slots) ++ (slotRecords (at .node + nodesOf (X .slots)) (Y .slots) ++ R)
   two-records Q T R e a c =
-      let S = slotRecords (at .node) (X .slots) in
-      let left : r1 ≡ S ++ (T ++ R) = h .records Q (T ++ R) e a in
-      let long : length S ≡ 6 * x .slots = let l = records-length (at .node) (X .slots) in let m = h .slots-are in omega arith in
-      handed-tail r1 S (T ++ R) (6 * x .slots) left long r2
-      ∙ ap (S ++_) (k .records T R (lent-tail r1 S (T ++ R) (6 * x .slots) left long) c ∙ ap (λ (i : ℕ). slotRecords (at .node + i) (Y .slots) ++ R) (h .nodes-are))
+      let l = records-length (at .node) (X .slots) in
+      let long : length (slotRecords (at .node) (X .slots)) ≡ 6 * x .slots = let m = h .slots-are in omega arith in
+      lent-on (slotRecords (at .node) (X .slots)) (T ++ R) (h .records Q (T ++ R) e a) long (λ t. k .records T R t c ∙ ap (λ (i : ℕ). slotRecords (at .node + i) (Y .slots) ++ R) (h .nodes-are))
 
   pub lays-two : (z : Lain) → (z .here ≡ 1 + x .here + y .here) × (z .slots ≡ x .slots + y .slots) × (z .nodes ≡ x .nodes + y .nodes)
       → Lays (beside o X Y) at p r (tailAs (1 + x .here) (tailAs 1 (set p 0 b) q) q2) (tailAs (6 * x .slots) r1 r2) z
@@ -140,8 +122,7 @@ module _ (X : Laid) (board start n m : ℕ) (r r1 r2 : List ℕ) (size-is : n �
       let T = v .high ++ R in
       let is : r1 ≡ A ++ T = row ∙ ap (A ++_) (ap (drop 6) (e ∙ ap (_++ R) (v .both-are) ∙ append-assoc (v .low) (v .high) R) ∙ drop-at (v .low) T 6 (v .low-long)) in
       let t : m ≡ start + size (X .here) = omega arith in
-      handed-tail r1 A T 6 is long r2
-      ∙ ap (A ++_) (h (v .high) R (lent-tail r1 A T 6 is long) (omega arith))
+      lent-on A T is long (λ t. h (v .high) R t (omega arith))
       ∙ ap₂ (λ (i j : ℕ). (board ∷ 0 ∷ (le 2 start ++ le 2 i)) ++ (slotRecords j (X .slots) ++ R)) size-is t
       ∙ simp append-assoc
 
@@ -160,11 +141,10 @@ module _ (X : Laid) (board : ℕ) (at : Place) (p r q r1 r2 : List ℕ) (n : ℕ
           let B = leafCode (Hold (at .slot)) in
           let v = split (size (X .here)) Q (omega arith) in
           let T = v .low ++ (v .high ++ R) in
-          let s : set p 0 B ≡ (B ∷ M) ++ T = set-is p (M ++ (Q ++ R)) m B b ∙ ap (λ (z : List ℕ). B ∷ (M ++ (z ++ R))) (v .both-are) ∙ simp append-assoc in
+          let s : set p 0 B ≡ (B ∷ M) ++ T = ap (λ (p : List ℕ). set p 0 B) b ∙ ap (λ (z : List ℕ). B ∷ (M ++ (z ++ R))) (v .both-are) ∙ simp append-assoc in
+          let i = v .low-long in
           let long : length (B ∷ M) ≡ at .gap = omega arith in
-          handed-tail (set p 0 B) (B ∷ M) T (at .gap) s long q
-          ∙ ap ((B ∷ M) ++_) (h .nodes (v .low) [] (v .high) R (lent-tail (set p 0 B) (B ∷ M) T (at .gap) s long) (v .low-long) (let i = v .low-long in omega arith) (omega arith))
-          ∙ simp append-assoc
+          lent-on (B ∷ M) T s long (λ t. h .nodes (v .low) [] (v .high) R t i (omega arith) (omega arith)) ∙ simp append-assoc
 
 -- ---- a record
 row-begun : (r : List ℕ) (board : ℕ) → 6 ≤ length r → set (set r 0 board) 1 0 ≡ (board ∷ 0 ∷ []) ++ drop 2 r
