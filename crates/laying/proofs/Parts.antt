@@ -43,7 +43,7 @@ operand {choose} {u} {marks} {rest} {g} a l y m =
 
 -- what is asked of it, and what it then has laid
 module _ {choose : Formula → Option ℕ} {hold : ℕ → ℕ → Laid} {u marks rest : List ℕ} {g : Formula} {a : ℕ} (s : Source choose hold u marks) (o : Operand choose u marks g rest a) {at : Place} where
-  pub operand-asks : {p r : ℕ} (q t : List ℕ) → Fits (looked (choose g) (at .board) (at .slot) (laid choose hold g)) at p r → length q ≡ p → length t ≡ r
+  operand-asks : {p r : ℕ} (q t : List ℕ) → Fits (looked (choose g) (at .board) (at .slot) (laid choose hold g)) at p r → length q ≡ p → length t ≡ r
       → LookAsk (tail a u) (tail a marks) at q t
   operand-asks q t room e f =
       record {

@@ -1,6 +1,6 @@
--- The numbers that the code of the cycle needs: what is there at the entry (`entry`, `hold-entry`, `slot-begun`), that what was laid takes no more than
--- there was (`look-done`, `cut-done`), and both for a node that is put in front of its operands (`begun`, `first-done`, `right-begun`,
--- `both-done`). Assumes nothing.
+-- The numbers that the code of the cycle needs: what is there at the entry (`entry`, `hold-entry`, `slot-begun`), that what was laid
+-- takes no more than there was (`cut-done`), and both for a node that is put in front of its operands (`begun`, `first-done`,
+-- `right-begun`, `both-done`). Assumes nothing.
 use mathlib.Core.Path.{_≡_, refl, ap, _∙_}
 use mathlib.Core.List.{List}
 use mathlib.Core.Option.{Option}
@@ -58,7 +58,7 @@ done {u} {rest} {f = f} front fits y =
     record { reads = omega arith; here = omega arith; nodes = omega arith; records = omega arith; slots = omega arith; numbers = omega arith }
 
 module _ {u marks p r p′ r′ : List ℕ} {at : Place} {x : Lain} where
-  pub look-done : LookAsk u marks at p r → Looks u marks at p r p′ r′ x → Done u at (length p) (length r) x
+  look-done : LookAsk u marks at p r → Looks u marks at p r p′ r′ x → Done u at (length p) (length r) x
   look-done ask h = done (ask .front) (ask .fits) (h (ask .choose) (ask .hold) (ask .formula) (ask .rest) (ask .source) (ask .front) (ask .mark) (ask .marked))
 
   pub cut-done : CutAsk u marks at p r → Cuts u marks at p r p′ r′ x → Done u at (length p) (length r) x

@@ -1,4 +1,4 @@
--- How long a part is in its slot: `here-size`, `looked-size`, where every place holder is one node. Assumes nothing.
+-- How long a part is in its slot: `here-size`, where every place holder is one node. Assumes nothing.
 use mathlib.Core.Path.{_≡_, refl, ap, ap₂}
 use mathlib.Core.Bool.{Bool, true, false}
 use mathlib.Core.Option.{Option, none, some}
@@ -15,7 +15,7 @@ use Rattle.cutting.specs.Cuts.{lookedAs}
 use Rattle.marking.specs.Marks.{hereOn}
 
 module _ (choose : Formula → Option ℕ) (hold : ℕ → ℕ → Laid) (single : (m k : ℕ) → size (hold m k .here) ≡ 1) where
-  pub looked-size : (o : Option ℕ) (b k : ℕ) (lay : ℕ → ℕ → Laid) (here : ℕ → ℕ) → ((c n : ℕ) → size (lay c n .here) ≡ here c)
+  looked-size : (o : Option ℕ) (b k : ℕ) (lay : ℕ → ℕ → Laid) (here : ℕ → ℕ) → ((c n : ℕ) → size (lay c n .here) ≡ here c)
       → size (looked o b k lay .here) ≡ lookedAs o b here (λ c. 1)
   unfolding looked lookedAs pick
   looked-size none b k lay here h = h b k
