@@ -1,13 +1,12 @@
 -- Slots one after the other: their nodes counted (`nodes-both`), their bytes (`bytes-both`) and their records (`records-both`). Also
 -- `split`: a list cut at a place. Assumes nothing.
-use mathlib.Core.Path.{_≡_, refl, sym, ap, _∙_}
+use mathlib.Core.Path.{_≡_, refl, sym, ap}
 use mathlib.Core.List.{List, [], _∷_, _++_, append-assoc}
 use Prim.Native.Nat.{ℕ, _+_, _-_, _≤_}
 use native.Mathlib.Omega.{arith}
 use lib.ListN.{length, take, drop, length-drop, take-append-drop}
 use lib.Seq.{length-take-le}
-use Rattle.le.specs.Le.{le}
-use Rattle.ltl.specs.Formula.{size, encode}
+use Rattle.ltl.specs.Formula.{size}
 use Rattle.network.specs.Layout.{Slot}
 use Rattle.state.specs.Bytes.{nodesOf, slotRecords, nodeBytes}
 
@@ -17,15 +16,14 @@ nodes-both (s ∷ ss) ts = omega (arith, nodes-both ss ts)
 
 pub bytes-both : (ss ts : List Slot) → nodeBytes (ss ++ ts) ≡ nodeBytes ss ++ nodeBytes ts
 bytes-both [] ts = refl
-bytes-both (s ∷ ss) ts = ap (encode (s .formula) ++_) (bytes-both ss ts) ∙ sym (append-assoc (encode (s .formula)) (nodeBytes ss) (nodeBytes ts))
+bytes-both (s ∷ ss) ts = simp (append-assoc, bytes-both ss ts)
 
 pub records-both : (n : ℕ) (ss ts : List Slot) → slotRecords n (ss ++ ts) ≡ slotRecords n ss ++ slotRecords (n + nodesOf ss) ts
 records-both n [] ts = let e : n ≡ n + 0 = omega arith in ap (λ (i : ℕ). slotRecords i ts) e
 records-both n (s ∷ ss) ts =
     let z = size (s .formula) in
     let e : n + z + nodesOf ss ≡ n + (z + nodesOf ss) = omega arith in
-    ap (λ (x : List ℕ). s .board ∷ 0 ∷ (le 2 n ++ (le 2 z ++ x))) (records-both (n + z) ss ts ∙ ap (λ (i : ℕ). slotRecords (n + z) ss ++ slotRecords i ts) e)
-    ∙ ap (λ (x : List ℕ). s .board ∷ 0 ∷ x) (sym (append-assoc (le 2 n) (le 2 z ++ slotRecords (n + z) ss) (slotRecords (n + (z + nodesOf ss)) ts) ∙ ap (le 2 n ++_) (append-assoc (le 2 z) (slotRecords (n + z) ss) (slotRecords (n + (z + nodesOf ss)) ts))))
+    simp (append-assoc, records-both (n + z) ss ts, e)
 
 -- ---- a list cut at a place
 pub record Split (n : ℕ) (l : List ℕ) : Type 0 where

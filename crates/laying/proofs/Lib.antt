@@ -1,4 +1,5 @@
 -- Laws of laying over plain lists.
+pub mod Places
 pub mod Sizes
 pub mod Appending
 pub mod Writing

@@ -1,151 +1,109 @@
--- What each function of the cycle may ask of the next: `..-asks`, for a part that is handed on. Assumes nothing.
-use mathlib.Core.Path.{_≡_, refl, sym, ap, _∙_, subst}
+-- The operands of a node that are looked at: where each stands, with its marks (`tops`); what is asked of the first one (`first-asks`)
+-- and of the one behind it (`right-asks`). Assumes nothing.
+use mathlib.Core.Path.{_≡_, refl, sym, ap, subst}
 use mathlib.Core.List.{List, _++_}
 use mathlib.Core.Option.{Option}
-use Prim.Native.Nat.{ℕ, _+_, _-_, _*_}
+use Prim.Native.Nat.{ℕ, _+_, _-_, _*_, _≤_}
 use native.Mathlib.Omega.{arith}
 use lib.ListN.{length, getD, drop}
 use Rattle.lists.specs.Runs.{tail}
-use Rattle.kinds.specs.declared.Leaf.the-variants.{Hold}
+use Rattle.lists.proofs.Parts.{tail-is}
 use Rattle.kinds.specs.declared.Unary.the-variants.{Not}
 use Rattle.kinds.specs.declared.Join.{Join}
 use Rattle.kinds.specs.declared.Binary.the-variants.{Joined}
+use Rattle.kinds.specs.declared.Kind.{Kind}
 use Rattle.kinds.specs.declared.Kind.the-variants.{One, Two}
-use Rattle.kinds.specs.Kinds.{kindOf}
+use Rattle.kinds.specs.Kinds.{kindOf, joinCode}
 use Rattle.ltl.specs.Limits.{boardsMost}
-use Rattle.ltl.specs.Formula.{Formula, leaf, one, two, size, encode}
-use Rattle.network.specs.Layout.{Laid, under, beside, looked, laid}
+use Rattle.ltl.specs.Formula.{Formula, one, two, size, encode}
+use Rattle.network.specs.Layout.{Laid, looked, laid}
 use Rattle.marking.specs.Marks.{Marks, Marked}
-use Rattle.nodes.proofs.Fronts.{Single, Double}
-use Rattle.nodes.proofs.Operands.{one-of, two-of, right-at}
+use Rattle.nodes.specs.Begins.{Front}
+use Rattle.nodes.proofs.Fronts.{Parts, isOne, isTwo, parts-as, front-length}
 use Rattle.laying.specs.declared.Place.{Place}
 use Rattle.laying.specs.declared.Lain.{Lain}
-use Rattle.laying.specs.Lays.{Fits, CutAsk, LookAsk, Looks}
-use Rattle.laying.proofs.Sources.{source-tail, marked-tail}
-use Rattle.laying.proofs.Asking.{fits-one, Both, fits-both, fits-left, Moved, moved, fits-right}
+use Rattle.laying.specs.Lays.{Source, Fits, Lays, CutAsk, LookAsk, Looks}
+use Rattle.laying.proofs.Places.{inner, behind}
+use Rattle.laying.proofs.Sources.{source-tail}
+use Rattle.laying.proofs.Asking.{fits-as, fits-one, fits-left, fits-right}
 
--- ---- laying by the top node
-module _ (choose : Formula → Option ℕ) (hold : ℕ → ℕ → Laid) (b k : ℕ) where
-  pub laid-not : (f : Formula) → laid choose hold (one Not f) b k ≡ under Not (looked (choose f) b k (laid choose hold f))
-  unfolding laid
-  laid-not f = refl
+-- ---- an operand
+-- it stands a bytes on, and so do its marks
+pub record Operand (choose : Formula → Option ℕ) (u marks : List ℕ) (g : Formula) (rest : List ℕ) (a : ℕ) : Type 0 where
+  pub inside : a ≤ length u
+  pub front : Front (tail a u) g rest
+  pub mark : Marks choose g boardsMost (getD (tail a marks) 0 0)
+  pub marked : Marked choose g (tail a marks)
 
-  pub laid-pair : (j : Join) (f g : Formula) → laid choose hold (two (Joined j) f g) b k
-      ≡ beside (Joined j) (looked (choose f) b k (laid choose hold f)) (looked (choose g) b (k + length (looked (choose f) b k (laid choose hold f) .slots)) (laid choose hold g))
-  unfolding laid
-  laid-pair j f g = refl
+operand : {choose : Formula → Option ℕ} {u marks rest : List ℕ} {g : Formula} (a : ℕ) → a ≤ length u → Front (drop a u) g rest
+    → Marks choose g boardsMost (getD (drop a marks) 0 0) × Marked choose g (drop a marks) → Operand choose u marks g rest a
+operand {choose} {u} {marks} {rest} {g} a l y m =
+    let k : Marks choose g boardsMost (getD (tail a marks) 0 0) × Marked choose g (tail a marks) = rw (tail-is a marks) m in
+    record { inside = l; front = rw (tail-is a u) y; mark = k .0; marked = k .1 }
 
-  pub laid-hold : (m : ℕ) → laid choose hold (leaf (Hold m)) b k ≡ hold m k
-  unfolding laid
-  laid-hold m = refl
-
--- where the operand of not, or the left one of two, is laid
-abbrev pub inner : Place → Place
-inner at = record { board = at .board; slot = at .slot; node = at .node; gap = at .gap - 1 }
-
--- where the right one of two is laid, the left one being laid
-abbrev pub behind : Place → Lain → Place
-behind at x = record { board = at .board; slot = at .slot + x .slots; node = at .node + x .nodes; gap = at .gap - (1 + x .here) + x .nodes }
-
--- ---- not
-module _ {u marks p r : List ℕ} {at : Place} (ask : CutAsk u marks at p r) (kind : kindOf (getD u 0 0) ≡ One Not) where
-  pub not-operand : Single u (ask .rest) (ask .formula) Not
-  not-operand = one-of (ask .front) refl kind
-
-  abbrev not-laid : Laid
-  not-laid = looked (ask .choose (not-operand .operand)) (at .board) (at .slot) (laid (ask .choose) (ask .hold) (not-operand .operand))
-
-  pub not-room : Fits (under Not not-laid) at (length p) (length r)
-  not-room =
-      subst (λ (x : Laid). Fits x at (length p) (length r))
-      (ap (λ (f : Formula). laid (ask .choose) (ask .hold) f (at .board) (at .slot)) (not-operand .same) ∙ laid-not (ask .choose) (ask .hold) (at .board) (at .slot) (not-operand .operand))
-      (ask .fits)
-
-  pub not-asks : (q : List ℕ) → length q ≡ length p - 1 → LookAsk (tail 1 u) (tail 1 marks) (inner at) q r
-  not-asks q e =
-      let x = not-operand in
-      let m = marked-tail 1 marks (subst (λ (f : Formula). Marked (ask .choose) f marks) (x .same) (ask .marked)) in
+-- what is asked of it, and what it then has laid
+module _ {choose : Formula → Option ℕ} {hold : ℕ → ℕ → Laid} {u marks rest : List ℕ} {g : Formula} {a : ℕ} (s : Source choose hold u marks) (o : Operand choose u marks g rest a) {at : Place} where
+  operand-asks : {p r : ℕ} (q t : List ℕ) → Fits (looked (choose g) (at .board) (at .slot) (laid choose hold g)) at p r → length q ≡ p → length t ≡ r
+      → LookAsk (tail a u) (tail a marks) at q t
+  operand-asks q t room e f =
       record {
-        choose = ask .choose;
-        hold = ask .hold;
-        formula = x .operand;
-        rest = ask .rest;
-        source = source-tail 1 u marks (let l = x .long in omega arith) (ask .source);
-        front = x .front;
-        mark = m .0;
-        marked = m .1;
-        fits = subst (λ (i : ℕ). Fits not-laid (inner at) i (length r)) (sym e) (fits-one not-room);
+        choose = choose;
+        hold = hold;
+        formula = g;
+        rest = rest;
+        source = source-tail a u marks (o .inside) s;
+        front = o .front;
+        mark = o .mark;
+        marked = o .marked;
+        fits = fits-as room e f;
       }
 
--- ---- two operands
-module _ {u marks p r : List ℕ} {at : Place} {j : Join} (ask : CutAsk u marks at p r) (kind : kindOf (getD u 0 0) ≡ Two (Joined j)) where
-  pub operands : Double u (ask .rest) (ask .formula) (Joined j)
-  operands = two-of (ask .front) refl kind
+  pub operand-laid : {p r p′ r′ : List ℕ} {x : Lain} → Looks (tail a u) (tail a marks) at p r p′ r′ x
+      → (x .read ≡ size g) × Lays (looked (choose g) (at .board) (at .slot) (laid choose hold g)) at p r p′ r′ x
+  operand-laid h = h choose hold g rest (source-tail a u marks (o .inside) s) (o .front) (o .mark) (o .marked)
 
-  abbrev pub left-laid : Laid
-  left-laid = looked (ask .choose (operands .left)) (at .board) (at .slot) (laid (ask .choose) (ask .hold) (operands .left))
+-- ---- a node by its kind
+-- the nodes whose operands are looked at
+pub data Opens : Kind → Type 0 where
+  not : Opens (One Not)
+  pair : {j : Join} → Opens (Two (Joined j))
 
-  abbrev pub right-laid : Laid
-  right-laid = looked (ask .choose (operands .right)) (at .board) (at .slot + length (left-laid .slots)) (laid (ask .choose) (ask .hold) (operands .right))
+-- such a node in front, with its operands
+pub data Top (choose : Formula → Option ℕ) (u marks rest : List ℕ) : Formula → Kind → Type 0 where
+  overOne : {g : Formula} → Operand choose u marks g rest 1 → Top choose u marks rest (one Not g) (One Not)
+  overTwo : {j : Join} {g h : Formula} → getD u 0 0 ≡ joinCode j → Operand choose u marks g (encode h ++ rest) 1 → Operand choose u marks h rest (1 + size g)
+      → Top choose u marks rest (two (Joined j) g h) (Two (Joined j))
 
-  pub pair-room : Both left-laid right-laid at (length p) (length r)
-  pair-room =
-      fits-both
-      (subst (λ (x : Laid). Fits x at (length p) (length r))
-      (ap (λ (f : Formula). laid (ask .choose) (ask .hold) f (at .board) (at .slot)) (operands .same) ∙ laid-pair (ask .choose) (ask .hold) (at .board) (at .slot) j (operands .left) (operands .right))
-      (ask .fits))
+pub tops : {choose : Formula → Option ℕ} {u marks rest : List ℕ} {f : Formula} {k : Kind} → Opens k → kindOf (getD u 0 0) ≡ k → Front u f rest → Marked choose f marks
+    → Top choose u marks rest f k
+tops {choose} {u} {marks} {rest} {f} {k} o kind front m = go o (parts-as u f rest front refl kind) m
+  where
+    go : {g : Formula} {i : Kind} → Opens i → Parts u rest g i → Marked choose g marks → Top choose u marks rest g i
+    go not (isOne e y) m = overOne (operand 1 (let l = ap length e in omega arith) y m)
+    go pair (isTwo {f = g} e y z) m =
+        let l = ap length e in
+        let n = front-length (drop 1 u) g _ y in
+        overTwo (ap (λ (x : List ℕ). getD x 0 0) e) (operand 1 (omega arith) y (m .0)) (operand (1 + size g) (omega arith) z (m .1))
 
-  pair-marked : (Marks (ask .choose) (operands .left) boardsMost (getD (drop 1 marks) 0 0) × Marked (ask .choose) (operands .left) (drop 1 marks))
-      × (Marks (ask .choose) (operands .right) boardsMost (getD (drop (1 + size (operands .left)) marks) 0 0) × Marked (ask .choose) (operands .right) (drop (1 + size (operands .left)) marks))
-  pair-marked = subst (λ (f : Formula). Marked (ask .choose) f marks) (operands .same) (ask .marked)
+-- ---- what is asked
+module _ {u marks p r : List ℕ} {at : Place} (ask : CutAsk u marks at p r) where
+  -- the operand of not, or the left one of two
+  pub first-asks : {k : Kind} → Opens k → kindOf (getD u 0 0) ≡ k → (q : List ℕ) → length q ≡ length p - 1 → LookAsk (tail 1 u) (tail 1 marks) (inner at) q r
+  first-asks o kind q e = go (tops o kind (ask .front) (ask .marked)) (ask .fits)
+    where
+      go : {f : Formula} {i : Kind} → Top (ask .choose) u marks (ask .rest) f i → Fits (laid (ask .choose) (ask .hold) f (at .board) (at .slot)) at (length p) (length r)
+          → LookAsk (tail 1 u) (tail 1 marks) (inner at) q r
+      go (overOne {g} x) room = operand-asks (ask .source) x q r (fits-one (ask .choose) (ask .hold) g room) e refl
+      go (overTwo {j} {g} {h} b x y) room = operand-asks (ask .source) x q r (fits-left (ask .choose) (ask .hold) j g h room) e refl
 
-  pub left-asks : (q : List ℕ) → length q ≡ length p - 1 → LookAsk (tail 1 u) (tail 1 marks) (inner at) q r
-  left-asks q e =
-      let x = operands in
-      let m = marked-tail 1 marks (pair-marked .0) in
-      record {
-        choose = ask .choose;
-        hold = ask .hold;
-        formula = x .left;
-        rest = encode (x .right) ++ ask .rest;
-        source = source-tail 1 u marks (let l = x .long in omega arith) (ask .source);
-        front = x .front;
-        mark = m .0;
-        marked = m .1;
-        fits = subst (λ (i : ℕ). Fits left-laid (inner at) i (length r)) (sym e) (fits-left pair-room);
-      }
-
-  -- the left one was laid
-  pub record LeftDone (x : Lain) : Type 0 where
-    pub read-is : x .read ≡ size (operands .left)
-    pub laid-is : Moved left-laid x
-
-  pub left-done : {q p′ r′ : List ℕ} {x : Lain} → Looks (tail 1 u) (tail 1 marks) (inner at) q r p′ r′ x → LeftDone x
-  left-done h =
-      let x = operands in
-      let m = marked-tail 1 marks (pair-marked .0) in
-      let y = h (ask .choose) (ask .hold) (x .left) (encode (x .right) ++ ask .rest) (source-tail 1 u marks (let l = x .long in omega arith) (ask .source)) (x .front) (m .0) (m .1) in
-      record { read-is = y .0; laid-is = moved (y .1) }
-
-  pub right-asks : {x : Lain} → LeftDone x → (q s : List ℕ) → length q ≡ length p - (1 + x .here) → length s ≡ length r - 6 * x .slots
+  -- the right one, the left one being laid
+  pub right-asks : {j : Join} {p1 p′ r′ : List ℕ} {x : Lain} → kindOf (getD u 0 0) ≡ Two (Joined j) → Looks (tail 1 u) (tail 1 marks) (inner at) p1 r p′ r′ x
+      → (q s : List ℕ) → length q ≡ length p - (1 + x .here) → length s ≡ length r - 6 * x .slots
       → LookAsk (tail (1 + x .read) u) (tail (1 + x .read) marks) (behind at x) q s
-  right-asks {x} d q s e f =
-      let y = operands in
-      let i = d .read-is in
-      let m = marked-tail (1 + x .read) marks
-      (subst (λ (n : ℕ). Marks (ask .choose) (y .right) boardsMost (getD (drop (1 + n) marks) 0 0) × Marked (ask .choose) (y .right) (drop (1 + n) marks)) (sym i) (pair-marked .1)) in
-      let room = fits-right pair-room (d .laid-is) in
-      let slot-is : at .slot + length (left-laid .slots) ≡ at .slot + x .slots = ap (at .slot +_) (sym (d .laid-is .slots)) in
-      record {
-        choose = ask .choose;
-        hold = ask .hold;
-        formula = y .right;
-        rest = ask .rest;
-        source = source-tail (1 + x .read) u marks (let l = y .long in omega arith) (ask .source);
-        front = right-at y (x .read) i;
-        mark = m .0;
-        marked = m .1;
-        fits =
-            subst (λ (n : ℕ). Fits (looked (ask .choose (y .right)) (at .board) n (laid (ask .choose) (ask .hold) (y .right))) (behind at x) (length q) (length s)) slot-is
-            (subst (λ (n : ℕ). Fits right-laid (behind at x) n (length s)) (sym e) (subst (λ (n : ℕ). Fits right-laid (behind at x) (length p - (1 + x .here)) n) (sym f) room));
-      }
+  right-asks {j} {x = x} kind h q s e t = go (tops pair kind (ask .front) (ask .marked)) (ask .fits)
+    where
+      go : {f : Formula} → Top (ask .choose) u marks (ask .rest) f (Two (Joined j)) → Fits (laid (ask .choose) (ask .hold) f (at .board) (at .slot)) at (length p) (length r)
+          → LookAsk (tail (1 + x .read) u) (tail (1 + x .read) marks) (behind at x) q s
+      go (overTwo {g = f} {h = g} b y z) room =
+          let l = operand-laid (ask .source) y h in
+          operand-asks (ask .source) (subst (λ (n : ℕ). Operand (ask .choose) u marks g (ask .rest) (1 + n)) (sym (l .0)) z) q s (fits-right (ask .choose) (ask .hold) j f g room (l .1)) e t

@@ -1,7 +1,6 @@
 -- Laying a held slot again does not depend on how many levels are allowed, where place holders have higher numbers: `relaid-again` says
 -- what a held slot lays, in terms of the same function. Assumes nothing.
-use mathlib.Core.Path.{_≡_, refl, sym, ap, ap₂, _∙_}
-use mathlib.Core.Bool.{Bool, true, false}
+use mathlib.Core.Path.{_≡_, refl, ap, ap₂, _∙_}
 use mathlib.Core.List.{List}
 use mathlib.Core.Option.{Option, none, some}
 use Prim.Native.Nat.{ℕ, zero, suc, _+_, _<_, _≤_}

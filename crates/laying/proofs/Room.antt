@@ -1,174 +1,187 @@
--- The numbers that the code of the cycle needs: that there is a byte to read and one to write (`..-entry`), how far the left operand
--- has brought it (`left-moved`), what the right one adds (`right-moved`), and where a slot of its own begins (`slot-numbers`).
--- Assumes nothing.
-use mathlib.Core.Path.{_≡_}
+-- The numbers that the code of the cycle needs: what is there at the entry (`entry`, `hold-entry`, `slot-begun`), that what was laid
+-- takes no more than there was (`cut-done`), and both for a node that is put in front of its operands (`begun`, `first-done`,
+-- `right-begun`, `both-done`). Assumes nothing.
+use mathlib.Core.Path.{_≡_, refl, ap, _∙_}
 use mathlib.Core.List.{List}
+use mathlib.Core.Option.{Option}
 use Prim.Native.Nat.{ℕ, _+_, _-_, _*_, _<_, _≤_}
 use native.Mathlib.Omega.{arith}
-use lib.ListN.{length, getD}
-use Rattle.lists.specs.Runs.{tail}
-use Rattle.lists.proofs.Parts.{tail-length}
-use Rattle.kinds.specs.declared.Unary.the-variants.{Not}
+use lib.ListN.{length, getD, set, length-set}
+use Rattle.lists.specs.Runs.{tail, tailAs}
+use Rattle.lists.proofs.Parts.{tail-length, handed-length}
+use Rattle.kinds.specs.declared.Leaf.the-variants.{Hold}
 use Rattle.kinds.specs.declared.Join.{Join}
 use Rattle.kinds.specs.declared.Binary.the-variants.{Joined}
-use Rattle.kinds.specs.declared.Kind.the-variants.{One, Two}
-use Rattle.kinds.specs.Kinds.{kindOf}
+use Rattle.kinds.specs.declared.Kind.{Kind}
+use Rattle.kinds.specs.declared.Kind.the-variants.{Zero, Two}
+use Rattle.kinds.specs.Kinds.{kindOf, leafCode}
+use Rattle.ltl.specs.Formula.{Formula, size}
 use Rattle.ltl.proofs.Texts.{size-some}
-use Rattle.network.specs.Layout.{looked, laid}
-use Rattle.nodes.proofs.Fronts.{front-length}
-use Rattle.marking.specs.Marks.{boardIn, hereIn}
+use Rattle.network.specs.Layout.{Laid}
+use Rattle.nodes.specs.Begins.{Front}
+use Rattle.nodes.proofs.Fronts.{parts-as, front-length}
+use Rattle.marking.specs.Marks.{boardIn, hereIn, aheadIn}
 use Rattle.laying.specs.declared.Place.{Place}
 use Rattle.laying.specs.declared.Lain.{Lain}
-use Rattle.laying.specs.Lays.{CutAsk, LookAsk, Looks, SlotAsk, Cuts}
-use Rattle.laying.proofs.Asking.{fits-some, moved}
-use Rattle.laying.proofs.Parts.{not-asks, operands, pair-room, LeftDone, right-asks, inner, behind}
-use Rattle.laying.proofs.Slots.{owned, slot-size, slot-asks}
+use Rattle.laying.specs.Lays.{Source, Fits, Lays, CutAsk, Cuts, LookAsk, Looks, SlotAsk}
+use Rattle.laying.proofs.Places.{inner, behind, owned}
+use Rattle.laying.proofs.Parts.{Opens, first-asks, right-asks}
+use Rattle.laying.proofs.Slots.{slot-size, slot-asks, held}
 
 -- ---- at the entry
-pub record Entry (u marks p : List ℕ) (at : Place) : Type 0 where
+pub record Entry (u marks : List ℕ) (at : Place) (p : ℕ) : Type 0 where
   pub some-bytes : 0 < length u
-  pub some-marks : 0 < length marks
-  pub some-room : 0 < length p
+  pub long : length u ≤ length marks
   pub some-gap : 0 < at .gap
-  pub few-gap : at .gap ≤ length p
+  pub gap-few : at .gap ≤ p
 
-pub cut-entry : {u marks p r : List ℕ} {at : Place} → CutAsk u marks at p r → Entry u marks p at
-cut-entry {u} ask =
-    let l = front-length u (ask .formula) (ask .rest) (ask .front) in
-    let z = size-some (ask .formula) in
-    let s = ask .source .long in
-    let f = fits-some (ask .fits) in
-    let n = ask .fits .nodes in
-    record { some-bytes = omega arith; some-marks = omega arith; some-room = f .0; some-gap = f .1; few-gap = omega arith }
+pub entry : {choose : Formula → Option ℕ} {hold : ℕ → ℕ → Laid} {u marks rest : List ℕ} {f : Formula} {x : Laid} {at : Place} {p r : ℕ} → Source choose hold u marks → Front u f rest → Fits x at p r
+    → Entry u marks at p
+entry {u = u} {rest = rest} {f = f} {x = x} source front fits =
+    let l = front-length u f rest front in
+    let s = size-some f in
+    let z = size-some (x .here) in
+    record { some-bytes = omega arith; long = source .long; some-gap = omega arith; gap-few = omega arith }
 
-pub look-entry : {u marks p r : List ℕ} {at : Place} → LookAsk u marks at p r → Entry u marks p at
-look-entry {u} ask =
-    let l = front-length u (ask .formula) (ask .rest) (ask .front) in
-    let z = size-some (ask .formula) in
-    let s = ask .source .long in
-    let f = fits-some (ask .fits) in
-    let n = ask .fits .nodes in
-    record { some-bytes = omega arith; some-marks = omega arith; some-room = f .0; some-gap = f .1; few-gap = omega arith }
+-- ---- what was laid
+pub record Done (u : List ℕ) (at : Place) (p r : ℕ) (x : Lain) : Type 0 where
+  pub reads : x .read ≤ length u
+  pub here : x .here ≤ at .gap
+  pub nodes : at .gap + x .nodes ≤ p
+  pub records : 6 * x .slots ≤ r
+  pub slots : at .slot + x .slots ≤ 64
+  pub numbers : at .node + x .nodes ≤ 4096
 
-pub slot-entry : {u marks p r : List ℕ} {at : Place} → SlotAsk u marks at p r → Entry u marks p at
-slot-entry {u} ask =
-    let l = front-length u (ask .formula) (ask .rest) (ask .stands .front) in
-    let z = size-some (ask .formula) in
-    let s = ask .source .long in
-    let f = fits-some (ask .fits) in
-    let n = ask .fits .nodes in
-    record { some-bytes = omega arith; some-marks = omega arith; some-room = f .0; some-gap = f .1; few-gap = omega arith }
+done : {u rest p r p′ r′ : List ℕ} {f : Formula} {X : Laid} {at : Place} {m n : ℕ} {x : Lain} → Front u f rest → Fits X at m n → (x .read ≡ size f) × Lays X at p r p′ r′ x → Done u at m n x
+done {u} {rest} {f = f} front fits y =
+    let l = front-length u f rest front in
+    record { reads = omega arith; here = omega arith; nodes = omega arith; records = omega arith; slots = omega arith; numbers = omega arith }
 
--- ---- not
-pub record NotMoved (u p : List ℕ) (x : Lain) : Type 0 where
+module _ {u marks p r p′ r′ : List ℕ} {at : Place} {x : Lain} where
+  look-done : LookAsk u marks at p r → Looks u marks at p r p′ r′ x → Done u at (length p) (length r) x
+  look-done ask h = done (ask .front) (ask .fits) (h (ask .choose) (ask .hold) (ask .formula) (ask .rest) (ask .source) (ask .front) (ask .mark) (ask .marked))
+
+  pub cut-done : CutAsk u marks at p r → Cuts u marks at p r p′ r′ x → Done u at (length p) (length r) x
+  cut-done ask h = done (ask .front) (ask .fits) (h (ask .choose) (ask .hold) (ask .formula) (ask .rest) (ask .source) (ask .front) (ask .marked))
+
+-- ---- a node in front of its operands
+-- its byte is put, and the first operand is looked at
+pub record Begun (u marks : List ℕ) (at : Place) (p r : List ℕ) (b : ℕ) : Type 0 where
+  pub entered : Entry u marks at (length p)
+  pub put-length : length (set p 0 b) ≡ length p
+  pub fewer : 1 + length (tail 1 u) ≡ length u
+  pub asks : LookAsk (tail 1 u) (tail 1 marks) (inner at) (tail 1 (set p 0 b)) r
+
+pub begun : {u marks p r : List ℕ} {at : Place} {k : Kind} → CutAsk u marks at p r → Opens k → kindOf (getD u 0 0) ≡ k → (b : ℕ) → Begun u marks at p r b
+begun {u} {p = p} ask o kind b =
+    let n = entry (ask .source) (ask .front) (ask .fits) in
+    let l = length-set p 0 b in
+    let s = tail-length 1 u in
+    record { entered = n; put-length = l; fewer = omega arith; asks = first-asks ask o kind (tail 1 (set p 0 b)) (tail-length 1 (set p 0 b) ∙ ap (_- 1) l) }
+
+-- the first operand was laid
+pub record FirstDone (u marks : List ℕ) (at : Place) (p r : List ℕ) (b : ℕ) (q : List ℕ) (x : Lain) : Type 0 where
   pub reads : 1 + x .read ≤ length u
-  pub here : 1 + x .here ≤ length p
+  pub marks-there : 1 + x .read ≤ length marks
+  pub here : 1 + x .here ≤ at .gap
+  pub nodes : at .gap + x .nodes ≤ length p
+  pub records : 6 * x .slots ≤ length r
+  pub slots : at .slot + x .slots ≤ 64
+  pub numbers : at .node + x .nodes ≤ 4096
+  pub kept : length (tailAs 1 (set p 0 b) q) ≡ length p
 
-pub not-moved : {u marks p r q p′ r′ : List ℕ} {at : Place} {x : Lain} (ask : CutAsk u marks at p r) (kind : kindOf (getD u 0 0) ≡ One Not) → length q ≡ length p - 1
-    → Looks (tail 1 u) (tail 1 marks) (inner at) q r p′ r′ x → NotMoved u p x
-not-moved {u = u} {q = q} ask kind e h =
-    let a = not-asks ask kind q e in
-    let y = h (a .choose) (a .hold) (a .formula) (a .rest) (a .source) (a .front) (a .mark) (a .marked) in
-    let m = y .1 .here-is in
-    let f = a .fits .here in
-    let g = ask .fits .nodes in
-    let n = cut-entry ask in
-    let l = front-length (tail 1 u) (a .formula) (a .rest) (a .front) in
-    let k = tail-length 1 u in
-    record { reads = let i = y .0 in omega arith; here = omega arith }
+pub first-done : {u marks p r q r′ : List ℕ} {at : Place} {b : ℕ} {x : Lain} → Begun u marks at p r b → Looks (tail 1 u) (tail 1 marks) (inner at) (tail 1 (set p 0 b)) r q r′ x
+    → length q ≡ length (tail 1 (set p 0 b)) → FirstDone u marks at p r b q x
+first-done {p = p} {q = q} {b = b} n h e =
+    let d = look-done (n .asks) h in
+    let l = tail-length 1 (set p 0 b) in
+    let k = handed-length 1 (set p 0 b) q (omega arith) e in
+    record { reads = omega arith; marks-there = omega arith; here = omega arith; nodes = omega arith; records = d .records; slots = d .slots; numbers = d .numbers; kept = omega arith }
 
--- ---- two operands
-module _ {u marks p r : List ℕ} {at : Place} {j : Join} (ask : CutAsk u marks at p r) (kind : kindOf (getD u 0 0) ≡ Two (Joined j)) where
-  -- the left one was laid
-  pub record LeftMoved (x : Lain) : Type 0 where
-    pub reads : 1 + x .read < length u
-    pub marks-there : 1 + x .read ≤ length marks
-    pub here : 1 + x .here < at .gap
-    pub nodes : at .gap + x .nodes ≤ length p
-    pub records : 6 * x .slots ≤ length r
-    pub slots : at .slot + x .slots ≤ 64
-    pub numbers : at .node + x .nodes ≤ 4096
+-- the right one is looked at, in what the left one has left
+pub record RightBegun (u marks : List ℕ) (at : Place) (p r : List ℕ) (x : Lain) : Type 0 where
+  pub records : 6 * x .slots ≤ length r
+  pub fewer : 1 + length (tail (1 + x .read) u) ≤ length u
+  pub asks : LookAsk (tail (1 + x .read) u) (tail (1 + x .read) marks) (behind at x) (tail (1 + x .here) p) (tail (6 * x .slots) r)
 
-  pub left-moved : {x : Lain} → LeftDone ask kind x → LeftMoved x
-  left-moved d =
-      let o = operands ask kind in
-      let z = size-some (o .right) in
-      let l = o .long in
-      let i = d .read-is in
-      let s = ask .source .long in
-      let b = pair-room ask kind in
-      let h = b .here in
-      let n = b .nodes in
-      let c = b .records in
-      let t = b .slots in
-      let e = b .numbers in
-      let m = d .laid-is in
-      let mh = m .here in
-      let ms = m .slots in
-      let mn = m .nodes in
-      let w = size-some (looked (ask .choose (o .right)) (at .board) (at .slot + length (looked (ask .choose (o .left)) (at .board) (at .slot) (laid (ask .choose) (ask .hold) (o .left)) .slots)) (laid (ask .choose) (ask .hold) (o .right)) .here) in
-      record { reads = omega arith; marks-there = omega arith; here = omega arith; nodes = omega arith; records = omega arith; slots = omega arith; numbers = omega arith }
+pub right-begun : {u marks p r q r1 : List ℕ} {at : Place} {b : ℕ} {j : Join} {x : Lain} → CutAsk u marks at p r → kindOf (getD u 0 0) ≡ Two (Joined j)
+    → Looks (tail 1 u) (tail 1 marks) (inner at) (tail 1 (set p 0 b)) r q r1 x → FirstDone u marks at p r b q x → length r1 ≡ length r
+    → RightBegun u marks at (tailAs 1 (set p 0 b) q) r1 x
+right-begun {u} {p = p} {q = q} {r1 = r1} {b = b} {x = x} ask kind h d e =
+    let P = tailAs 1 (set p 0 b) q in
+    let l = tail-length (1 + x .read) u in
+    record {
+      records = omega arith;
+      fewer = omega arith;
+      asks = right-asks ask kind h (tail (1 + x .here) P) (tail (6 * x .slots) r1) (tail-length (1 + x .here) P ∙ ap (_- (1 + x .here)) (d .kept)) (tail-length (6 * x .slots) r1 ∙ ap (_- 6 * x .slots) e);
+    }
 
-  -- both were laid
-  pub record RightMoved (x y : Lain) : Type 0 where
-    pub reads : 1 + x .read + y .read ≤ length u
-    pub here : 1 + x .here + y .here ≤ length p
-    pub slots : x .slots + y .slots ≤ 64
-    pub nodes : x .nodes + y .nodes ≤ 4096
+-- both were laid
+pub record BothDone (u p r p′ r′ : List ℕ) (x y : Lain) : Type 0 where
+  pub reads : 1 + x .read + y .read ≤ length u
+  pub here : 1 + x .here + y .here ≤ length p
+  pub slots : x .slots + y .slots ≤ 64
+  pub nodes : x .nodes + y .nodes ≤ 4096
+  pub kept : length p′ ≡ length p
+  pub records-kept : length r′ ≡ length r
 
-  pub right-moved : {x y : Lain} {q s p′ r′ : List ℕ} (d : LeftDone ask kind x) → length q ≡ length p - (1 + x .here) → length s ≡ length r - 6 * x .slots
-      → Looks (tail (1 + x .read) u) (tail (1 + x .read) marks) (behind at x) q s p′ r′ y → RightMoved x y
-  right-moved {x} {y} {q} {s} d e f h =
-      let a = right-asks ask kind d q s e f in
-      let z = h (a .choose) (a .hold) (a .formula) (a .rest) (a .source) (a .front) (a .mark) (a .marked) in
-      let m = moved (z .1) in
-      let mh = m .here in
-      let ms = m .slots in
-      let mn = m .nodes in
-      let g = a .fits in
-      let gh = g .here in
-      let gs = g .slots in
-      let gn = g .numbers in
-      let l = left-moved d in
-      let lh = l .here in
-      let ln = l .nodes in
-      let lr = l .reads in
-      let fl = front-length (tail (1 + x .read) u) (a .formula) (a .rest) (a .front) in
-      let tl = tail-length (1 + x .read) u in
-      let k = z .0 in
-      record { reads = omega arith; here = omega arith; slots = omega arith; nodes = omega arith }
+pub both-done : {u marks p r q r1 q2 r2 : List ℕ} {at : Place} {b : ℕ} {x y : Lain} → FirstDone u marks at p r b q x → length r1 ≡ length r → RightBegun u marks at (tailAs 1 (set p 0 b) q) r1 x
+    → Looks (tail (1 + x .read) u) (tail (1 + x .read) marks) (behind at x) (tail (1 + x .here) (tailAs 1 (set p 0 b) q)) (tail (6 * x .slots) r1) q2 r2 y
+    → length q2 ≡ length (tail (1 + x .here) (tailAs 1 (set p 0 b) q)) → length r2 ≡ length (tail (6 * x .slots) r1)
+    → BothDone u p r (tailAs (1 + x .here) (tailAs 1 (set p 0 b) q) q2) (tailAs (6 * x .slots) r1 r2) x y
+both-done {u} {p = p} {q = q} {r1 = r1} {q2 = q2} {r2 = r2} {b = b} {x = x} d e n h k l =
+    let P = tailAs 1 (set p 0 b) q in
+    let z = look-done (n .asks) h in
+    let i = tail-length (1 + x .read) u in
+    let v = handed-length (1 + x .here) P q2 (omega arith) k in
+    let w = handed-length (6 * x .slots) r1 r2 (omega arith) l in
+    record { reads = omega arith; here = omega arith; slots = omega arith; nodes = omega arith; kept = omega arith; records-kept = omega arith }
 
--- ---- a slot of its own
-pub record SlotNumbers (marks p r : List ℕ) (at : Place) : Type 0 where
+-- ---- a place holder
+pub record HoldEntry (u marks : List ℕ) : Type 0 where
+  pub inside : aheadIn (getD marks 0 0) ≤ length u
+  pub long : length u ≤ length marks
+  pub some-bytes : 0 < length u
+  pub fewer : 1 + length (tail (aheadIn (getD marks 0 0)) u) ≤ length u
+
+pub hold-entry : {u marks p r : List ℕ} {at : Place} {m : ℕ} → CutAsk u marks at p r → kindOf (getD u 0 0) ≡ Zero (Hold m) → HoldEntry u marks
+hold-entry {u} {marks} ask kind =
+    let n = entry (ask .source) (ask .front) (ask .fits) in
+    let h = held (ask .source) (parts-as u (ask .formula) (ask .rest) (ask .front) refl kind) in
+    let l = tail-length (aheadIn (getD marks 0 0)) u in
+    let a = h .ahead in
+    record { inside = h .inside; long = n .long; some-bytes = n .some-bytes; fewer = omega arith }
+
+-- ---- a slot of its own: its place holder is put, and its parts are laid behind its record
+pub record SlotBegun (u marks : List ℕ) (at : Place) (p r : List ℕ) : Type 0 where
+  pub some-marks : 0 < length marks
+  pub some-gap : 0 < at .gap
+  pub gap-few : at .gap ≤ length p
   pub length-few : hereIn (getD marks 0 0) ≤ 4096
   pub slot-few : at .slot < 64
   pub node-few : at .node + hereIn (getD marks 0 0) ≤ 4096
   pub row : 6 ≤ length r
-  pub gap-few : at .gap ≤ length p
+  pub put-length : length (set p 0 (leafCode (Hold (at .slot)))) ≡ length p
+  pub asks : (t : List ℕ) → length t ≡ length r
+      → CutAsk u marks (owned at (boardIn (getD marks 0 0)) (hereIn (getD marks 0 0))) (tail (at .gap) (set p 0 (leafCode (Hold (at .slot))))) (tail 6 t)
+  pub kept : (q : List ℕ) → length q ≡ length (tail (at .gap) (set p 0 (leafCode (Hold (at .slot))))) → length (tailAs (at .gap) (set p 0 (leafCode (Hold (at .slot)))) q) ≡ length p
 
-pub slot-numbers : {u marks p r : List ℕ} {at : Place} → SlotAsk u marks at p r → SlotNumbers marks p r at
-slot-numbers {at = at} ask =
+pub slot-begun : {u marks p r : List ℕ} {at : Place} → SlotAsk u marks at p r → SlotBegun u marks at p r
+slot-begun {p = p} {at = at} ask =
+    let n = entry (ask .source) (ask .stands .front) (ask .fits) in
     let z = slot-size (ask .source) (ask .stands) (at .slot + 1) in
     let f = ask .fits in
-    let a = f .nodes in
-    let b = f .records in
-    let c = f .slots in
-    let d = f .numbers in
-    record { length-few = omega arith; slot-few = omega arith; node-few = omega arith; row = omega arith; gap-few = omega arith }
-
-pub record SlotMoved (marks : List ℕ) (x : Lain) : Type 0 where
-  pub slots : 1 + x .slots ≤ 64
-  pub nodes : hereIn (getD marks 0 0) + x .nodes ≤ 4096
-
-pub slot-moved : {u marks p r q t p′ r′ : List ℕ} {at : Place} {x : Lain} (ask : SlotAsk u marks at p r) → length q ≡ length p - at .gap → length t ≡ length r - 6
-    → Cuts u marks (owned at (boardIn (getD marks 0 0)) (hereIn (getD marks 0 0))) q t p′ r′ x → SlotMoved marks x
-slot-moved {q = q} {t = t} ask e g h =
-    let a = slot-asks ask q t e g in
-    let z = h (a .choose) (a .hold) (a .formula) (a .rest) (a .source) (a .front) (a .marked) in
-    let m = moved (z .1) in
-    let ms = m .slots in
-    let mn = m .nodes in
-    let f = a .fits in
-    let fs = f .slots in
-    let fn = f .numbers in
-    record { slots = omega arith; nodes = omega arith }
+    let P = set p 0 (leafCode (Hold (at .slot))) in
+    let l : length P ≡ length p = length-set p 0 (leafCode (Hold (at .slot))) in
+    record {
+      some-marks = omega arith;
+      some-gap = n .some-gap;
+      gap-few = n .gap-few;
+      length-few = omega arith;
+      slot-few = omega arith;
+      node-few = omega arith;
+      row = omega arith;
+      put-length = l;
+      asks = λ t e. slot-asks ask (tail (at .gap) P) (tail 6 t) (tail-length (at .gap) P ∙ ap (_- at .gap) l) (tail-length 6 t ∙ ap (_- 6) e);
+      kept = λ q e. handed-length (at .gap) P q (omega arith) e ∙ l;
+    }

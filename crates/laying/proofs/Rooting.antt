@@ -1,61 +1,41 @@
--- The first slot of a network: there is room for it (`root-asks`), and what was written is the whole network (`root-lays`).
+-- The first slot of a network: there is room for it (`root-begun`), and what was written is the whole network (`root-lays`).
 -- Assumes nothing.
-use mathlib.Core.Path.{_≡_, sym, ap, ap₂, _∙_, subst}
+use mathlib.Core.Path.{_≡_, sym, ap, _∙_, subst}
 use mathlib.Core.List.{List, [], _∷_, _++_, append-assoc}
 use Prim.Native.Nat.{ℕ, _+_, _-_, _*_, _≤_}
 use native.Mathlib.Omega.{arith}
-use lib.ListN.{length, getD, drop, length-append}
-use lib.Seq.{drop-at}
+use lib.ListN.{length, getD, take, drop, length-drop, take-append-drop}
+use lib.Seq.{length-take-le, drop-drop}
 use Rattle.lists.specs.Runs.{tail, tailAs}
-use Rattle.lists.proofs.Parts.{lent-tail, handed-tail}
+use Rattle.lists.proofs.Parts.{tail-length, handed-length}
 use Rattle.le.specs.Le.{le}
-use Rattle.le.proofs.Laws.{le-length}
 use Rattle.ltl.specs.Formula.{size, encode}
 use Rattle.ltl.proofs.Texts.{size-some}
 use Rattle.network.specs.Layout.{Laid, rooted, laid}
 use Rattle.state.specs.Bytes.{nodesOf, slotRecords, nodeBytes}
 use Rattle.nodes.proofs.Fronts.{front-length}
 use Rattle.marking.specs.Marks.{boardIn, hereIn}
-use Rattle.laying.specs.declared.Place.{Place}
 use Rattle.laying.specs.declared.Lain.{Lain}
 use Rattle.laying.specs.Lays.{Fits, Lays, CutAsk, Cuts, RootAsk, LaysRoot}
-use Rattle.laying.proofs.Appending.{split}
+use Rattle.laying.proofs.Places.{first}
 use Rattle.laying.proofs.Slots.{slot-size}
+use Rattle.laying.proofs.Writing.{slot-records}
 
--- where the parts of the first slot are laid
-abbrev pub first : ℕ → ℕ → Place
-first board n = record { board = board; slot = 1; node = n; gap = n }
-
--- the numbers that the code needs
-pub record RootNumbers (marks r : List ℕ) : Type 0 where
+-- the numbers that the code needs, and what it asks behind the record
+pub record RootBegun (u marks p r : List ℕ) : Type 0 where
   pub some-marks : 1 ≤ length marks
   pub length-few : hereIn (getD marks 0 0) ≤ 4096
   pub row : 6 ≤ length r
+  pub asks : (t : List ℕ) → length t ≡ length r → CutAsk u marks (first (boardIn (getD marks 0 0)) (hereIn (getD marks 0 0))) p (tail 6 t)
+  pub kept : (t q : List ℕ) → length t ≡ length r → length q ≡ length (tail 6 t) → length (tailAs 6 t q) ≡ length r
 
 module _ {u marks p r : List ℕ} (ask : RootAsk u marks p r) where
   abbrev laid-root : Laid
   laid-root = laid (ask .choose) (ask .hold) (ask .formula) (ask .board) 1
 
-  root-size : hereIn (getD marks 0 0) ≡ size (laid-root .here)
-  root-size = slot-size (ask .source) (ask .stands) 1
-
-  pub root-numbers : RootNumbers marks r
-  root-numbers =
-      let z = root-size in
-      let n = ask .numbers in
-      let t = ask .records in
-      let l = front-length u (ask .formula) (ask .rest) (ask .stands .front) in
-      let s = size-some (ask .formula) in
-      let m = ask .source .long in
-      record { some-marks = omega arith; length-few = omega arith; row = omega arith }
-
-  pub root-asks : (t : List ℕ) → length t ≡ length r - 6 → CutAsk u marks (first (boardIn (getD marks 0 0)) (hereIn (getD marks 0 0))) p t
+  root-asks : (t : List ℕ) → length t ≡ length r - 6 → CutAsk u marks (first (boardIn (getD marks 0 0)) (hereIn (getD marks 0 0))) p t
   root-asks t e =
-      let z = root-size in
-      let a = ask .slots in
-      let b = ask .numbers in
-      let c = ask .nodes in
-      let d = ask .records in
+      let z = slot-size (ask .source) (ask .stands) 1 in
       let room : Fits laid-root (first (ask .board) (hereIn (getD marks 0 0))) (length p) (length t) =
       record { here = omega arith; nodes = omega arith; records = omega arith; slots = omega arith; numbers = omega arith } in
       record {
@@ -70,44 +50,36 @@ module _ {u marks p r : List ℕ} (ask : RootAsk u marks p r) where
             subst (λ (i : ℕ). Fits (laid (ask .choose) (ask .hold) (ask .formula) i 1) (first i (hereIn (getD marks 0 0))) (length p) (length t)) (sym (ask .stands .board-is)) room;
       }
 
+  pub root-begun : RootBegun u marks p r
+  root-begun =
+      let z = slot-size (ask .source) (ask .stands) 1 in
+      let l = front-length u (ask .formula) (ask .rest) (ask .stands .front) in
+      let s = size-some (ask .formula) in
+      let row : 6 ≤ length r = omega arith in
+      record {
+        some-marks = omega arith;
+        length-few = omega arith;
+        row = row;
+        asks = λ t e. root-asks (tail 6 t) (tail-length 6 t ∙ ap (_- 6) e);
+        kept = λ t q e k. handed-length 6 t q (omega arith) k ∙ e;
+      }
+
 -- ---- what was written
 module _ (X : Laid) (board n : ℕ) (size-is : n ≡ size (X .here)) (p r r1 p′ r2 : List ℕ) (x : Lain) (h : Lays X (first board n) p (tail 6 r1) p′ r2 x) where
   root-nodes : nodesOf (rooted board X) ≤ length p → p′ ≡ nodeBytes (rooted board X) ++ drop (nodesOf (rooted board X)) p
   root-nodes l =
-      let a = split (size (X .here)) p (omega arith) in
-      let i = a .high-long in
-      let b = split (nodesOf (X .slots)) (a .high) (omega arith) in
-      let H = a .low in
-      let Q = b .low in
-      let R = b .high in
-      let e : p ≡ H ++ ([] ++ (Q ++ R)) = a .both-are ∙ ap (H ++_) (b .both-are) in
-      let all : length (H ++ Q) ≡ nodesOf (rooted board X) = length-append H Q ∙ ap₂ _+_ (a .low-long) (b .low-long) in
-      let behind : drop (nodesOf (rooted board X)) p ≡ R = ap (drop (nodesOf (rooted board X))) (e ∙ sym (append-assoc H Q R)) ∙ drop-at (H ++ Q) R (nodesOf (rooted board X)) all in
-      h .nodes H [] Q R e (a .low-long) (let k = a .low-long in omega arith) (b .low-long)
-      ∙ sym (append-assoc (encode (X .here)) (nodeBytes (X .slots)) R)
-      ∙ ap (nodeBytes (rooted board X) ++_) (sym behind)
+      let a = size (X .here) in
+      let b = nodesOf (X .slots) in
+      let i = length-take-le a p (omega arith) in
+      let e : p ≡ take a p ++ (take b (drop a p) ++ drop (a + b) p) = sym (take-append-drop a p) ∙ ap (take a p ++_) (sym (take-append-drop b (drop a p)) ∙ ap (take b (drop a p) ++_) (drop-drop b a p)) in
+      h .nodes (take a p) [] (take b (drop a p)) (drop (a + b) p) e i (omega arith) (length-take-le b (drop a p) (let k = length-drop a p in omega arith))
+      ∙ sym (append-assoc (encode (X .here)) (nodeBytes (X .slots)) (drop (a + b) p))
 
   root-rows : r1 ≡ (board ∷ 0 ∷ (le 2 0 ++ le 2 n)) ++ drop 6 r → 6 * length (rooted board X) ≤ length r
       → tailAs 6 r1 r2 ≡ slotRecords 0 (rooted board X) ++ drop (6 * length (rooted board X)) r
   root-rows row l =
-      let A = board ∷ 0 ∷ (le 2 0 ++ le 2 n) in
-      let long : length A ≡ 6 = let m = length-append (le 2 0) (le 2 n) in let i = le-length 2 0 in let j = le-length 2 n in omega arith in
-      let a = split 6 r (omega arith) in
-      let i = a .high-long in
-      let b = split (6 * length (X .slots)) (a .high) (omega arith) in
-      let H = a .low in
-      let Q = b .low in
-      let R = b .high in
-      let e : r ≡ H ++ (Q ++ R) = a .both-are ∙ ap (H ++_) (b .both-are) in
-      let rest : drop 6 r ≡ Q ++ R = ap (drop 6) e ∙ drop-at H (Q ++ R) 6 (a .low-long) in
-      let is1 : r1 ≡ A ++ (Q ++ R) = row ∙ ap (A ++_) rest in
-      let all : length (H ++ Q) ≡ 6 * length (rooted board X) = length-append H Q ∙ (let j = a .low-long in let k = b .low-long in omega arith) in
-      let behind : drop (6 * length (rooted board X)) r ≡ R = ap (drop (6 * length (rooted board X))) (e ∙ sym (append-assoc H Q R)) ∙ drop-at (H ++ Q) R (6 * length (rooted board X)) all in
-      let inner : r2 ≡ slotRecords n (X .slots) ++ R = h .records Q R (lent-tail r1 A (Q ++ R) 6 is1 long) (b .low-long) in
-      handed-tail r1 A (Q ++ R) 6 is1 long r2
-      ∙ ap (A ++_) (inner ∙ ap (slotRecords n (X .slots) ++_) (sym behind))
-      ∙ ap (λ (i : ℕ). (board ∷ 0 ∷ (le 2 0 ++ le 2 i)) ++ (slotRecords i (X .slots) ++ drop (6 * length (rooted board X)) r)) size-is
-      ∙ (let z : 0 + size (X .here) ≡ size (X .here) = omega arith in simp append-assoc (ap (λ (i : ℕ). board ∷ 0 ∷ (le 2 0 ++ (le 2 (size (X .here)) ++ (slotRecords i (X .slots) ++ drop (6 * length (rooted board X)) r)))) (sym z)))
+      let m = 6 * length (rooted board X) in
+      slot-records X board 0 n n r r1 r2 size-is (omega arith) row (h .records) (take m r) (drop m r) (sym (take-append-drop m r)) (length-take-le m r l)
 
 pub root-lays : {u marks p : List ℕ} (r : List ℕ) {r1 p′ r2 : List ℕ} {x : Lain} → r1 ≡ (boardIn (getD marks 0 0) ∷ 0 ∷ (le 2 0 ++ le 2 (hereIn (getD marks 0 0)))) ++ drop 6 r
     → Cuts u marks (first (boardIn (getD marks 0 0)) (hereIn (getD marks 0 0))) p (tail 6 r1) p′ r2 x → LaysRoot u marks p r p′ (tailAs 6 r1 r2)

@@ -1,19 +1,16 @@
--- The bytes and marks from a place on: what stands there is still a source of slots (`source-tail`), and the marks of an operand are
--- those that the walk put (`marked-tail`). Assumes nothing.
-use mathlib.Core.Path.{_≡_, sym, ap, _∙_, subst}
+-- The bytes and marks from a place on are still a source of slots: `source-tail`. Assumes nothing.
+use mathlib.Core.Path.{sym, _∙_}
 use mathlib.Core.List.{List}
 use mathlib.Core.Option.{Option}
 use Prim.Native.Nat.{ℕ, _+_, _≤_}
 use native.Mathlib.Omega.{arith}
-use lib.ListN.{length, getD, drop}
+use lib.ListN.{length}
 use lib.Seq.{getD-drop, drop-drop}
 use Rattle.lists.specs.Runs.{tail}
 use Rattle.lists.proofs.Parts.{tail-is, tail-length}
-use Rattle.ltl.specs.Limits.{boardsMost}
 use Rattle.ltl.specs.Formula.{Formula}
 use Rattle.network.specs.Layout.{Laid}
-use Rattle.marking.specs.Marks.{Marks, Marked}
-use Rattle.laying.specs.Lays.{HeldAt, Source}
+use Rattle.laying.specs.Lays.{Source}
 
 module _ {choose : Formula → Option ℕ} {hold : ℕ → ℕ → Laid} (a : ℕ) (u marks : List ℕ) where
   pub source-tail : a ≤ length u → Source choose hold u marks → Source choose hold (tail a u) (tail a marks)
@@ -22,16 +19,8 @@ module _ {choose : Formula → Option ℕ} {hold : ℕ → ℕ → Laid} (a : �
         long = let x = tail-length a u in let y = tail-length a marks in let z = s .long in omega arith;
         held = λ i m k n e.
             (let x = tail-length a u in
-            let h = s .held (a + i) m (omega arith) n (sym (getD-drop a u i 0) ∙ ap (λ (y : List ℕ). getD y i 0) (sym (tail-is a u)) ∙ e) in
-            let at-u : drop (a + i) u ≡ drop i (tail a u) = sym (drop-drop i a u) ∙ ap (drop i) (sym (tail-is a u)) in
-            let at-marks : drop (a + i) marks ≡ drop i (tail a marks) = sym (drop-drop i a marks) ∙ ap (drop i) (sym (tail-is a marks)) in
-            subst (λ (y : List ℕ). HeldAt choose hold y (drop i (tail a marks)) m) at-u (subst (λ (y : List ℕ). HeldAt choose hold (drop (a + i) u) y m) at-marks h));
+            let h = s .held (a + i) m (omega arith) n (sym (getD-drop a u i 0) ∙ (rw (tail-is a u) at e)) in
+            rw (tail-is a u, tail-is a marks, drop-drop i a u, drop-drop i a marks) h);
         single = s .single;
         boards = s .boards;
       }
-
-pub marked-tail : {choose : Formula → Option ℕ} {f : Formula} (a : ℕ) (marks : List ℕ)
-    → Marks choose f boardsMost (getD (drop a marks) 0 0) × Marked choose f (drop a marks)
-    → Marks choose f boardsMost (getD (tail a marks) 0 0) × Marked choose f (tail a marks)
-marked-tail {choose} {f} a marks m =
-    subst (λ (y : List ℕ). Marks choose f boardsMost (getD y 0 0) × Marked choose f y) (sym (tail-is a marks)) m

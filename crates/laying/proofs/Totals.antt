@@ -1,5 +1,5 @@
 -- How many slots and nodes a held slot lays, with those that it holds: `relaid-slots`, `relaid-nodes`. Assumes nothing.
-use mathlib.Core.Path.{_≡_, refl, _∙_}
+use mathlib.Core.Path.{_≡_, refl}
 use mathlib.Core.List.{List}
 use mathlib.Core.Option.{Option}
 use Prim.Native.Nat.{ℕ, zero, suc, _+_}
@@ -10,7 +10,7 @@ use Rattle.kinds.specs.declared.Unary.the-variants.{Not, Next, Eventually, Alwa
 use Rattle.kinds.specs.declared.Binary.the-variants.{Joined, Until}
 use Rattle.ltl.specs.Formula.{Formula, leaf, one, two, size}
 use Rattle.ltl.specs.Progression.{unfolded}
-use Rattle.network.specs.Layout.{Slot, Laid, cut, laid, slotAt, relaid}
+use Rattle.network.specs.Layout.{Slot, slotAt, relaid}
 use Rattle.network.proofs.Laying.{HoldsIn}
 use Rattle.state.specs.Bytes.{nodesOf}
 use Rattle.cutting.specs.Cuts.{cutsOn}

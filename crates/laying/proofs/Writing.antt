@@ -18,13 +18,14 @@ use Rattle.ltl.specs.Formula.{Formula, one, two, size, encode}
 use Rattle.ltl.proofs.Texts.{length-encode}
 use Rattle.nodes.specs.Begins.{Front}
 use Rattle.nodes.proofs.Fronts.{front-own}
-use Rattle.network.specs.Layout.{Laid, whole, under, beside, cut}
+use Rattle.network.specs.Layout.{Laid, whole, under, beside, cut, rooted}
 use Rattle.state.specs.Bytes.{nodesOf, slotRecords, nodeBytes}
 use Rattle.state.proofs.Reading.{records-length}
 use Rattle.state.proofs.Fresh.{nodes-length}
 use Rattle.laying.specs.declared.Place.{Place}
 use Rattle.laying.specs.declared.Lain.{Lain}
 use Rattle.laying.specs.Lays.{Lays, Plain}
+use Rattle.laying.proofs.Places.{inner, behind, owned}
 use Rattle.laying.proofs.Appending.{nodes-both, bytes-both, records-both, split}
 
 -- ---- nodes as they are
@@ -39,161 +40,111 @@ lays-whole f at p r p′ y e x =
       records = λ Q R b q. b ∙ ap (_++ R) (none-long Q q);
     }
 
--- ---- a byte in front of a part that was lent on
-module _ (p rest : List ℕ) (h b : ℕ) (e : p ≡ h ∷ rest) where
-  set-is : set p 0 b ≡ b ∷ rest
-  set-is = ap (λ (x : List ℕ). set x 0 b) e
-
-  lent-rest : tail 1 (set p 0 b) ≡ rest
-  lent-rest = lent-tail (set p 0 b) (b ∷ []) rest 1 set-is refl
-
-  handed-rest : (q : List ℕ) → tailAs 1 (set p 0 b) q ≡ b ∷ q
-  handed-rest q = handed-tail (set p 0 b) (b ∷ []) rest 1 set-is refl q
+-- ---- a part lent on behind A, and handed back as C
+lent-on : {s q C : List ℕ} {a : ℕ} (A B : List ℕ) → s ≡ A ++ B → length A ≡ a → (tail a s ≡ B → q ≡ C) → tailAs a s q ≡ A ++ C
+lent-on {s} {q} {a = a} A B e l h = handed-tail s A B a e l q ∙ ap (A ++_) (h (lent-tail s A B a e l))
 
 -- ---- not
-module _ (o : Unary) (x : Laid) (at : Place) (p r q r′ : List ℕ) (y : Lain)
-    (h : Lays x (record { board = at .board; slot = at .slot; node = at .node; gap = at .gap - 1 }) (tail 1 (set p 0 (unaryCode o))) r q r′ y) where
+module _ (o : Unary) (x : Laid) (at : Place) (p r q r′ : List ℕ) (y : Lain) (h : Lays x (inner at) (tail 1 (set p 0 (unaryCode o))) r q r′ y) where
   pub lays-one : (z : Lain) → (z .here ≡ 1 + y .here) × (z .slots ≡ y .slots) × (z .nodes ≡ y .nodes) → Lays (under o x) at p r (tailAs 1 (set p 0 (unaryCode o)) q) r′ z
-  lays-one z e =
-      record {
-        here-is = let a = e .0 in let b = h .here-is in omega arith;
-        slots-are = e .1 ∙ h .slots-are;
-        nodes-are = e .2 ∙ h .nodes-are;
-        nodes = go;
-        records = λ Q R b l. h .records Q R b l;
-      }
+  lays-one z e = record { here-is = omega arith; slots-are = e .1 ∙ h .slots-are; nodes-are = e .2 ∙ h .nodes-are; nodes = go; records = h .records }
     where
       go : (H M Q R : List ℕ) → p ≡ H ++ (M ++ (Q ++ R)) → length H ≡ 1 + size (x .here) → length H + length M ≡ at .gap → length Q ≡ nodesOf (x .slots)
           → tailAs 1 (set p 0 (unaryCode o)) q ≡ encode (one o (x .here)) ++ (M ++ (nodeBytes (x .slots) ++ R))
       go [] M Q R b l g k = absurd (omega arith)
       go (n ∷ H) M Q R b l g k =
-          handed-rest p (H ++ (M ++ (Q ++ R))) n (unaryCode o) b q
-          ∙ ap (unaryCode o ∷_) (h .nodes H M Q R (lent-rest p (H ++ (M ++ (Q ++ R))) n (unaryCode o) b) (omega arith) (omega arith) k)
+          lent-on (unaryCode o ∷ []) (H ++ (M ++ (Q ++ R))) (ap (λ (p : List ℕ). set p 0 (unaryCode o)) b) refl (λ t. h .nodes H M Q R t (omega arith) (omega arith) k)
 
--- ---- two operands
-module _ (o : Binary) (X Y : Laid) (at : Place) (p r q r1 : List ℕ) (x : Lain)
-    (h : Lays X (record { board = at .board; slot = at .slot; node = at .node; gap = at .gap - 1 }) (tail 1 (set p 0 (binaryCode o))) r q r1 x)
-    (q2 r2 : List ℕ) (y : Lain)
-    (k : Lays Y (record { board = at .board; slot = at .slot + x .slots; node = at .node + x .nodes; gap = at .gap - (1 + x .here) + x .nodes })
-    (tail (1 + x .here) (tailAs 1 (set p 0 (binaryCode o)) q)) (tail (6 * x .slots) r1) q2 r2 y) where
+-- ---- two operands, the byte in front being b
+module _ (o : Binary) (X Y : Laid) (b : ℕ) (code : b ≡ binaryCode o) (at : Place) (p r q r1 : List ℕ) (x : Lain) (h : Lays X (inner at) (tail 1 (set p 0 b)) r q r1 x) (q2 r2 : List ℕ) (y : Lain)
+    (k : Lays Y (behind at x) (tail (1 + x .here) (tailAs 1 (set p 0 b) q)) (tail (6 * x .slots) r1) q2 r2 y) where
   -- the nodes, the lists already cut
   two-nodes : (n : ℕ) (H G M Q T R : List ℕ) → p ≡ n ∷ (H ++ (G ++ (M ++ (Q ++ (T ++ R))))) → length H ≡ size (X .here) → length G ≡ size (Y .here)
       → 1 + length H + length G + length M ≡ at .gap → length Q ≡ nodesOf (X .slots) → length T ≡ nodesOf (Y .slots)
-      → tailAs (1 + x .here) (tailAs 1 (set p 0 (binaryCode o)) q) q2
+      → tailAs (1 + x .here) (tailAs 1 (set p 0 b) q) q2
       ≡ binaryCode o ∷ (encode (X .here) ++ (encode (Y .here) ++ (M ++ (nodeBytes (X .slots) ++ (nodeBytes (Y .slots) ++ R)))))
-  two-nodes n H G M Q T R e a b g c d =
-      let B = binaryCode o in
-      let X1 = encode (X .here) in
-      let N1 = nodeBytes (X .slots) in
-      let here = h .here-is in
-      let count = h .nodes-are in
-      let rest = H ++ (G ++ (M ++ (Q ++ (T ++ R)))) in
-      let first : q ≡ X1 ++ ((G ++ M) ++ (N1 ++ (T ++ R))) =
-      h .nodes H (G ++ M) Q (T ++ R) (lent-rest p rest n B e ∙ ap (H ++_) (sym (append-assoc G M (Q ++ (T ++ R))))) a (let l = length-append G M in omega arith) c in
-      let whole1 : tailAs 1 (set p 0 B) q ≡ (B ∷ X1) ++ (G ++ ((M ++ N1) ++ (T ++ R))) = handed-rest p rest n B e q ∙ ap (B ∷_) first ∙ simp append-assoc in
-      let long : length (B ∷ X1) ≡ 1 + x .here = let l = length-encode (X .here) in omega arith in
-      let second : q2 ≡ encode (Y .here) ++ ((M ++ N1) ++ (nodeBytes (Y .slots) ++ R)) =
-      k .nodes G (M ++ N1) T R (lent-tail (tailAs 1 (set p 0 B) q) (B ∷ X1) (G ++ ((M ++ N1) ++ (T ++ R))) (1 + x .here) whole1 long) b
-      (let l = length-append M N1 in let m = nodes-length (X .slots) in omega arith) d in
-      handed-tail (tailAs 1 (set p 0 B) q) (B ∷ X1) (G ++ ((M ++ N1) ++ (T ++ R))) (1 + x .here) whole1 long q2 ∙ ap ((B ∷ X1) ++_) second ∙ simp append-assoc
+  two-nodes n H G M Q T R e a c g d i =
+      let A = b ∷ encode (X .here) in
+      let N = nodeBytes (X .slots) in
+      let l = length-append G M in
+      let m = length-append M N in
+      let u = length-encode (X .here) in
+      let v = nodes-length (X .slots) in
+      let w = h .here-is in
+      let left : tailAs 1 (set p 0 b) q ≡ A ++ (G ++ ((M ++ N) ++ (T ++ R))) =
+      lent-on (b ∷ []) (H ++ (G ++ (M ++ (Q ++ (T ++ R))))) (ap (λ (p : List ℕ). set p 0 b) e) refl
+      (λ t. h .nodes H (G ++ M) Q (T ++ R) (t ∙ ap (H ++_) (sym (append-assoc G M (Q ++ (T ++ R))))) a (omega arith) d)
+      ∙ simp append-assoc in
+      lent-on A (G ++ ((M ++ N) ++ (T ++ R))) left (omega arith) (λ t. k .nodes G (M ++ N) T R t c (let j = h .nodes-are in omega arith) i) ∙ simp (append-assoc, code)
 
   two-records : (Q T R : List ℕ) → r ≡ Q ++ (T ++ R) → length Q ≡ 6 * length (X .slots) → length T ≡ 6 * length (Y .slots)
       → tailAs (6 * x .slots) r1 r2 ≡ slotRecords (at .node) (X .slots) ++ (slotRecords (at .node + nodesOf (X .slots)) (Y .slots) ++ R)
-  two-records Q T R e a b =
-      let S = slotRecords (at .node) (X .slots) in
-      let first : r1 ≡ S ++ (T ++ R) = h .records Q (T ++ R) e a in
-      let long : length S ≡ 6 * x .slots = let l = records-length (at .node) (X .slots) in let m = h .slots-are in omega arith in
-      let second : r2 ≡ slotRecords (at .node + x .nodes) (Y .slots) ++ R = k .records T R (lent-tail r1 S (T ++ R) (6 * x .slots) first long) b in
-      handed-tail r1 S (T ++ R) (6 * x .slots) first long r2
-      ∙ ap (S ++_) (second ∙ ap (λ (i : ℕ). slotRecords (at .node + i) (Y .slots) ++ R) (h .nodes-are))
+  two-records Q T R e a c =
+      let l = records-length (at .node) (X .slots) in
+      let long : length (slotRecords (at .node) (X .slots)) ≡ 6 * x .slots = let m = h .slots-are in omega arith in
+      lent-on (slotRecords (at .node) (X .slots)) (T ++ R) (h .records Q (T ++ R) e a) long (λ t. k .records T R t c ∙ ap (λ (i : ℕ). slotRecords (at .node + i) (Y .slots) ++ R) (h .nodes-are))
 
   pub lays-two : (z : Lain) → (z .here ≡ 1 + x .here + y .here) × (z .slots ≡ x .slots + y .slots) × (z .nodes ≡ x .nodes + y .nodes)
-      → Lays (beside o X Y) at p r (tailAs (1 + x .here) (tailAs 1 (set p 0 (binaryCode o)) q) q2) (tailAs (6 * x .slots) r1 r2) z
+      → Lays (beside o X Y) at p r (tailAs (1 + x .here) (tailAs 1 (set p 0 b) q) q2) (tailAs (6 * x .slots) r1 r2) z
   lays-two z e =
-      record {
-        here-is = let a = e .0 in let b = h .here-is in let c = k .here-is in omega arith;
-        slots-are = let a = e .1 in let b = h .slots-are in let c = k .slots-are in let l = length-append (X .slots) (Y .slots) in omega arith;
-        nodes-are = let a = e .2 in let b = h .nodes-are in let c = k .nodes-are in let l = nodes-both (X .slots) (Y .slots) in omega arith;
-        nodes = go;
-        records = rows;
-      }
+      let l = length-append (X .slots) (Y .slots) in
+      let n = nodes-both (X .slots) (Y .slots) in
+      record { here-is = omega arith; slots-are = omega arith; nodes-are = omega arith; nodes = go; records = rows }
     where
       go : (H M Q R : List ℕ) → p ≡ H ++ (M ++ (Q ++ R)) → length H ≡ 1 + size (X .here) + size (Y .here) → length H + length M ≡ at .gap → length Q ≡ nodesOf (X .slots ++ Y .slots)
-          → tailAs (1 + x .here) (tailAs 1 (set p 0 (binaryCode o)) q) q2 ≡ encode (two o (X .here) (Y .here)) ++ (M ++ (nodeBytes (X .slots ++ Y .slots) ++ R))
-      go [] M Q R b l g c = absurd (omega arith)
-      go (n ∷ H) M Q R b l g c =
+          → tailAs (1 + x .here) (tailAs 1 (set p 0 b) q) q2 ≡ encode (two o (X .here) (Y .here)) ++ (M ++ (nodeBytes (X .slots ++ Y .slots) ++ R))
+      go [] M Q R a l g c = absurd (omega arith)
+      go (n ∷ H) M Q R a l g c =
           let u = split (size (X .here)) H (omega arith) in
           let d = nodes-both (X .slots) (Y .slots) in
           let v = split (nodesOf (X .slots)) Q (omega arith) in
-          let i = u .low-long in
-          let j = u .high-long in
-          let s = v .high-long in
           two-nodes n (u .low) (u .high) M (v .low) (v .high) R
-          (b ∙ ap₂ (λ (y z : List ℕ). n ∷ (y ++ (M ++ (z ++ R)))) (u .both-are) (v .both-are) ∙ simp append-assoc)
-          i (omega arith) (omega arith) (v .low-long) (omega arith)
+          (a ∙ ap₂ (λ (y z : List ℕ). n ∷ (y ++ (M ++ (z ++ R)))) (u .both-are) (v .both-are) ∙ simp append-assoc)
+          (u .low-long) (omega arith) (omega arith) (v .low-long) (omega arith)
           ∙ simp (append-assoc, bytes-both (X .slots) (Y .slots))
 
       rows : (Q R : List ℕ) → r ≡ Q ++ R → length Q ≡ 6 * length (X .slots ++ Y .slots) → tailAs (6 * x .slots) r1 r2 ≡ slotRecords (at .node) (X .slots ++ Y .slots) ++ R
-      rows Q R b l =
+      rows Q R a l =
           let d = length-append (X .slots) (Y .slots) in
           let v = split (6 * length (X .slots)) Q (omega arith) in
-          let s = v .high-long in
-          two-records (v .low) (v .high) R (b ∙ ap (_++ R) (v .both-are) ∙ append-assoc (v .low) (v .high) R) (v .low-long) (omega arith)
-          ∙ sym (append-assoc (slotRecords (at .node) (X .slots)) (slotRecords (at .node + nodesOf (X .slots)) (Y .slots)) R)
-          ∙ ap (_++ R) (sym (records-both (at .node) (X .slots) (Y .slots)))
+          two-records (v .low) (v .high) R (a ∙ ap (_++ R) (v .both-are) ∙ append-assoc (v .low) (v .high) R) (v .low-long) (omega arith)
+          ∙ simp (append-assoc, records-both (at .node) (X .slots) (Y .slots))
 
 -- ---- a slot of its own
-module _ (X : Laid) (board : ℕ) (at : Place) (p r q r1 r2 : List ℕ) (n : ℕ) (x : Lain) (size-is : n ≡ size (X .here))
-    (row : r1 ≡ (board ∷ 0 ∷ (le 2 (at .node) ++ le 2 n)) ++ drop 6 r)
-    (h : Lays X (record { board = board; slot = at .slot + 1; node = at .node + n; gap = n }) (tail (at .gap) (set p 0 (leafCode (Hold (at .slot))))) (tail 6 r1) q r2 x) where
-  slot-nodes : (m : ℕ) (M Q T R : List ℕ) → p ≡ m ∷ (M ++ (Q ++ (T ++ R))) → 1 + length M ≡ at .gap → length Q ≡ size (X .here) → length T ≡ nodesOf (X .slots)
-      → tailAs (at .gap) (set p 0 (leafCode (Hold (at .slot)))) q ≡ leafCode (Hold (at .slot)) ∷ (M ++ (encode (X .here) ++ (nodeBytes (X .slots) ++ R)))
-  slot-nodes m M Q T R e g a b =
-      let B = leafCode (Hold (at .slot)) in
-      let s : set p 0 B ≡ (B ∷ M) ++ (Q ++ (T ++ R)) = set-is p (M ++ (Q ++ (T ++ R))) m B e in
-      let long : length (B ∷ M) ≡ at .gap = omega arith in
-      let inner : q ≡ encode (X .here) ++ (nodeBytes (X .slots) ++ R) =
-      h .nodes Q [] T R (lent-tail (set p 0 B) (B ∷ M) (Q ++ (T ++ R)) (at .gap) s long) a (omega arith) b in
-      handed-tail (set p 0 B) (B ∷ M) (Q ++ (T ++ R)) (at .gap) s long q ∙ ap ((B ∷ M) ++_) inner
-
-  slot-records : (Q T R : List ℕ) → r ≡ Q ++ (T ++ R) → length Q ≡ 6 → length T ≡ 6 * length (X .slots)
-      → tailAs 6 r1 r2 ≡ slotRecords (at .node) (record { board = board; formula = X .here } ∷ X .slots) ++ R
-  slot-records Q T R e a b =
-      let A = board ∷ 0 ∷ (le 2 (at .node) ++ le 2 n) in
-      let long : length A ≡ 6 = let l = length-append (le 2 (at .node)) (le 2 n) in let i = le-length 2 (at .node) in let j = le-length 2 n in omega arith in
-      let first : r1 ≡ A ++ (T ++ R) = row ∙ ap (A ++_) (ap (drop 6) e ∙ drop-at Q (T ++ R) 6 a) in
-      let inner : r2 ≡ slotRecords (at .node + n) (X .slots) ++ R = h .records T R (lent-tail r1 A (T ++ R) 6 first long) b in
-      handed-tail r1 A (T ++ R) 6 first long r2
-      ∙ ap (A ++_) inner
-      ∙ ap (λ (i : ℕ). (board ∷ 0 ∷ (le 2 (at .node) ++ le 2 i)) ++ (slotRecords (at .node + i) (X .slots) ++ R)) size-is
+-- its record in front of those of the slots cut out of it, m being where their nodes begin
+module _ (X : Laid) (board start n m : ℕ) (r r1 r2 : List ℕ) (size-is : n ≡ size (X .here)) (next : m ≡ start + n) (row : r1 ≡ (board ∷ 0 ∷ (le 2 start ++ le 2 n)) ++ drop 6 r)
+    (h : (Q R : List ℕ) → tail 6 r1 ≡ Q ++ R → length Q ≡ 6 * length (X .slots) → r2 ≡ slotRecords m (X .slots) ++ R) where
+  pub slot-records : (Q R : List ℕ) → r ≡ Q ++ R → length Q ≡ 6 * suc (length (X .slots)) → tailAs 6 r1 r2 ≡ slotRecords start (rooted board X) ++ R
+  slot-records Q R e l =
+      let A = board ∷ 0 ∷ (le 2 start ++ le 2 n) in
+      let long : length A ≡ 6 = let l = length-append (le 2 start) (le 2 n) in let i = le-length 2 start in let j = le-length 2 n in omega arith in
+      let v = split 6 Q (omega arith) in
+      let T = v .high ++ R in
+      let is : r1 ≡ A ++ T = row ∙ ap (A ++_) (ap (drop 6) (e ∙ ap (_++ R) (v .both-are) ∙ append-assoc (v .low) (v .high) R) ∙ drop-at (v .low) T 6 (v .low-long)) in
+      let t : m ≡ start + size (X .here) = omega arith in
+      lent-on A T is long (λ t. h (v .high) R t (omega arith))
+      ∙ ap₂ (λ (i j : ℕ). (board ∷ 0 ∷ (le 2 start ++ le 2 i)) ++ (slotRecords j (X .slots) ++ R)) size-is t
       ∙ simp append-assoc
 
+module _ (X : Laid) (board : ℕ) (at : Place) (p r q r1 r2 : List ℕ) (n : ℕ) (x : Lain) (size-is : n ≡ size (X .here)) (row : r1 ≡ (board ∷ 0 ∷ (le 2 (at .node) ++ le 2 n)) ++ drop 6 r)
+    (h : Lays X (owned at board n) (tail (at .gap) (set p 0 (leafCode (Hold (at .slot))))) (tail 6 r1) q r2 x) where
   pub lays-slot : (z : Lain) → (z .here ≡ 1) × (z .slots ≡ 1 + x .slots) × (z .nodes ≡ n + x .nodes)
       → Lays (cut board (at .slot) X) at p r (tailAs (at .gap) (set p 0 (leafCode (Hold (at .slot)))) q) (tailAs 6 r1 r2) z
   lays-slot z e =
-      record {
-        here-is = e .0;
-        slots-are = let a = e .1 in let b = h .slots-are in omega arith;
-        nodes-are = let a = e .2 in let b = h .nodes-are in omega arith;
-        nodes = go;
-        records = rows;
-      }
+      record { here-is = e .0; slots-are = omega arith; nodes-are = omega arith; nodes = go; records = slot-records X board (at .node) n (at .node + n) r r1 r2 size-is refl row (h .records) }
     where
       go : (H M Q R : List ℕ) → p ≡ H ++ (M ++ (Q ++ R)) → length H ≡ 1 → length H + length M ≡ at .gap → length Q ≡ size (X .here) + nodesOf (X .slots)
           → tailAs (at .gap) (set p 0 (leafCode (Hold (at .slot)))) q ≡ leafCode (Hold (at .slot)) ∷ (M ++ ((encode (X .here) ++ nodeBytes (X .slots)) ++ R))
       go [] M Q R b l g c = absurd (omega arith)
       go (m ∷ m2 ∷ H) M Q R b l g c = absurd (omega arith)
       go (m ∷ []) M Q R b l g c =
+          let B = leafCode (Hold (at .slot)) in
           let v = split (size (X .here)) Q (omega arith) in
-          let s = v .high-long in
-          slot-nodes m M (v .low) (v .high) R (b ∙ ap (λ (z : List ℕ). m ∷ (M ++ (z ++ R))) (v .both-are) ∙ simp append-assoc) (omega arith) (v .low-long) (omega arith)
-          ∙ simp append-assoc
-
-      rows : (Q R : List ℕ) → r ≡ Q ++ R → length Q ≡ 6 * suc (length (X .slots)) → tailAs 6 r1 r2 ≡ slotRecords (at .node) (record { board = board; formula = X .here } ∷ X .slots) ++ R
-      rows Q R b l =
-          let v = split 6 Q (omega arith) in
-          let s = v .high-long in
-          slot-records (v .low) (v .high) R (b ∙ ap (_++ R) (v .both-are) ∙ append-assoc (v .low) (v .high) R) (v .low-long) (omega arith)
+          let T = v .low ++ (v .high ++ R) in
+          let s : set p 0 B ≡ (B ∷ M) ++ T = ap (λ (p : List ℕ). set p 0 B) b ∙ ap (λ (z : List ℕ). B ∷ (M ++ (z ++ R))) (v .both-are) ∙ simp append-assoc in
+          let i = v .low-long in
+          let long : length (B ∷ M) ≡ at .gap = omega arith in
+          lent-on (B ∷ M) T s long (λ t. h .nodes (v .low) [] (v .high) R t i (omega arith) (omega arith)) ∙ simp append-assoc
 
 -- ---- a record
 row-begun : (r : List ℕ) (board : ℕ) → 6 ≤ length r → set (set r 0 board) 1 0 ≡ (board ∷ 0 ∷ []) ++ drop 2 r
@@ -201,16 +152,15 @@ row-begun [] board l = absurd (omega arith)
 row-begun (x ∷ []) board l = absurd (omega arith)
 row-begun (x ∷ y ∷ r) board l = refl
 
-pub row-put : (r s t : List ℕ) (board start n : ℕ) → 6 ≤ length r
-    → s ≡ take 2 (set (set r 0 board) 1 0) ++ (le 2 start ++ drop 4 (set (set r 0 board) 1 0)) → t ≡ take 4 s ++ (le 2 n ++ drop 6 s)
-    → t ≡ (board ∷ 0 ∷ (le 2 start ++ le 2 n)) ++ drop 6 r
-row-put r s t board start n l e f =
+pub row-put : (r : List ℕ) {s t : List ℕ} (board start n : ℕ) → 6 ≤ length r → s ≡ take 2 (set (set r 0 board) 1 0) ++ (le 2 start ++ drop 4 (set (set r 0 board) 1 0))
+    → t ≡ take 4 s ++ (le 2 n ++ drop 6 s) → t ≡ (board ∷ 0 ∷ (le 2 start ++ le 2 n)) ++ drop 6 r
+row-put r {s} board start n l e f =
     let A = board ∷ 0 ∷ [] in
     let first : s ≡ (A ++ le 2 start) ++ drop 4 r = e ∙ put-next (set (set r 0 board) 1 0) r A (le 2 start) 2 2 (row-begun r board l) refl in
     f ∙ put-next s r (A ++ le 2 start) (le 2 n) 4 2 first (let i = le-length 2 start in omega arith)
 
 -- ---- a formula as it stands
-pub whole-put : (f : Formula) (u rest p p′ : List ℕ) (n : ℕ) → Front u f rest → n ≡ size f → p′ ≡ take n (drop 0 u) ++ drop (length (take n (drop 0 u))) p → p′ ≡ encode f ++ drop (size f) p
-whole-put f u rest p p′ n x e w =
-    let t : take n (drop 0 u) ≡ encode f = ap (λ (i : ℕ). take i u) e ∙ front-own u f rest x in
+pub whole-put : {f : Formula} {u rest p′ : List ℕ} {n : ℕ} → Front u f rest → n ≡ size f → (p : List ℕ) → p′ ≡ take n (drop 0 u) ++ drop (length (take n (drop 0 u))) p → p′ ≡ encode f ++ drop (size f) p
+whole-put {f} {u} {rest} {n = n} x e p w =
+    let t : take n u ≡ encode f = ap (λ (i : ℕ). take i u) e ∙ front-own u f rest x in
     w ∙ ap (λ (y : List ℕ). y ++ drop (length y) p) t ∙ ap (λ (i : ℕ). encode f ++ drop i p) (length-encode f)
