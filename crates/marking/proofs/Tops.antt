@@ -50,29 +50,25 @@ shown-few choice here board = go (staysOn choice board)
     go false = omega arith
 
 -- ---- a mark on top of others
-module _ {read : ℕ} {scores : Scores} {board n : ℕ} {marks marks′ : List ℕ} {r : Placed} where
-  pub over-scored : {counts : List ℕ} {on : ℕ} → scores .counts ≡ counts → board ≡ placeOf on (scores .counts) → (here : ℕ → ℕ) → n ≡ here board → Seals read scores board n marks marks′ r
-      → Over read counts on here marks marks′ r
-  over-scored {counts} {on} c e here h s =
-      let b = e ∙ ap (placeOf on) c in
-      let x = s .result in
-      record {
-        reads = ap (λ (y : Placed). y .read) x;
-        scores = ap (λ (y : Placed). y .scores .counts) x ∙ c;
-        board-is = ap (λ (y : Placed). y .board) x ∙ b;
-        here-is = ap (λ (y : Placed). y .here) x ∙ h ∙ ap here b;
-        writes = s .writes ∙ ap (λ (y : Placed). set marks 0 (markOf (y .here) (y .board))) (sym x);
-      }
+pub over-scored : {read : ℕ} {scores : Scores} {board n : ℕ} {marks marks′ : List ℕ} {r : Placed} {counts : List ℕ} {on : ℕ} {here : ℕ → ℕ}
+    → scores .counts ≡ counts → board ≡ placeOf on (scores .counts) → n ≡ here board → Seals read scores board n marks marks′ r → Over read counts on here marks marks′ r
+over-scored {marks = marks} {on = on} {here = here} c e h s =
+    let b = e ∙ ap (placeOf on) c in
+    let x = s .result in
+    record {
+      reads = ap (λ (y : Placed). y .read) x;
+      scores = ap (λ (y : Placed). y .scores .counts) x ∙ c;
+      board-is = ap (λ (y : Placed). y .board) x ∙ b;
+      here-is = ap (λ (y : Placed). y .here) x ∙ h ∙ ap here b;
+      writes = s .writes ∙ ap (λ (y : Placed). set marks 0 (markOf (y .here) (y .board))) (sym x);
+    }
 
-  pub over : {on : ℕ} → board ≡ placeOf on (scores .counts) → (here : ℕ → ℕ) → n ≡ here board → Seals read scores board n marks marks′ r → Over read (scores .counts) on here marks marks′ r
-  over e here h s = over-scored refl e here h s
-
-pub whole-over : {owner : List ℕ} {f : Formula} {read : ℕ} {scores : Scores} {board : ℕ} {marks marks′ : List ℕ} {r : Placed} (on : ℕ) → (read ≡ size f) × Counted owner f (scores .counts)
+pub whole-over : {owner : List ℕ} {f : Formula} {read : ℕ} {scores : Scores} {board : ℕ} {marks marks′ : List ℕ} {r : Placed} {on : ℕ} → (read ≡ size f) × Counted owner f (scores .counts)
     → board ≡ placeOf on (scores .counts) → Seals read scores board read marks marks′ r
     → Counted owner f (r .scores .counts) × Over (size f) (r .scores .counts) on (λ b. size f) marks marks′ r
-whole-over {owner} {f} {read} {scores} {board} {marks} {marks′} {r} on t e s =
+whole-over {owner} {f} {read} {scores} {board} {marks} {marks′} {r} {on} t e s =
     let x : r .scores .counts ≡ scores .counts = ap (λ (y : Placed). y .scores .counts) (s .result) in
-    let v : Over read (scores .counts) on (λ b. size f) marks marks′ r = over e (λ b. size f) (t .0) s in (
+    let v : Over read (scores .counts) on (λ b. size f) marks marks′ r = over-scored refl e (t .0) s in (
       subst (Counted owner f) (sym x) (t .1),
       record { reads = v .reads ∙ t .0; scores = refl; board-is = v .board-is ∙ ap (placeOf on) (sym x); here-is = v .here-is; writes = v .writes },
     )
@@ -131,11 +127,11 @@ module _ {owner marks : List ℕ} {f : Formula} {a : Placed} (h : MarkedAs owner
 top-mark : (marks marks′ : List ℕ) (v : ℕ) → 0 < length marks → marks′ ≡ set marks 0 v → (getD marks′ 0 0 ≡ v) × (drop 1 marks′ ≡ drop 1 marks)
 top-mark marks marks′ v l e = let s = e ∙ set-first marks v l in (ap (λ (x : List ℕ). getD x 0 0) s, ap (drop 1) s)
 
-module _ {owner : List ℕ} (on : ℕ) (marks marks′ : List ℕ) (r : Placed) (some-marks : 0 < length marks) where
+module _ {owner : List ℕ} {on : ℕ} (marks : List ℕ) {marks′ : List ℕ} {r : Placed} (some-marks : 0 < length marks) where
   -- a part that stays whole
-  pub marked-whole : (f : Formula) → ((choose : Formula → Option ℕ) (b : ℕ) → hereOn choose f b ≡ size f) → ((choose : Formula → Option ℕ) → Marked choose f marks′)
+  pub marked-whole : {f : Formula} → ((choose : Formula → Option ℕ) (b : ℕ) → hereOn choose f b ≡ size f) → ((choose : Formula → Option ℕ) → Marked choose f marks′)
       → Counted owner f (r .scores .counts) × Over (size f) (r .scores .counts) on (λ b. size f) marks marks′ r → size f ≤ 4096 → MarkedAs owner f on marks′ r
-  marked-whole f here none-marked x n =
+  marked-whole here none-marked x n =
       let v = x .1 in
       record {
         reads = v .reads;
