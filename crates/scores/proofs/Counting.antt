@@ -21,6 +21,7 @@ use Rattle.ltl.proofs.Texts.{size-some}
 use Rattle.network.specs.Scores.{occurrences, highest, chosen}
 use Rattle.nodes.specs.Begins.{Front}
 use Rattle.nodes.proofs.Fronts.{Parts, isZero, Single, Double}
+use Rattle.nodes.proofs.Operands.{right-at}
 use Rattle.scores.specs.Scored.{noneScored, oneScored, added}
 use Rattle.scores.specs.Owned.{Owned, ownerOf}
 use Rattle.scores.specs.Tallies.{Counted, Tallies}
@@ -87,9 +88,9 @@ pub record LeftTallied (owner s rest : List ℕ) (f : Formula) (o : Binary) (r :
 
 pub left-tallied : {owner s rest : List ℕ} {f : Formula} {o : Binary} {r : ℕ} {counts : List ℕ} → Double s rest f o → Tallies owner (tail 1 s) r counts
     → LeftTallied owner s rest f o r counts
-left-tallied {s = s} {rest = rest} x u =
+left-tallied {rest = rest} {r = r} x u =
     let a = u (x .left) (encode (x .right) ++ rest) (x .front) in
-    record { node = x; reads = a .0; counted = a .1; front = subst (λ (i : ℕ). Front (tail (1 + i) s) (x .right) rest) (sym (a .0)) (x .second) }
+    record { node = x; reads = a .0; counted = a .1; front = right-at x r (a .0) }
 
 pub tallied-two : {owner s rest : List ℕ} {f : Formula} {o : Binary} {r q : ℕ} {xs ys : List ℕ} → LeftTallied owner s rest f o r xs → Tallies owner (tail (1 + r) s) q ys
     → (1 + r + q ≡ size f) × Counted owner f (added xs ys)
