@@ -6,11 +6,5 @@ use Rattle.cutting.proofs.Looking.{stays-none, stays-board}
 use Rattle.cutting.proofs.stays_on.Statement.{statement}
 use Rattle.cutting.proofs.stays_on.Tie as tie
 
-returns : tie.Need-returns
-returns c = sym (ap (λ (x : ℕ). staysOn x (c .before .args .board)) (c .if1 .taken) ∙ stays-none (c .before .args .board))
-
-returns-2 : tie.Need-returns-2
-returns-2 c = sym (stays-board (c .before .args .choice) (c .before .args .board) (c .if1 .left))
-
 pub stays-on-spec : {M : Type 1} → statement M
-stays-on-spec = tie.close (tie.spec returns returns-2)
+stays-on-spec = tie.close (tie.spec (λ c. sym (ap (λ (x : ℕ). staysOn x (c .before .args .board)) (c .if1 .taken) ∙ stays-none (c .before .args .board))) (λ c. sym (stays-board (c .before .args .choice) (c .before .args .board) (c .if1 .left))))
