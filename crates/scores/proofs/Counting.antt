@@ -1,7 +1,7 @@
 -- A formula's scores by its top node (`counted-..`), and one law for each way in which the walk that takes them returns
 -- (`tallied-..`); `left-tallied` says what is known once the left one of two operands was scored. `counted-chosen`: the highest of
 -- the counts is the formula's choice. Assumes nothing.
-use mathlib.Core.Path.{_≡_, refl, sym, ap, ap₂, _∙_, subst}
+use mathlib.Core.Path.{_≡_, refl, ap, ap₂, _∙_}
 use mathlib.Core.Bool.{Bool}
 use mathlib.Core.Option.{none}
 use mathlib.Core.List.{List, _++_}
@@ -50,7 +50,7 @@ counted-owned owner (Prop i) = counted-proposition owner i
 counted-owned owner (Hold k) = counted-nothing owner (leaf (Hold k)) (λ test. refl)
 
 pub counted-leaf : {owner counts : List ℕ} {a : Leaf} {b : ℕ} → b ≡ ownerOf owner a → counts ≡ oneScored b → Counted owner (leaf a) counts
-counted-leaf {owner} {a = a} e h = subst (Counted owner (leaf a)) (sym (h ∙ ap oneScored e)) (counted-owned owner a)
+counted-leaf {owner} {a = a} e h = rw (h, e) (counted-owned owner a)
 
 pub counted-one : {owner counts : List ℕ} {f : Formula} (o : Unary) → Counted owner f counts → Counted owner (one o f) counts
 counted-one o c = record { few = λ b. omega (arith, c .few b); scores = c .scores }

@@ -7,4 +7,7 @@ use Rattle.cutting.proofs.cut_by.Statement.{statement}
 use Rattle.cutting.proofs.cut_by.Tie as tie
 
 pub cut-by-spec : {M : Type 1} → statement M
-cut-by-spec = tie.close (tie.spec (λ c κs. search needs) (λ c. (sym (cut-none (c .before .before .args .choice) (c .before .before .args .board) (sym (c .before .stays-on .ensures) ∙ c .if1 .taken)), omega arith)) (λ c. (sym (cut-one (c .before .before .args .choice) (c .before .before .args .board) (sym (c .before .stays-on .ensures) ∙ c .if1 .left)), omega arith)))
+cut-by-spec = tie.close (tie.spec
+    (λ c κs. search needs)
+    (λ c. (sym (cut-none _ _ (sym (c .before .stays-on .ensures) ∙ c .if1 .taken)), omega arith))
+    (λ c. (sym (cut-one _ _ (sym (c .before .stays-on .ensures) ∙ c .if1 .left)), omega arith)))

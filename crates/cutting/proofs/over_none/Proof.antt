@@ -7,4 +7,6 @@ use Rattle.cutting.proofs.over_none.Statement.{statement}
 use Rattle.cutting.proofs.over_none.Tie as tie
 
 pub over-none-spec : {M : Type 1} → statement M
-over-none-spec = tie.close (tie.spec (λ c κs. search needs) (λ c. (refl, c .one .ensures, (refl, choice-alone (c .before .args .owner) (c .before .pre) ∙ ap choiceOf (sym (c .one .ensures)), refl))))
+over-none-spec = tie.close (tie.spec
+    (λ c κs. search needs)
+    (λ c. (refl, c .one .ensures, (refl, choice-alone _ (c .before .pre) ∙ ap choiceOf (sym (c .one .ensures)), refl))))

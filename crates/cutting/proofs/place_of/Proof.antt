@@ -5,4 +5,6 @@ use Rattle.cutting.proofs.place_of.Statement.{statement}
 use Rattle.cutting.proofs.place_of.Tie as tie
 
 pub place-of-spec : {M : Type 1} → statement M
-place-of-spec = tie.close (tie.spec (λ c. sym (place-own (c .before .args .on) (c .before .args .choice) (c .if1 .taken))) (λ c. sym (place-given (c .before .args .on) (c .before .args .choice) (c .if1 .left))))
+place-of-spec = tie.close (tie.spec
+    (λ c. sym (place-own _ _ (c .if1 .taken)))
+    (λ c. sym (place-given _ _ (c .if1 .left))))
