@@ -1,7 +1,7 @@
 -- A formula that was walked over, by its top node: one law for each way in which the walk returns (`walked-..`), and what an
 -- operand's walk tells of its size (`walked-few`). Assumes nothing.
 use mathlib.Core.Path.{_≡_, refl}
-use mathlib.Core.List.{List, _++_}
+use mathlib.Core.List.{List}
 use Prim.Native.Nat.{ℕ, _+_, _*_, _<_, _≤_, _^_}
 use native.Mathlib.Omega.{arith}
 use lib.ListN.{getD}
@@ -15,7 +15,7 @@ use Rattle.kinds.specs.declared.Binary.{Binary}
 use Rattle.kinds.specs.declared.Binary.the-variants.{Joined, Until}
 use Rattle.kinds.specs.declared.Kind.the-variants.{Zero}
 use Rattle.ltl.specs.Limits.{boardsMost}
-use Rattle.ltl.specs.Formula.{Formula, one, two, join, size, encode}
+use Rattle.ltl.specs.Formula.{Formula, one, two, join, size}
 use Rattle.ltl.specs.Progression.{unfolded}
 use Rattle.nodes.specs.Begins.{Front}
 use Rattle.nodes.proofs.Fronts.{Parts, isZero, Single, Double}
@@ -112,7 +112,7 @@ module _ {a c : Counted} (p : Pairable a c) where
 -- ---- the walk
 pub walked-over-one : {owner s rest : List ℕ} {f : Formula} {o : Unary} {a : Counted} {on : ℕ} {r : Counted} → Single s rest f o → Cutting owner (tail 1 s) boardsMost a → OverOne o a on r
     → Walked owner f on r
-walked-over-one {owner} {rest = rest} x h k = rw (x .same) (k owner (x .operand) (h (x .operand) rest (x .front)))
+walked-over-one x h k = rw (x .same) (k _ _ (h _ _ (x .front)))
 
 -- a node with two operands, of which the left one was walked over
 pub record LeftWalked (owner s rest : List ℕ) (f : Formula) (o : Binary) (a : Counted) : Type 0 where
@@ -121,11 +121,10 @@ pub record LeftWalked (owner s rest : List ℕ) (f : Formula) (o : Binary) (a : 
   pub front : Front (tail (1 + a .read) s) (node .right) rest
 
 pub left-walked : {owner s rest : List ℕ} {f : Formula} {o : Binary} {a : Counted} → Double s rest f o → Cutting owner (tail 1 s) boardsMost a → LeftWalked owner s rest f o a
-left-walked {rest = rest} {a = a} x u =
-    let w = u (x .left) (encode (x .right) ++ rest) (x .front) in
+left-walked {a = a} x u =
+    let w = u _ _ (x .front) in
     record { node = x; walked = w; front = right-at x (a .read) (w .reads) }
 
 pub walked-over-two : {owner s rest : List ℕ} {f : Formula} {o : Binary} {a c : Counted} {on : ℕ} {r : Counted} → LeftWalked owner s rest f o a
     → Cutting owner (tail (1 + a .read) s) boardsMost c → OverTwo o a c on r → Walked owner f on r
-walked-over-two {owner} {rest = rest} x h k =
-    rw (x .node .same) (k owner (x .node .left) (x .node .right) (x .walked) (h (x .node .right) rest (x .front)))
+walked-over-two x h k = rw (x .node .same) (k _ _ _ (x .walked) (h _ _ (x .front)))

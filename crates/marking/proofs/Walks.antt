@@ -1,7 +1,7 @@
 -- The walk that marks: what it asks holds of each operand that it hands on (`asks-..`), and one law for each way in which it
 -- returns, over the bytes (`..-done`). Assumes nothing.
 use mathlib.Core.Path.{_≡_, refl, sym, ap, _∙_, subst}
-use mathlib.Core.List.{List, _++_}
+use mathlib.Core.List.{List}
 use mathlib.Core.Option.{Option}
 use Prim.Native.Nat.{ℕ, _+_, _<_, _≤_}
 use native.Mathlib.Omega.{arith}
@@ -15,7 +15,7 @@ use Rattle.kinds.specs.declared.Binary.{Binary}
 use Rattle.kinds.specs.declared.Binary.the-variants.{Joined, Until}
 use Rattle.kinds.specs.declared.Kind.the-variants.{Zero}
 use Rattle.ltl.specs.Limits.{boardsMost}
-use Rattle.ltl.specs.Formula.{Formula, one, size, encode}
+use Rattle.ltl.specs.Formula.{Formula, one, size}
 use Rattle.ltl.proofs.Texts.{size-some}
 use Rattle.nodes.specs.Begins.{Front, Begins}
 use Rattle.nodes.proofs.Fronts.{front-length, begins-some, Parts, isZero, Single, Double}
@@ -43,8 +43,8 @@ pub record LeftMarked (owner u rest : List ℕ) (f : Formula) (o : Binary) (mark
 
 pub left-marked : {owner u rest : List ℕ} {f : Formula} {o : Binary} {marks : List ℕ} {a : Placed} → Double u rest f o → Marking owner (tail 1 u) boardsMost marks a
     → LeftMarked owner u rest f o marks a
-left-marked {rest = rest} {a = a} x h =
-    let w = h (x .left) (encode (x .right) ++ rest) (x .front) in
+left-marked {a = a} x h =
+    let w = h _ _ (x .front) in
     record { node = x; marked = w; front = right-at x (a .read) (w .reads) }
 
 -- something stands behind it
@@ -57,13 +57,13 @@ module _ {owner u rest : List ℕ} {f : Formula} (marks : List ℕ) (p : Asks ow
   asks-one x =
       let l = tail-length 1 u in
       let m = tail-length 1 marks in
-      (record { formula = x .operand; rest = rest; front = x .front }, p .1, omega arith, omega arith)
+      (record { formula = _; rest = _; front = x .front }, p .1, omega arith, omega arith)
 
   pub asks-left : {o : Binary} → Double u rest f o → Asks owner (tail 1 u) (tail 1 marks)
   asks-left x =
       let l = tail-length 1 u in
       let m = tail-length 1 marks in
-      (record { formula = x .left; rest = encode (x .right) ++ rest; front = x .front }, p .1, omega arith, omega arith)
+      (record { formula = _; rest = _; front = x .front }, p .1, omega arith, omega arith)
 
   pub asks-right : {o : Binary} {left : List ℕ} {a : Placed} → length left ≡ length (tail 1 marks) → LeftMarked owner u rest f o left a
       → Asks owner (tail (1 + a .read) u) (tail (1 + a .read) (tailAs 1 marks left))
@@ -72,7 +72,7 @@ module _ {owner u rest : List ℕ} {f : Formula} (marks : List ℕ) (p : Asks ow
       let h = handed-length 1 marks left (omega arith) k in
       let l = tail-length (1 + a .read) u in
       let m = tail-length (1 + a .read) (tailAs 1 marks left) in
-      (record { formula = x .node .right; rest = rest; front = x .front }, p .1, omega arith, omega arith)
+      (record { formula = _; rest = _; front = x .front }, p .1, omega arith, omega arith)
 
 -- ---- parts that stay whole
 module _ {owner u rest : List ℕ} {f : Formula} {on : ℕ} {marks marks′ : List ℕ} {r : Placed} (p : Asks owner u marks) (y : Front u f rest)
@@ -118,7 +118,7 @@ module _ {owner u rest : List ℕ} {f : Formula} {on : ℕ} (marks : List ℕ) {
       let l = asks-some marks p in
       let back = handed-back 1 marks left l in
       let e = handed-length 1 marks left l k in
-      let m = h (x .operand) rest (x .front) in
+      let m = h _ _ (x .front) in
       rw (x .same)
       (marked-not (tailAs 1 marks left) (omega arith) (rw back m) v (omega arith))
 
@@ -131,7 +131,7 @@ module _ {owner u rest : List ℕ} {f : Formula} {on : ℕ} (marks : List ℕ) {
       let whole = tailAs (1 + a .read) (tailAs 1 marks left) right in
       let first = handed-length 1 marks left (omega arith) k in
       let second = handed-length (1 + a .read) (tailAs 1 marks left) right (omega arith) n in
-      let m = h (d .right) rest (x .front) in
+      let m = h _ _ (x .front) in
       let agree : Agree (size (d .left)) left (drop 1 whole) =
       subst (λ (i : ℕ). Agree (size (d .left)) left (drop 1 (tailAs (1 + i) (tailAs 1 marks left) right))) (sym s) (left-stays (size (d .left)) marks left right (omega arith) k) in
       let behind : drop (1 + size (d .left)) whole ≡ right = ap (λ (i : ℕ). drop (1 + i) whole) (sym s) ∙ handed-back (1 + a .read) (tailAs 1 marks left) right (omega arith) in

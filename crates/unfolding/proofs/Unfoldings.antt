@@ -64,27 +64,27 @@ leaf-done {s} {rest} (isZero {a = a} w e) {out} h =
 pub room-not : {out s : List ℕ} (p : Room out s) → Single s (p .begins .rest) (p .begins .formula) Not → RoomBehind out (tail 1 s)
 room-not {out} p x =
     let r = subst (λ (f : Formula). size (unfolded f) ≤ length out) (x .same) (p .room) in
-    record { begins = record { formula = x .operand; rest = p .begins .rest; front = x .front }; room = r }
+    record { begins = record { formula = _; rest = _; front = x .front }; room = r }
 
 pub not-done : {s rest : List ℕ} {f : Formula} → Single s rest f Not → {out last : List ℕ} {r w : ℕ} → UnfoldsBehind (getD s 0 0) out (tail 1 s) last r w
     → UnfoldedTo f out last (1 + r) w
 not-done {s} {rest} x u =
-    let y = u (x .operand) rest (x .front) in
+    let y = u _ _ (x .front) in
     let b = first-byte s (drop 1 s) 2 (x .first) in
     rw (x .same) (record { reads = ap (1 +_) (y .reads); writes = y .writes; leaves = rw b at (y .leaves) })
 
 -- ---- next
 pub ends-within : {s : List ℕ} (b : Begins s) {n : ℕ} → Ends s n → n ≤ length s
 ends-within {s} b u =
-    let e = u (b .formula) (b .rest) (b .front) in
-    let l = front-length s (b .formula) (b .rest) (b .front) in
+    let e = u _ _ (b .front) in
+    let l = front-length _ _ _ (b .front) in
     omega arith
 
 pub next-fits : {out s : List ℕ} (p : Room out s) → Single s (p .begins .rest) (p .begins .formula) Next → {n : ℕ} → Ends s n → length (take n s) ≤ length out
 next-fits {out} {s} p x {n} u =
     let b = p .begins in
     let r : size (unfolded (one Next (x .operand))) ≤ length out = subst (λ (f : Formula). size (unfolded f) ≤ length out) (x .same) (p .room) in
-    let e = u (b .formula) (b .rest) (b .front) in
+    let e = u _ _ (b .front) in
     let z = ap size (x .same) in
     let t = length-take-le n s (ends-within b u) in
     omega arith
@@ -99,9 +99,9 @@ next-done {s} {rest} {f} y x {out} {n = n} u h =
     record { reads = e; writes = e ∙ sym (ap size o); leaves = rw (o, ← t) (rw l at h) }
 
 -- a formula as it stands, under next
-under-next : (s rest : List ℕ) (f : Formula) (n : ℕ) (out last : List ℕ) → Front s f rest → n ≡ size f
+under-next : {s rest : List ℕ} {f : Formula} (n : ℕ) (out : List ℕ) {last : List ℕ} → Front s f rest → n ≡ size f
     → last ≡ (5 ∷ take n s) ++ drop (1 + length (take n s)) out → last ≡ (5 ∷ encode f) ++ drop (1 + size f) out
-under-next s rest f n out last x e h =
+under-next {s} {rest} {f} n out x e h =
     let t : take n s ≡ encode f = ap (λ (i : ℕ). take i s) e ∙ front-own s f rest x in
     rw (length-encode f) at (rw t at h)
 
@@ -121,11 +121,11 @@ module _ {out s : List ℕ} {b : ℕ} (p : Room out s × Ever s b) where
   pub room-ever : RoomBehind out (tail 1 s)
   room-ever =
       let x = ever in
-      record { begins = record { formula = x .node .operand; rest = p .0 .begins .rest; front = x .node .front }; room = omega arith }
+      record { begins = record { formula = _; rest = _; front = x .node .front }; room = omega arith }
 
   module _ {out₁ : List ℕ} {r w : ℕ} (u : UnfoldsBehind b out (tail 1 s) out₁ r w) where
     operand-done : UnfoldedBehind b (ever .node .operand) out out₁ r w
-    operand-done = u (ever .node .operand) (p .0 .begins .rest) (ever .node .front)
+    operand-done = u _ _ (ever .node .front)
 
     pub ever-made : Bounded out s (1 + r) (w + 1 + (1 + r))
     ever-made = let x = ever in let y = operand-done in record { reads = omega arith; writes = omega arith }
@@ -142,7 +142,7 @@ module _ {out s : List ℕ} {b : ℕ} (p : Room out s × Ever s b) where
         let A : List ℕ = b ∷ encode (unfolded g) in
         let e : encode (unfolded f) ≡ joinCode (p .1 .by) ∷ (encode (unfolded g) ++ (5 ∷ encode (one (p .1 .operator) g))) =
         ap (λ (k : Formula). encode (unfolded k)) (x .node .same) ∙ ap encode (p .1 .unfolds g) in
-        let k = under-next s (p .0 .begins .rest) f (1 + r) (tail w out₁) last (p .0 .begins .front) (omega arith) h in
+        let k = under-next (1 + r) (tail w out₁) (p .0 .begins .front) (omega arith) h in
         let m = put-more out out₁ A (5 ∷ encode f) last w (1 + size f) (omega arith) (rw (y .writes) (y .leaves)) k in
         for-each (p .0 .begins)
         (unfolded-to f (A ++ (5 ∷ encode f)) (w + (1 + size f)) (omega arith) (omega arith) (omega arith) (e ∙ cc (x .node .same, p .1 .code)) m)
@@ -166,11 +166,11 @@ module _ {out s : List ℕ} {b : ℕ} (p : Room out s × Both s b) where
   pub room-both : RoomBehind out (tail 1 s)
   room-both =
       let x = both in
-      record { begins = record { formula = x .node .left; rest = encode (x .node .right) ++ p .0 .begins .rest; front = x .node .front }; room = omega arith }
+      record { begins = record { formula = _; rest = _; front = x .node .front }; room = omega arith }
 
   module _ {out₁ : List ℕ} {r w : ℕ} (u : UnfoldsBehind b out (tail 1 s) out₁ r w) where
     first-done : UnfoldedBehind b (both .node .left) out out₁ r w
-    first-done = u (both .node .left) (encode (both .node .right) ++ p .0 .begins .rest) (both .node .front)
+    first-done = u _ _ (both .node .front)
 
     second : Front (tail (1 + r) s) (both .node .right) (p .0 .begins .rest)
     second = right-at (both .node) r (first-done .reads)
@@ -183,12 +183,12 @@ module _ {out s : List ℕ} {b : ℕ} (p : Room out s × Both s b) where
         let x = both in
         let y = first-done in
         let l = tail-length w out₁ in
-        record { begins = record { formula = x .node .right; rest = p .0 .begins .rest; front = second }; room = omega arith }
+        record { begins = record { formula = _; rest = _; front = second }; room = omega arith }
 
     -- and the right one behind it
     module _ {last : List ℕ} {q v : ℕ} (h : Unfolds (tail w out₁) (tail (1 + r) s) last q v) where
       second-done : UnfoldedTo (both .node .right) (tail w out₁) last q v
-      second-done = h (both .node .right) (p .0 .begins .rest) second
+      second-done = h _ _ second
 
       pub both-made : Bounded out s (1 + r + q) (w + v)
       both-made = let x = both in let y = first-done in let z = second-done in record { reads = omega arith; writes = omega arith }
@@ -220,12 +220,12 @@ module _ {out s : List ℕ} (p : Room out s × (kindOf (getD s 0 0) ≡ Two Unti
       record { node = x; grown = omega arith }
 
   pub left-begins : Begins (tail 1 s)
-  left-begins = let x = until in record { formula = x .node .left; rest = encode (x .node .right) ++ p .0 .begins .rest; front = x .node .front }
+  left-begins = let x = until in record { formula = _; rest = _; front = x .node .front }
 
   -- the left operand's end was found
   module _ {i : ℕ} (n : Ends (tail 1 s) i) where
     left-end : i ≡ size (until .node .left)
-    left-end = let x = until in n (x .node .left) (encode (x .node .right) ++ p .0 .begins .rest) (x .node .front)
+    left-end = n _ _ (until .node .front)
 
     pub until-end : 1 + i < length s
     until-end = let x = until in let e = left-end in let z = size-some (x .node .right) in omega arith
@@ -233,12 +233,12 @@ module _ {out s : List ℕ} (p : Room out s × (kindOf (getD s 0 0) ≡ Two Unti
     pub room-right : RoomBehind out (tail (1 + i) s)
     room-right =
         let x = until in
-        record { begins = record { formula = x .node .right; rest = p .0 .begins .rest; front = right-at (x .node) i left-end }; room = omega arith }
+        record { begins = record { formula = _; rest = _; front = right-at (x .node) i left-end }; room = omega arith }
 
     -- the right operand was unfolded
     module _ {out₁ : List ℕ} {r w : ℕ} (u : UnfoldsBehind 4 out (tail (1 + i) s) out₁ r w) where
       right-done : UnfoldedBehind 4 (until .node .right) out out₁ r w
-      right-done = let x = until in u (x .node .right) (p .0 .begins .rest) (right-at (x .node) i left-end)
+      right-done = u _ _ (right-at (until .node) i left-end)
 
       pub right-made : Bounded out s (1 + i + r) w
       right-made = let x = until in let e = left-end in let y = right-done in record { reads = omega arith; writes = omega arith }
@@ -249,12 +249,12 @@ module _ {out s : List ℕ} (p : Room out s × (kindOf (getD s 0 0) ≡ Two Unti
           let e = left-end in
           let y = right-done in
           let l = tail-length w out₁ in
-          record { begins = record { formula = x .node .left; rest = encode (x .node .right) ++ p .0 .begins .rest; front = x .node .front }; room = omega arith }
+          record { begins = record { formula = _; rest = _; front = x .node .front }; room = omega arith }
 
       -- and the left one behind it
       module _ {last₁ : List ℕ} {q v : ℕ} (h : UnfoldsBehind 3 (tail w out₁) (tail 1 s) last₁ q v) where
         left-done : UnfoldedBehind 3 (until .node .left) (tail w out₁) last₁ q v
-        left-done = let x = until in h (x .node .left) (encode (x .node .right) ++ p .0 .begins .rest) (x .node .front)
+        left-done = h _ _ (until .node .front)
 
         pub until-made : Bounded out s (1 + i + r) (w + v + 1 + (1 + i + r))
         until-made =
@@ -282,7 +282,7 @@ module _ {out s : List ℕ} (p : Room out s × (kindOf (getD s 0 0) ≡ Two Unti
             let e : encode (unfolded f) ≡ 4 ∷ (encode (unfolded (x .node .right)) ++ (B ++ (5 ∷ encode (two Until (x .node .left) (x .node .right))))) =
             ap (λ (g : Formula). encode (unfolded g)) (x .node .same) in
             let m = o ∙ put-more out out₁ A B last₁ w v (omega arith) (rw (y .writes) (y .leaves)) (rw (z .writes) (z .leaves)) in
-            let t = under-next s (p .0 .begins .rest) f (1 + i + r) (tail (w + v) out₂) last₂ (p .0 .begins .front) (omega arith) k in
+            let t = under-next (1 + i + r) (tail (w + v) out₂) (p .0 .begins .front) (omega arith) k in
             let b = put-more out out₂ (A ++ B) (5 ∷ encode f) last₂ (w + v) (1 + size f) (omega arith) m t in
             for-each (p .0 .begins)
             (unfolded-to f ((A ++ B) ++ (5 ∷ encode f)) (w + v + (1 + size f)) (omega arith) (omega arith) (omega arith) (e ∙ cc (x .node .same, append-assoc A B (5 ∷ encode f))) b)

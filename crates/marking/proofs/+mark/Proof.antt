@@ -95,7 +95,7 @@ pub +mark-spec : {M : Type 1} → statement M
     (omega arith, asks-one (a .args .marks .now) (a .pre .1) x))
     (λ c κs. let k = c .before .before .before .before .before .before .before .before in let x = single t k in let a = first t (k .before .before .before) in
     let s = some t a in
-    (omega arith, not-small (c .before .before .before .mark .ensures (x .operand) (a .pre .1 .0 .rest) (x .front)) (omega arith)))
+    (omega arith, not-small (c .before .before .before .mark .ensures _ _ (x .front)) (omega arith)))
     (λ c. search needs)
     (λ c κs. first t (c .before .before .before .before .before .before) .pre .1)
     (λ c. search needs)
@@ -130,7 +130,7 @@ pub +mark-spec : {M : Type 1} → statement M
     let n = x .node in
     let s = some t a in
     let k = c .before .before .marks8 .given .1 ∙ c .before .before .before .before .before .before .before .before .marks7 .given .1 in
-    (omega arith, pair-small (x .marked) (c .before .before .before .mark3 .ensures (n .right) (a .pre .1 .0 .rest) (x .front)) (omega arith)))
+    (omega arith, pair-small (x .marked) (c .before .before .before .mark3 .ensures _ _ (x .front)) (omega arith)))
     (λ c. search needs)
     (λ c κs. first t (c .before .before .before .before .before .before) .pre .1)
     (λ c. search needs)

@@ -2,11 +2,9 @@
 -- with an operand, and is shorter. No sum wraps, since no count is larger than its operand and both operands are in the bytes. Each
 -- return is a law of `Counting`. Assumes nothing.
 use mathlib.Core.Path.{_≡_}
-use mathlib.Core.List.{_++_}
 use Prim.Native.Nat.{ℕ, _+_, _<_}
 use lib.ListN.{length}
 use Rattle.lists.proofs.Parts.{tail-length}
-use Rattle.ltl.specs.Formula.{encode}
 use Rattle.nodes.proofs.Fronts.{Single, Double, parts-as, no-code, begins-some, leaf-within}
 use Rattle.nodes.proofs.Operands.{one-of, two-of}
 use Rattle.scores.proofs.Counting.{LeftTallied, counted-leaf, left-tallied, tallied-leaf, tallied-one, tallied-two}
@@ -69,7 +67,7 @@ pub +tally-spec : {M : Type 1} → statement M
     (λ c. let x = single t c in omega arith)
     (λ c κs. let x = single t (c .before) in let a = first t (c .before .before .before) in
     let l = tail-length 1 (a .args .s .now) in
-    (omega arith, (record { formula = x .operand; rest = a .pre .1 .0 .rest; front = x .front }, a .pre .1 .1, omega arith)))
+    (omega arith, (record { formula = _; rest = _; front = x .front }, a .pre .1 .1, omega arith)))
     (λ c. let x = single t (c .before .before .before .before) in
     let r = c .before .before .tally .ensures _ _ (x .front) .0 in omega arith)
     (λ c. search needs)
@@ -78,7 +76,7 @@ pub +tally-spec : {M : Type 1} → statement M
     (λ c. let x = double t c in omega arith)
     (λ c κs. let x = double t (c .before) in let a = first t (c .before .before .before) in
     let l = tail-length 1 (a .args .s .now) in
-    (omega arith, (record { formula = x .left; rest = encode (x .right) ++ a .pre .1 .0 .rest; front = x .front }, a .pre .1 .1, omega arith)))
+    (omega arith, (record { formula = _; rest = _; front = x .front }, a .pre .1 .1, omega arith)))
     (λ c. let x = left-done t (c .before) in let d = x .node in omega arith)
     (λ c. let x = left-done t (c .before) in let d = x .node in omega arith)
     (λ c. let x = left-done t (c .before) in let d = x .node in omega arith)
@@ -86,7 +84,7 @@ pub +tally-spec : {M : Type 1} → statement M
     (λ c κs. let k = c .before .before in let x = left-done t k in let d = x .node in
     let a = first t (k .before .before .before .before) in
     let l = tail-length (1 + k .tally2 .result .read) (a .args .s .now) in
-    (omega arith, (record { formula = d .right; rest = a .pre .1 .0 .rest; front = x .front }, a .pre .1 .1, omega arith)))
+    (omega arith, (record { formula = _; rest = _; front = x .front }, a .pre .1 .1, omega arith)))
     (λ c. let x = left-done t (c .before .before .before .before .before .before) in let d = x .node in
     let r = c .before .before .before .tally3 .ensures _ _ (x .front) .0 in omega arith)
     (λ c κs b. let x = left-done t (c .before .before .before .before .before .before) in let d = x .node in

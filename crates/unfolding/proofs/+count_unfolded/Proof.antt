@@ -2,7 +2,6 @@
 -- with an operand, and is shorter. No sum is large, since counts are capped and there are at most 4,096 bytes. Each return is a law
 -- of `Counts`. Assumes nothing.
 use mathlib.Core.Path.{_≡_, refl, sym, ap, _∙_}
-use mathlib.Core.List.{_++_}
 use Prim.Native.Nat.{ℕ, _+_, _<_}
 use native.Mathlib.Omega.{arith}
 use borrow.Author.Needs.{needs}
@@ -14,7 +13,6 @@ use Rattle.kinds.specs.declared.Unary.{Unary}
 use Rattle.kinds.specs.declared.Binary.{Binary}
 use Rattle.kinds.specs.declared.Kind.the-variants.{One, Two}
 use Rattle.kinds.specs.Kinds.{kindOf}
-use Rattle.ltl.specs.Formula.{encode}
 use Rattle.nodes.proofs.Fronts.{Single, Double, parts-as, no-code, begins-some}
 use Rattle.nodes.proofs.Operands.{one-of, two-of}
 use Rattle.unfolding.proofs.Counts.{Small, counted-leaf, small-one, counted-not, counted-next, counted-ever, LeftCounted, left-counted, small-two, counted-joined, counted-until}
@@ -84,7 +82,7 @@ pub +count-unfolded-spec : {M : Type 1} → statement M
     (λ c. let x = single t c in omega arith)
     (λ c κs. let x = single t (c .before) in let a = first t (c .before .before .before .before) in
     let l = tail-length 1 (a .args .s .now) in
-    (omega arith, (record { formula = x .operand; rest = a .pre .1 .0 .rest; front = x .front }, omega arith)))
+    (omega arith, (record { formula = _; rest = _; front = x .front }, omega arith)))
     (λ c. let x = one-small t c in omega arith)
     (λ c. search needs)
     (λ c. let x = one-small t (c .before .before .before) in omega arith)
@@ -104,14 +102,14 @@ pub +count-unfolded-spec : {M : Type 1} → statement M
     (λ c. let x = double t c in omega arith)
     (λ c κs. let x = double t (c .before) in let a = first t (c .before .before .before .before) in
     let l = tail-length 1 (a .args .s .now) in
-    (omega arith, (record { formula = x .left; rest = encode (x .right) ++ a .pre .1 .0 .rest; front = x .front }, omega arith)))
+    (omega arith, (record { formula = _; rest = _; front = x .front }, omega arith)))
     (λ c. let x = left-done t c in omega arith)
     (λ c. let x = left-done t c in omega arith)
     (λ c. let x = left-done t c in omega arith)
     (λ c. let x = left-done t c in omega arith)
     (λ c κs. let x = left-done t (c .before) in let a = first t (c .before .before .before .before .before .before .before) in
     let l = tail-length (1 + c .before .before .count-unfolded2 .result .read) (a .args .s .now) in
-    (omega arith, (record { formula = x .node .right; rest = a .pre .1 .0 .rest; front = x .front }, omega arith)))
+    (omega arith, (record { formula = _; rest = _; front = x .front }, omega arith)))
     (λ c. let x = two-small t c in omega arith)
     (λ c. let x = two-small t (c .before .before) in omega arith)
     (λ c. search needs)

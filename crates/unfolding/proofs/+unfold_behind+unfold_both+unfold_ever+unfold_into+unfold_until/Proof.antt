@@ -181,7 +181,7 @@ pub +unfold-behind+unfold-both+unfold-ever+unfold-into+unfold-until-spec : {M : 
     (λ c κs. let a = c .before .before .before in
     (omega arith, record { begins = a .pre .1 .begins; room = simp (length-take, length-drop, length-set) (omega arith) }))
     (λ c. let a = c .before .before .before .before .before .before .before .pre .1 .begins in
-    let w = c .before .before .before .unfold-into .ensures (a .formula) (a .rest) (a .front) in omega arith)
+    let w = c .before .before .before .unfold-into .ensures _ _ (a .front) in omega arith)
     (λ c. c .before .before .out .given .1 ∙ simp length-set)
     (λ c. behind-done (omega arith) (c .before .before .before .unfold-into .ensures)))
     (λ t. both-lts.spec (both-calls t) (both-here t) unfold-both.Post
@@ -239,7 +239,7 @@ pub +unfold-behind+unfold-both+unfold-ever+unfold-into+unfold-until-spec : {M : 
     let l = tail-length 1 (a .args .s .now) in
     (omega arith, room-not (a .pre .1) x))
     (λ c. let x = under-not t (c .before .before .before .before .before .before) in
-    let y = c .before .before .before .unfold-behind .ensures (x .operand) _ (x .front) in omega arith)
+    let y = c .before .before .before .unfold-behind .ensures _ _ (x .front) in omega arith)
     (λ c. search needs)
     (λ c κs. into-start t (c .before .before .before .before .before) .pre .1 .begins)
     (λ c. let p = into-start t (c .before .before .before .before .before .before .before .before) .pre .1 in
