@@ -26,7 +26,7 @@ use Rattle.unfolding.specs.Unfolds.{Room, UnfoldedTo, Unfolds, RoomBehin
 use Rattle.nodes.proofs.Operands.{one-of, two-of, right-at}
 use Rattle.lists.proofs.Stretches.{set-first, put-first, put-more}
 
--- so many bytes are read, and so many written, as there are
+-- not more is read than there is, nor written than there is room for
 pub record Bounded (out s : List ℕ) (read written : ℕ) : Type 0 where
   pub reads : read ≤ length s
   pub writes : written ≤ length out

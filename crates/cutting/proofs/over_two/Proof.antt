@@ -17,6 +17,8 @@ over-two-spec = tie.close (tie.spec
     (λ c. search needs)
     (λ c κs. rw (c .before .before .before .before .before .before .plus .ensures) (sums-few _ _ (raws-few (c .before .before .before .before .before .before .before .before .before .pre))))
     (λ c κs. copy-joinable (c .before .before .before .before .before .before .before .before .before .before .pre) (rw (c .before .before .before .before .before .before .before .plus .ensures) at (c .under-next .ensures)))
-    (λ c κs. until-joinable (c .before .before .before .before .before .before .before .before .before .before .before .pre) (rw (c .before .before .before .before .before .before .before .before .plus .ensures) at (c .before .under-next .ensures)) (c .joined2 .ensures))
+    (λ c κs. let d = c .before .before .before .before .before .before .before .before in
+    until-joinable (d .before .before .before .pre) (rw (d .plus .ensures) at (c .before .under-next .ensures)) (c .joined2 .ensures))
     (λ c owner f g w v. walked-joined w v refl (c .before .before .before .before .before .before .before .plus .ensures) (c .before .enum-told .given .1) (c .joined .ensures))
-    (λ c owner f g w v. walked-until w v refl (c .before .before .before .before .before .before .before .before .before .plus .ensures) (c .before .before .before .enum-told2 .given .1) (c .before .before .under-next .ensures) (c .before .joined2 .ensures) (c .joined3 .ensures)))
+    (λ c owner f g w v. let d = c .before .before .before in
+    walked-until w v refl (d .before .before .before .before .before .before .plus .ensures) (d .enum-told2 .given .1) (c .before .before .under-next .ensures) (c .before .joined2 .ensures) (c .joined3 .ensures)))

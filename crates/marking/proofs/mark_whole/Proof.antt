@@ -24,4 +24,5 @@ mark-whole-spec = tie.close (tie.spec
     (λ c κs. let a = c .before .before .before .before .before .before .before .before in let x = few a in
     let t = c .before .before .before .before .tally .ensures _ _ (a .pre .0 .front) .0 in (asks-some (a .args .marks .now) (a .pre), omega arith))
     (λ c. search needs)
-    (λ c f rest y. whole-over (c .before .before .before .before .before .before .before .tally .ensures f rest y) (c .before .before .before .before .place-of .ensures ∙ ap (placeBy _) (c .before .before .before .before .before .choice-of .ensures)) (c .before .before .seal .ensures)))
+    (λ c f rest y. let d = c .before .before .before .before in
+    whole-over (d .before .before .before .tally .ensures f rest y) (d .place-of .ensures ∙ ap (placeBy _) (d .before .choice-of .ensures)) (c .before .before .seal .ensures)))

@@ -20,4 +20,5 @@ over-not-spec = tie.close (tie.spec
     (λ c. let x = few c in omega arith)
     (λ c κs. let x = few c in (c .before .before .before .before .before .before .pre .0, omega arith))
     (λ c. search needs)
-    (λ c. over-scored refl (c .before .before .before .before .before .before .place-of .ensures ∙ ap (placeBy _) (c .before .before .before .before .before .before .before .before .before .pre .1 .board-is)) (ap (1 +_) (c .before .before .before .shown .ensures)) (c .before .before .seal .ensures)))
+    (λ c. let d = c .before .before .before in
+    over-scored refl (d .before .before .before .place-of .ensures ∙ ap (placeBy _) (d .before .before .before .before .before .before .pre .1 .board-is)) (ap (1 +_) (d .shown .ensures)) (c .before .before .seal .ensures)))

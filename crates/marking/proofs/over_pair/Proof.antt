@@ -29,5 +29,6 @@ over-pair-spec = tie.close (tie.spec
     (λ c. omega arith)
     (λ c κs. let x = left-few (c .before .before .before .before) in let y = right-few (c .before .before .before) in (c .before .before .before .before .before .before .before .before .before .before .before .pre .0, omega arith))
     (λ c. search needs)
-    (λ c. over-scored (c .before .before .before .before .before .before .before .before .before .before .plus .ensures) (c .before .before .before .before .before .before .before .before .place-of .ensures ∙ ap (placeBy _) (c .before .before .before .before .before .before .before .before .before .choice-of .ensures))
-    (ap₂ (λ (x y : ℕ). 1 + x + y) (c .before .before .before .before .before .before .before .shown .ensures) (c .before .before .before .before .before .before .shown2 .ensures)) (c .before .before .seal .ensures)))
+    (λ c. let d = c .before .before .before .before .before .before in
+    let here = ap₂ (λ (x y : ℕ). 1 + x + y) (d .before .shown .ensures) (d .shown2 .ensures) in
+    over-scored (d .before .before .before .before .plus .ensures) (d .before .before .place-of .ensures ∙ ap (placeBy _) (d .before .before .before .choice-of .ensures)) here (c .before .before .seal .ensures)))
