@@ -24,7 +24,7 @@ pub stays-none : (board : ℕ) → staysOn boardsMost board ≡ true
 unfolding staysOn either
 stays-none board = refl
 
-pub stays-own : (c : ℕ) → staysOn c c ≡ true
+stays-own : (c : ℕ) → staysOn c c ≡ true
 unfolding staysOn either
 stays-own c = rw (eq-eqb c c refl) (either-right (eqb c boardsMost))
 

@@ -1,5 +1,5 @@
--- A part's scores and cuts by its top node: `parted-..`. `walked-..` is the same of the formula as it stands. Assumes nothing.
-use mathlib.Core.Path.{_≡_, refl, sym, ap, ap₂, _∙_, subst}
+-- A part's scores and cuts by its top node: `parted-..`; and how large they are (`unfolded-few`, `joinable`). Assumes nothing.
+use mathlib.Core.Path.{_≡_, refl, sym, ap, ap₂, _∙_}
 use mathlib.Core.List.{List}
 use mathlib.Core.Logic.{inl, inr}
 use mathlib.Core.Option.{none}
@@ -44,34 +44,34 @@ module _ {owner : List ℕ} {f : Formula} {x : Part} (h : Parted owner f boardsM
 bare-chosen : {counts : List ℕ} (x : Part) → Bare x counts → x .choice ≡ choiceOf (x .scores .counts)
 bare-chosen x e = e .1 ∙ ap choiceOf (sym (e .0))
 
-module _ {owner counts : List ℕ} (on : ℕ) (x : Part) (e : Bare x counts) where
+module _ {owner counts : List ℕ} {on : ℕ} {x : Part} (e : Bare x counts) where
   pub parted-leaf : (a : Leaf) → Counted owner (leaf a) counts → Parted owner (leaf a) on x
   unfolding cutsOn
   parted-leaf a c =
-      record { scored = subst (Counted owner (leaf a)) (sym (e .0)) c; choice-is = bare-chosen x e; few = let z = e .2 in omega arith; cuts-are = λ p q masks o w b l. e .2 }
+      record { scored = rw (e .0) c; choice-is = bare-chosen x e; few = let z = e .2 in omega arith; cuts-are = λ p q masks o w b l. e .2 }
 
   pub parted-next : (f : Formula) → Counted owner f counts → Parted owner (one Next f) on x
   unfolding cutsOn
   parted-next f c =
-      record { scored = subst (Counted owner (one Next f)) (sym (e .0)) (counted-one Next c); choice-is = bare-chosen x e; few = let z = e .2 in omega arith; cuts-are = λ p q masks o w b l. e .2 }
+      record { scored = rw (e .0) (counted-one Next c); choice-is = bare-chosen x e; few = let z = e .2 in omega arith; cuts-are = λ p q masks o w b l. e .2 }
 
-pub parted-not : {owner : List ℕ} {f : Formula} {a : Part} (on : ℕ) (x : Part) → Parted owner f boardsMost a
+pub parted-not : {owner : List ℕ} {f : Formula} {a : Part} {on : ℕ} {x : Part} → Parted owner f boardsMost a
     → x .scores .counts ≡ a .scores .counts → x .choice ≡ a .choice → x .cuts ≡ lookedCuts a (placeOf on (a .scores .counts)) → Parted owner (one Not f) on x
 unfolding cutsOn
-parted-not {owner} {f} {a} on x h s d e =
+parted-not {owner} {f} {a} {on} h s d e =
     record {
-      scored = subst (Counted owner (one Not f)) (sym s) (counted-one Not (h .scored));
+      scored = rw s (counted-one Not (h .scored));
       choice-is = d ∙ h .choice-is ∙ ap choiceOf (sym s);
       few = let l = looked-few h (placeOf on (a .scores .counts)) in omega arith;
       cuts-are = λ p q masks o w b l.
           e ∙ sym (looked-is h p q masks o w (one Not f) on b (a .scores .counts) (counted-chosen p q masks (counted-one Not (h .scored)) o w) (λ z. sym (chosen-one masks Not f) ∙ z) l);
     }
 
-pub parted-joined : {owner : List ℕ} {f g : Formula} {a b : Part} (j : Join) (on : ℕ) (x : Part) → Parted owner f boardsMost a → Parted owner g boardsMost b → Joins a b on x
+pub parted-joined : {owner : List ℕ} {f g : Formula} {a b : Part} (j : Join) {on : ℕ} {x : Part} → Parted owner f boardsMost a → Parted owner g boardsMost b → Joins a b on x
     → Parted owner (two (Joined j) f g) on x
 unfolding cutsOn
-parted-joined {owner} {f} {g} {a} {b} j on x h k e =
-    let d = subst (Counted owner (two (Joined j) f g)) (sym (e .scores)) (counted-two (Joined j) (h .scored) (k .scored)) in
+parted-joined {owner} {f} {g} {a} {b} j {on} {x} h k e =
+    let d : Counted owner (two (Joined j) f g) (x .scores .counts) = rw (e .scores) (counted-two (Joined j) (h .scored) (k .scored)) in
     record {
       scored = d;
       choice-is = e .choice-is;
@@ -94,8 +94,8 @@ unfolded-few (one Always f) l = omega (arith, unfolded-few f (omega arith))
 unfolded-few (two (Joined j) f g) l = omega (arith, unfolded-few f (omega arith), unfolded-few g (omega arith))
 unfolded-few (two Until f g) l = omega (arith, unfolded-few f (omega arith), unfolded-few g (omega arith))
 
-pub joinable : {owner : List ℕ} {f g : Formula} {a b : Part} (on : ℕ) → Parted owner f boardsMost a → Parted owner g on b → size f + size g < countsBelow → Joinable a b
-joinable {b = b} on h k l =
+pub joinable : {owner : List ℕ} {f g : Formula} {a b : Part} {on : ℕ} → Parted owner f boardsMost a → Parted owner g on b → size f + size g < countsBelow → Joinable a b
+joinable h k l =
     record {
       scores = λ i. (let x = h .scored .few i in let y = k .scored .few i in omega arith);
       cuts = let x = h .few in let y = k .few in omega arith;

@@ -1,8 +1,8 @@
 -- A formula that was walked over, by its top node: one law for each way in which the walk returns (`walked-..`), and what an
 -- operand's walk tells of its size (`walked-few`). Assumes nothing.
-use mathlib.Core.Path.{_≡_, refl, sym, subst}
-use mathlib.Core.List.{List, _++_}
-use Prim.Native.Nat.{ℕ, _+_, _<_, _^_}
+use mathlib.Core.Path.{_≡_, refl}
+use mathlib.Core.List.{List}
+use Prim.Native.Nat.{ℕ, _+_, _*_, _<_, _≤_, _^_}
 use native.Mathlib.Omega.{arith}
 use lib.ListN.{getD}
 use Rattle.lists.specs.Runs.{tail}
@@ -15,7 +15,7 @@ use Rattle.kinds.specs.declared.Binary.{Binary}
 use Rattle.kinds.specs.declared.Binary.the-variants.{Joined, Until}
 use Rattle.kinds.specs.declared.Kind.the-variants.{Zero}
 use Rattle.ltl.specs.Limits.{boardsMost}
-use Rattle.ltl.specs.Formula.{Formula, one, two, join, size, encode}
+use Rattle.ltl.specs.Formula.{Formula, one, two, join, size}
 use Rattle.ltl.specs.Progression.{unfolded}
 use Rattle.nodes.specs.Begins.{Front}
 use Rattle.nodes.proofs.Fronts.{Parts, isZero, Single, Double}
@@ -26,100 +26,93 @@ use Rattle.scores.specs.Tallies as tallies
 use Rattle.scores.proofs.Counting.{counted-leaf, counted-one, counted-two}
 use Rattle.cutting.specs.declared.Part.{Part}
 use Rattle.cutting.specs.declared.Counted.{Counted}
-use Rattle.cutting.specs.Cuts.{placeOf, lookedCuts, Parted, Walked, Bare, OverNone, Cutting, Joinable, Joins, OverOne, OverTwo}
+use Rattle.cutting.specs.Cuts.{placeOf, lookedCuts, Parted, Walked, Bare, OverNone, Cutting, Joinable, Joins, Countable, OverOne, Pairable, OverTwo}
 use Rattle.cutting.proofs.Nodes.{parted-leaf, parted-next, parted-not, parted-joined, unfolded-few, joinable}
 
-pub walked-leaf : {owner s rest : List ℕ} {f : Formula} {a : Leaf} {i : ℕ} (on : ℕ) (r : Counted) → Parts s rest f (Zero a) → i ≡ ownerOf owner a → OverNone i r
+pub walked-leaf : {owner s rest : List ℕ} {f : Formula} {a : Leaf} {i on : ℕ} {r : Counted} → Parts s rest f (Zero a) → i ≡ ownerOf owner a → OverNone i r
     → Walked owner f on r
-walked-leaf on r (isZero {a} w e) o x =
+walked-leaf (isZero {a} w e) o x =
     let c = counted-leaf o (x .1) in
-    record { reads = x .0; raw = c; parted = parted-leaf on (r .part) (x .2) a c }
+    record { reads = x .0; raw = c; parted = parted-leaf (x .2) a c }
 
 -- ---- one operand
-module _ {owner : List ℕ} {f : Formula} {a : Counted} (h : Walked owner f boardsMost a) (on : ℕ) (r : Counted) (n : r .read ≡ 1 + a .read) (e : r .raw .counts ≡ a .raw .counts) where
-  raw-one : (o : Unary) → tallies.Counted owner (one o f) (r .raw .counts)
-  raw-one o = subst (tallies.Counted owner (one o f)) (sym e) (counted-one o (h .raw))
-
-  read-one : (o : Unary) → r .read ≡ size (one o f)
-  read-one o = let x = h .reads in omega arith
+module _ {owner : List ℕ} {f : Formula} {a : Counted} (h : Walked owner f boardsMost a) {on : ℕ} {r : Counted} (n : r .read ≡ 1 + a .read) (e : r .raw .counts ≡ a .raw .counts) where
+  over-one : (o : Unary) → Parted owner (unfolded (one o f)) on (r .part) → Walked owner (one o f) on r
+  over-one o p = record { reads = let x = h .reads in omega arith; raw = rw e (counted-one o (h .raw)); parted = p }
 
   pub walked-not : {o : Unary} → o ≡ Not → r .part .scores .counts ≡ a .part .scores .counts → r .part .choice ≡ a .part .choice
       → r .part .cuts ≡ lookedCuts (a .part) (placeOf on (a .part .scores .counts)) → Walked owner (one o f) on r
-  walked-not i s d k = rw i (record { reads = read-one Not; raw = raw-one Not; parted = parted-not on (r .part) (h .parted) s d k })
+  walked-not i s d k = rw i (over-one Not (parted-not (h .parted) s d k))
 
   pub walked-next : {o : Unary} → o ≡ Next → Bare (r .part) (a .raw .counts) → Walked owner (one o f) on r
-  walked-next i b = rw i (record { reads = read-one Next; raw = raw-one Next; parted = parted-next on (r .part) b f (h .raw) })
+  walked-next i b = rw i (over-one Next (parted-next b f (h .raw)))
 
-  walked-ever : (o : Unary) (j : Join) (x : Part) → unfolded (one o f) ≡ join j (unfolded f) (one Next (one o f)) → Bare x (a .raw .counts) → Joins (a .part) x on (r .part) → Walked owner (one o f) on r
-  walked-ever o j x u b k =
-      let p = parted-joined j on (r .part) (h .parted) (parted-next boardsMost x b (one o f) (counted-one o (h .raw))) k in
-      record { reads = read-one o; raw = raw-one o; parted = subst (λ (g : Formula). Parted owner g on (r .part)) (sym u) p }
+  walked-ever : (o : Unary) (j : Join) {x : Part} → unfolded (one o f) ≡ join j (unfolded f) (one Next (one o f)) → Bare x (a .raw .counts) → Joins (a .part) x on (r .part) → Walked owner (one o f) on r
+  walked-ever o j u b k = over-one o (rw u (parted-joined j (h .parted) (parted-next b (one o f) (counted-one o (h .raw))) k))
 
-  pub walked-eventually : {o : Unary} (x : Part) → o ≡ Eventually → Bare x (a .raw .counts) → Joins (a .part) x on (r .part) → Walked owner (one o f) on r
-  walked-eventually x i b k = rw i (walked-ever Eventually Or x refl b k)
+  pub walked-eventually : {o : Unary} {x : Part} → o ≡ Eventually → Bare x (a .raw .counts) → Joins (a .part) x on (r .part) → Walked owner (one o f) on r
+  walked-eventually i b k = rw i (walked-ever Eventually Or refl b k)
 
-  pub walked-always : {o : Unary} (x : Part) → o ≡ Always → Bare x (a .raw .counts) → Joins (a .part) x on (r .part) → Walked owner (one o f) on r
-  walked-always x i b k = rw i (walked-ever Always And x refl b k)
+  pub walked-always : {o : Unary} {x : Part} → o ≡ Always → Bare x (a .raw .counts) → Joins (a .part) x on (r .part) → Walked owner (one o f) on r
+  walked-always i b k = rw i (walked-ever Always And refl b k)
 
 -- ---- two operands
 module _ {owner : List ℕ} {f g : Formula} {a c : Counted} (h : Walked owner f boardsMost a) (k : Walked owner g boardsMost c) where
-  raw-two : (o : Binary) (counts : List ℕ) → counts ≡ added (a .raw .counts) (c .raw .counts) → tallies.Counted owner (two o f g) counts
-  raw-two o counts e = subst (tallies.Counted owner (two o f g)) (sym e) (counted-two o (h .raw) (k .raw))
+  raw-two : (o : Binary) {counts : List ℕ} → counts ≡ added (a .raw .counts) (c .raw .counts) → tallies.Counted owner (two o f g) counts
+  raw-two o e = rw e (counted-two o (h .raw) (k .raw))
 
-  module _ (on : ℕ) (r : Counted) (n : r .read ≡ 1 + a .read + c .read) (e : r .raw .counts ≡ added (a .raw .counts) (c .raw .counts)) where
-    read-two : (o : Binary) → r .read ≡ size (two o f g)
-    read-two o = let x = h .reads in let y = k .reads in omega arith
+  module _ {on : ℕ} {r : Counted} (n : r .read ≡ 1 + a .read + c .read) (e : r .raw .counts ≡ added (a .raw .counts) (c .raw .counts)) where
+    over-two : (o : Binary) → Parted owner (unfolded (two o f g)) on (r .part) → Walked owner (two o f g) on r
+    over-two o p = record { reads = let x = h .reads in let y = k .reads in omega arith; raw = raw-two o e; parted = p }
 
     pub walked-joined : {o : Binary} {j : Join} → o ≡ Joined j → Joins (a .part) (c .part) on (r .part) → Walked owner (two o f g) on r
-    walked-joined {o} {j} i s =
-        rw i (record { reads = read-two (Joined j); raw = raw-two (Joined j) (r .raw .counts) e; parted = parted-joined j on (r .part) (h .parted) (k .parted) s })
+    walked-joined {o} {j} i s = rw i (over-two (Joined j) (parted-joined j (h .parted) (k .parted) s))
 
-    pub walked-until : {o : Binary} (x y : Part) → o ≡ Until → Bare x (r .raw .counts) → Joins (a .part) x boardsMost y → Joins (c .part) y on (r .part) → Walked owner (two o f g) on r
-    walked-until x y i b s t =
-        rw i
-        (record {
-          reads = read-two Until;
-          raw = raw-two Until (r .raw .counts) e;
-          parted =
-              parted-joined Or on (r .part) (k .parted)
-              (parted-joined And boardsMost y (h .parted) (parted-next boardsMost x b (two Until f g) (raw-two Until (r .raw .counts) e)) s) t;
-        })
+    pub walked-until : {o : Binary} {x y : Part} → o ≡ Until → Bare x (r .raw .counts) → Joins (a .part) x boardsMost y → Joins (c .part) y on (r .part) → Walked owner (two o f g) on r
+    walked-until i b s t = rw i (over-two Until (parted-joined Or (k .parted) (parted-joined And (h .parted) (parted-next b (two Until f g) (raw-two Until e)) s) t))
 
 -- ---- no sum is large
-module _ {owner : List ℕ} {f : Formula} {a : Counted} (h : Walked owner f boardsMost a) (l : size f < 4096) where
+module _ {a : Counted} (p : Countable a) where
+  few-one : size (unfolded (p .formula)) ≤ 4100 * size (p .formula)
+  few-one = unfolded-few (p .formula) (omega arith)
+
   pub walked-few : a .part .cuts + 1 < 2 ^ 64
-  walked-few = let x = h .parted .few in let y = unfolded-few f (omega arith) in omega arith
+  walked-few = let x = p .walked .parted .few in let y = few-one in omega arith
 
   pub raw-few : Few (a .raw .counts)
-  raw-few i = let x = h .raw .few i in omega arith
+  raw-few i = let x = p .walked .raw .few i in omega arith
 
-  pub ever-joinable : (x : Part) → Bare x (a .raw .counts) → Joinable (a .part) x
-  ever-joinable x b =
-      joinable boardsMost (h .parted) (parted-next boardsMost x b f (h .raw)) (let y = unfolded-few f (omega arith) in omega arith)
+  pub ever-joinable : {x : Part} → Bare x (a .raw .counts) → Joinable (a .part) x
+  ever-joinable b = joinable {on = boardsMost} (p .walked .parted) (parted-next b (p .formula) (p .walked .raw)) (let y = few-one in omega arith)
 
-module _ {owner : List ℕ} {f g : Formula} {a c : Counted} (h : Walked owner f boardsMost a) (k : Walked owner g boardsMost c) (l : size f + size g < 4096) where
+module _ {a c : Counted} (p : Pairable a c) where
+  few-left : size (unfolded (p .left)) ≤ 4100 * size (p .left)
+  few-left = unfolded-few (p .left) (omega arith)
+
+  few-right : size (unfolded (p .right)) ≤ 4100 * size (p .right)
+  few-right = unfolded-few (p .right) (omega arith)
+
   pub raws-few : (i : ℕ) → getD (a .raw .counts) i 0 + getD (c .raw .counts) i 0 < countsBelow
-  raws-few i = let x = h .raw .few i in let y = k .raw .few i in omega arith
+  raws-few i = let x = p .walked-left .raw .few i in let y = p .walked-right .raw .few i in omega arith
 
   pub both-joinable : Joinable (a .part) (c .part)
-  both-joinable = joinable boardsMost (h .parted) (k .parted) (let y = unfolded-few f (omega arith) in let z = unfolded-few g (omega arith) in omega arith)
+  both-joinable = joinable (p .walked-left .parted) (p .walked-right .parted) (let y = few-left in let z = few-right in omega arith)
 
-  module _ (x : Part) (b : Bare x (added (a .raw .counts) (c .raw .counts))) where
-    copied : Parted owner (one Next (two Until f g)) boardsMost x
-    copied = parted-next boardsMost x b (two Until f g) (raw-two h k Until (added (a .raw .counts) (c .raw .counts)) refl)
+  module _ {x : Part} (b : Bare x (added (a .raw .counts) (c .raw .counts))) where
+    copied : Parted (p .owner) (one Next (two Until (p .left) (p .right))) boardsMost x
+    copied = parted-next b (two Until (p .left) (p .right)) (raw-two (p .walked-left) (p .walked-right) Until refl)
 
     pub copy-joinable : Joinable (a .part) x
-    copy-joinable = joinable boardsMost (h .parted) copied (let y = unfolded-few f (omega arith) in omega arith)
+    copy-joinable = joinable (p .walked-left .parted) copied (let y = few-left in omega arith)
 
-    pub until-joinable : (y : Part) → Joins (a .part) x boardsMost y → Joinable (c .part) y
-    until-joinable y s =
-        joinable boardsMost (k .parted) (parted-joined And boardsMost y (h .parted) copied s)
-        (let u = unfolded-few f (omega arith) in let v = unfolded-few g (omega arith) in omega arith)
+    pub until-joinable : {y : Part} → Joins (a .part) x boardsMost y → Joinable (c .part) y
+    until-joinable s =
+        joinable (p .walked-right .parted) (parted-joined And (p .walked-left .parted) copied s) (let u = few-left in let v = few-right in omega arith)
 
 -- ---- the walk
 pub walked-over-one : {owner s rest : List ℕ} {f : Formula} {o : Unary} {a : Counted} {on : ℕ} {r : Counted} → Single s rest f o → Cutting owner (tail 1 s) boardsMost a → OverOne o a on r
     → Walked owner f on r
-walked-over-one {owner} {rest = rest} x h k = rw (x .same) (k owner (x .operand) (h (x .operand) rest (x .front)))
+walked-over-one x h k = rw (x .same) (k _ _ (h _ _ (x .front)))
 
 -- a node with two operands, of which the left one was walked over
 pub record LeftWalked (owner s rest : List ℕ) (f : Formula) (o : Binary) (a : Counted) : Type 0 where
@@ -128,11 +121,10 @@ pub record LeftWalked (owner s rest : List ℕ) (f : Formula) (o : Binary) (a : 
   pub front : Front (tail (1 + a .read) s) (node .right) rest
 
 pub left-walked : {owner s rest : List ℕ} {f : Formula} {o : Binary} {a : Counted} → Double s rest f o → Cutting owner (tail 1 s) boardsMost a → LeftWalked owner s rest f o a
-left-walked {rest = rest} {a = a} x u =
-    let w = u (x .left) (encode (x .right) ++ rest) (x .front) in
+left-walked {a = a} x u =
+    let w = u _ _ (x .front) in
     record { node = x; walked = w; front = right-at x (a .read) (w .reads) }
 
 pub walked-over-two : {owner s rest : List ℕ} {f : Formula} {o : Binary} {a c : Counted} {on : ℕ} {r : Counted} → LeftWalked owner s rest f o a
     → Cutting owner (tail (1 + a .read) s) boardsMost c → OverTwo o a c on r → Walked owner f on r
-walked-over-two {owner} {rest = rest} x h k =
-    rw (x .node .same) (k owner (x .node .left) (x .node .right) (x .walked) (h (x .node .right) rest (x .front)))
+walked-over-two x h k = rw (x .node .same) (k _ _ _ (x .walked) (h _ _ (x .front)))

@@ -1,5 +1,5 @@
 -- A part that was marked, by its top node: one law for each way in which the walk returns (`marked-..`). Assumes nothing.
-use mathlib.Core.Path.{_≡_, refl, sym, ap, ap₂, _∙_, subst}
+use mathlib.Core.Path.{_≡_, refl, sym, ap, ap₂, _∙_}
 use mathlib.Core.Bool.{Bool, true, false}
 use mathlib.Core.List.{List}
 use mathlib.Core.Logic.{inl}
@@ -30,7 +30,7 @@ use Rattle.cutting.proofs.Choices.{chosen-below, chosen-one, chosen-left, chose
 use Rattle.cutting.proofs.Looking.{looked-by, place-is, place-own}
 use Rattle.marking.specs.declared.Placed.{Placed}
 use Rattle.marking.specs.Marks.{hereOn, markOf, Marks, Marked, MarkedAs, shownAs, Seals, Small, SmallPair, Over, OverNot, OverPair}
-use Rattle.marking.proofs.Places.{Alike, Agree, marks-alike, marked-same, mark-has}
+use Rattle.marking.proofs.Places.{Agree, marks-alike, marked-same, mark-has}
 
 -- ---- the length of an operand in a slot
 pub shown-stays : (choice here board : ℕ) → staysOn choice board ≡ true → shownAs choice here board ≡ here
@@ -50,30 +50,26 @@ shown-few choice here board = go (staysOn choice board)
     go false = omega arith
 
 -- ---- a mark on top of others
-module _ {read : ℕ} {scores : Scores} {board n : ℕ} {marks marks′ : List ℕ} {r : Placed} where
-  pub over-scored : {counts : List ℕ} {on : ℕ} → scores .counts ≡ counts → board ≡ placeOf on (scores .counts) → (here : ℕ → ℕ) → n ≡ here board → Seals read scores board n marks marks′ r
-      → Over read counts on here marks marks′ r
-  over-scored {counts} {on} c e here h s =
-      let b = e ∙ ap (placeOf on) c in
-      let x = s .result in
-      record {
-        reads = ap (λ (y : Placed). y .read) x;
-        scores = ap (λ (y : Placed). y .scores .counts) x ∙ c;
-        board-is = ap (λ (y : Placed). y .board) x ∙ b;
-        here-is = ap (λ (y : Placed). y .here) x ∙ h ∙ ap here b;
-        writes = s .writes ∙ ap (λ (y : Placed). set marks 0 (markOf (y .here) (y .board))) (sym x);
-      }
+pub over-scored : {read : ℕ} {scores : Scores} {board n : ℕ} {marks marks′ : List ℕ} {r : Placed} {counts : List ℕ} {on : ℕ} {here : ℕ → ℕ}
+    → scores .counts ≡ counts → board ≡ placeOf on (scores .counts) → n ≡ here board → Seals read scores board n marks marks′ r → Over read counts on here marks marks′ r
+over-scored {marks = marks} {on = on} {here = here} c e h s =
+    let b = e ∙ ap (placeOf on) c in
+    let x = s .result in
+    record {
+      reads = ap (λ (y : Placed). y .read) x;
+      scores = ap (λ (y : Placed). y .scores .counts) x ∙ c;
+      board-is = ap (λ (y : Placed). y .board) x ∙ b;
+      here-is = ap (λ (y : Placed). y .here) x ∙ h ∙ ap here b;
+      writes = s .writes ∙ ap (λ (y : Placed). set marks 0 (markOf (y .here) (y .board))) (sym x);
+    }
 
-  pub over : {on : ℕ} → board ≡ placeOf on (scores .counts) → (here : ℕ → ℕ) → n ≡ here board → Seals read scores board n marks marks′ r → Over read (scores .counts) on here marks marks′ r
-  over e here h s = over-scored refl e here h s
-
-pub whole-over : {owner : List ℕ} {f : Formula} {read : ℕ} {scores : Scores} {board : ℕ} {marks marks′ : List ℕ} {r : Placed} (on : ℕ) → (read ≡ size f) × Counted owner f (scores .counts)
+pub whole-over : {owner : List ℕ} {f : Formula} {read : ℕ} {scores : Scores} {board : ℕ} {marks marks′ : List ℕ} {r : Placed} {on : ℕ} → (read ≡ size f) × Counted owner f (scores .counts)
     → board ≡ placeOf on (scores .counts) → Seals read scores board read marks marks′ r
     → Counted owner f (r .scores .counts) × Over (size f) (r .scores .counts) on (λ b. size f) marks marks′ r
-whole-over {owner} {f} {read} {scores} {board} {marks} {marks′} {r} on t e s =
+whole-over {owner} {f} {read} {scores} {board} {marks} {marks′} {r} {on} t e s =
     let x : r .scores .counts ≡ scores .counts = ap (λ (y : Placed). y .scores .counts) (s .result) in
-    let v : Over read (scores .counts) on (λ b. size f) marks marks′ r = over e (λ b. size f) (t .0) s in (
-      subst (Counted owner f) (sym x) (t .1),
+    let v : Over read (scores .counts) on (λ b. size f) marks marks′ r = over-scored refl e (t .0) s in (
+      rw x (t .1),
       record { reads = v .reads ∙ t .0; scores = refl; board-is = v .board-is ∙ ap (placeOf on) (sym x); here-is = v .here-is; writes = v .writes },
     )
 
@@ -131,11 +127,11 @@ module _ {owner marks : List ℕ} {f : Formula} {a : Placed} (h : MarkedAs owner
 top-mark : (marks marks′ : List ℕ) (v : ℕ) → 0 < length marks → marks′ ≡ set marks 0 v → (getD marks′ 0 0 ≡ v) × (drop 1 marks′ ≡ drop 1 marks)
 top-mark marks marks′ v l e = let s = e ∙ set-first marks v l in (ap (λ (x : List ℕ). getD x 0 0) s, ap (drop 1) s)
 
-module _ {owner : List ℕ} (on : ℕ) (marks marks′ : List ℕ) (r : Placed) (some-marks : 0 < length marks) where
+module _ {owner : List ℕ} {on : ℕ} (marks : List ℕ) {marks′ : List ℕ} {r : Placed} (some-marks : 0 < length marks) where
   -- a part that stays whole
-  pub marked-whole : (f : Formula) → ((choose : Formula → Option ℕ) (b : ℕ) → hereOn choose f b ≡ size f) → ((choose : Formula → Option ℕ) → Marked choose f marks′)
+  pub marked-whole : {f : Formula} → ((choose : Formula → Option ℕ) (b : ℕ) → hereOn choose f b ≡ size f) → ((choose : Formula → Option ℕ) → Marked choose f marks′)
       → Counted owner f (r .scores .counts) × Over (size f) (r .scores .counts) on (λ b. size f) marks marks′ r → size f ≤ 4096 → MarkedAs owner f on marks′ r
-  marked-whole f here none-marked x n =
+  marked-whole here none-marked x n =
       let v = x .1 in
       record {
         reads = v .reads;
@@ -151,11 +147,10 @@ module _ {owner : List ℕ} (on : ℕ) (marks marks′ : List ℕ) (r : Placed) 
   pub marked-not : {f : Formula} {a : Placed} → MarkedAs owner f boardsMost (drop 1 marks) a → OverNot a on marks marks′ r → size f < 4096 → MarkedAs owner (one Not f) on marks′ r
   unfolding hereOn
   marked-not {f} {a} h x n =
-      let d = subst (Counted owner (one Not f)) (sym (x .scores)) (counted-one Not (h .scored)) in
       let m = top-mark marks marks′ _ some-marks (x .writes) in
       record {
         reads = let e = x .reads in let i = h .reads in omega arith;
-        scored = d;
+        scored = rw (x .scores) (counted-one Not (h .scored));
         board-is = x .board-is ∙ ap (placeOf on) (sym (x .scores));
         few = let e = x .here-is in let l = shown-within h (placeOf on (a .scores .counts)) in omega arith;
         small = let e = x .here-is in let l = shown-within h (placeOf on (a .scores .counts)) in omega arith;
@@ -164,8 +159,8 @@ module _ {owner : List ℕ} (on : ℕ) (marks marks′ : List ℕ) (r : Placed) 
             ∙ ap (1 +_) (shown-is h p q masks o w (one Not f) on b (a .scores .counts) (counted-chosen p q masks (counted-one Not (h .scored)) o w) (λ z. sym (chosen-one masks Not f) ∙ z) l);
         mark-is = m .0;
         marked = λ p q masks o w. (
-          subst (λ (y : List ℕ). Marks (chosen masks) f boardsMost (getD y 0 0)) (sym (m .1)) (marks-is h p q masks o w),
-          subst (Marked (chosen masks) f) (sym (m .1)) (h .marked p q masks o w),
+          rw (m .1) (marks-is h p q masks o w),
+          rw (m .1) (h .marked p q masks o w),
         );
       }
 
@@ -176,11 +171,11 @@ module _ {owner : List ℕ} (on : ℕ) (marks marks′ : List ℕ) (r : Placed) 
       let counts = added (a .scores .counts) (c .scores .counts) in
       let s = counted-two (Joined j) (h .scored) (k .scored) in
       let m = top-mark marks marks′ _ some-marks (x .writes) in
-      let t : Agree (size f) left (drop 1 marks′) = λ i l. subst (λ (y : List ℕ). Alike (getD left i 0) (getD y i 0)) (sym (m .1)) (same i l) in
+      let t : Agree (size f) left (drop 1 marks′) = λ i l. rw (m .1) (same i l) in
       let u : drop (1 + size f) marks′ ≡ right = sym (drop-drop (size f) 1 marks′) ∙ ap (drop (size f)) (m .1) ∙ drop-drop (size f) 1 marks ∙ behind in
       record {
         reads = let e = x .reads in let i = h .reads in let l = k .reads in omega arith;
-        scored = subst (Counted owner (two (Joined j) f g)) (sym (x .scores)) s;
+        scored = rw (x .scores) s;
         board-is = x .board-is ∙ ap (placeOf on) (sym (x .scores));
         few = let e = x .here-is in let l = shown-within h (placeOf on counts) in let n = shown-within k (placeOf on counts) in omega arith;
         small = let e = x .here-is in let l = shown-within h (placeOf on counts) in let n = shown-within k (placeOf on counts) in omega arith;
@@ -192,7 +187,7 @@ module _ {owner : List ℕ} (on : ℕ) (marks marks′ : List ℕ) (r : Placed) 
         mark-is = m .0;
         marked = λ p q masks o w. (
           (marks-alike (t 0 (size-some f)) (marks-is h p q masks o (w .0)), marked-same (chosen masks) f left (drop 1 marks′) t (h .marked p q masks o (w .0))),
-          (subst (λ (y : List ℕ). Marks (chosen masks) g boardsMost (getD y 0 0)) (sym u) (marks-is k p q masks o (w .1)), subst (Marked (chosen masks) g) (sym u) (k .marked p q masks o (w .1))),
+          (rw u (marks-is k p q masks o (w .1)), rw u (k .marked p q masks o (w .1))),
         );
       }
 

@@ -34,7 +34,7 @@ unfolding assigned
 assigned-done x b masks i h = rw (drop-of-length-le masks h)
 
 -- a board that is there
-pub assigned-few : (x b n : ℕ) (masks : List ℕ) (i : ℕ) → x < n → b + length masks ≤ n → assigned x b masks i < n
+assigned-few : (x b n : ℕ) (masks : List ℕ) (i : ℕ) → x < n → b + length masks ≤ n → assigned x b masks i < n
 unfolding assigned pick
 assigned-few x b n [] i h l = h
 assigned-few x b n (m ∷ ms) i h l =

@@ -50,13 +50,13 @@ lowest-even : (m p : ℕ) → Lowest m (suc p) → m % 2 ≡ 0
 lowest-even m p l = sym (bit-zero m) ∙ l .1 0 (omega arith)
 
 -- ---- the bits that are left
-pub cleared-lowest : (p m : ℕ) → 0 < m → Lowest m p → bitAt (cleared m) p ≡ 0
+cleared-lowest : (p m : ℕ) → 0 < m → Lowest m p → bitAt (cleared m) p ≡ 0
 cleared-lowest zero m z l = twice-zero (cleared m) (m / 2) (cleared-odd m (sym (bit-zero m) ∙ l .0))
 cleared-lowest (suc p) m z l =
     let h = lowest-even m p l in
     twice-suc (cleared m) (cleared (m / 2)) p (cleared-even m z h) ∙ cleared-lowest p (m / 2) (omega arith) (lowest-half m p l)
 
-pub cleared-other : (p m i : ℕ) → 0 < m → Lowest m p → (i ≡ p → ⊥) → bitAt (cleared m) i ≡ bitAt m i
+cleared-other : (p m i : ℕ) → 0 < m → Lowest m p → (i ≡ p → ⊥) → bitAt (cleared m) i ≡ bitAt m i
 cleared-other zero m zero z l n = absurd (n refl)
 cleared-other zero m (suc i) z l n = twice-suc (cleared m) (m / 2) i (cleared-odd m (sym (bit-zero m) ∙ l .0)) ∙ sym (bit-suc m i)
 cleared-other (suc p) m zero z l n =

@@ -1,10 +1,10 @@
 -- A formula's scores by its top node (`counted-..`), and one law for each way in which the walk that takes them returns
 -- (`tallied-..`); `left-tallied` says what is known once the left one of two operands was scored. `counted-chosen`: the highest of
 -- the counts is the formula's choice. Assumes nothing.
-use mathlib.Core.Path.{_≡_, refl, sym, ap, ap₂, _∙_, subst}
+use mathlib.Core.Path.{_≡_, refl, ap, ap₂, _∙_}
 use mathlib.Core.Bool.{Bool}
 use mathlib.Core.Option.{none}
-use mathlib.Core.List.{List, _++_}
+use mathlib.Core.List.{List}
 use Prim.Native.Nat.{ℕ, _+_}
 use native.Mathlib.Omega.{arith}
 use lib.ListN.{getD}
@@ -16,11 +16,12 @@ use Rattle.kinds.specs.declared.Unary.{Unary}
 use Rattle.kinds.specs.declared.Binary.{Binary}
 use Rattle.kinds.specs.declared.Kind.the-variants.{Zero}
 use Rattle.ltl.specs.Limits.{boardsMost}
-use Rattle.ltl.specs.Formula.{Formula, leaf, one, two, size, encode, Within}
+use Rattle.ltl.specs.Formula.{Formula, leaf, one, two, size, Within}
 use Rattle.ltl.proofs.Texts.{size-some}
 use Rattle.network.specs.Scores.{occurrences, highest, chosen}
 use Rattle.nodes.specs.Begins.{Front}
 use Rattle.nodes.proofs.Fronts.{Parts, isZero, Single, Double}
+use Rattle.nodes.proofs.Operands.{right-at}
 use Rattle.scores.specs.Scored.{noneScored, oneScored, added}
 use Rattle.scores.specs.Owned.{Owned, ownerOf}
 use Rattle.scores.specs.Tallies.{Counted, Tallies}
@@ -49,7 +50,7 @@ counted-owned owner (Prop i) = counted-proposition owner i
 counted-owned owner (Hold k) = counted-nothing owner (leaf (Hold k)) (λ test. refl)
 
 pub counted-leaf : {owner counts : List ℕ} {a : Leaf} {b : ℕ} → b ≡ ownerOf owner a → counts ≡ oneScored b → Counted owner (leaf a) counts
-counted-leaf {owner} {a = a} e h = subst (Counted owner (leaf a)) (sym (h ∙ ap oneScored e)) (counted-owned owner a)
+counted-leaf {owner} {a = a} e h = rw (h, e) (counted-owned owner a)
 
 pub counted-one : {owner counts : List ℕ} {f : Formula} (o : Unary) → Counted owner f counts → Counted owner (one o f) counts
 counted-one o c = record { few = λ b. omega (arith, c .few b); scores = c .scores }
@@ -76,7 +77,7 @@ tallied-leaf (isZero w e) c = (refl, c)
 -- a node with one operand
 pub tallied-one : {s rest : List ℕ} {f : Formula} {o : Unary} {r : ℕ} {owner counts : List ℕ} → Single s rest f o → Tallies owner (tail 1 s) r counts
     → (1 + r ≡ size f) × Counted owner f counts
-tallied-one {rest = rest} {o = o} x h = let a = h (x .operand) rest (x .front) in rw (x .same) (let e = a .0 in omega arith, counted-one o (a .1))
+tallied-one {o = o} x h = let a = h _ _ (x .front) in rw (x .same) (let e = a .0 in omega arith, counted-one o (a .1))
 
 -- a node with two operands, of which the left one was scored
 pub record LeftTallied (owner s rest : List ℕ) (f : Formula) (o : Binary) (r : ℕ) (counts : List ℕ) : Type 0 where
@@ -87,12 +88,12 @@ pub record LeftTallied (owner s rest : List ℕ) (f : Formula) (o : Binary) (r :
 
 pub left-tallied : {owner s rest : List ℕ} {f : Formula} {o : Binary} {r : ℕ} {counts : List ℕ} → Double s rest f o → Tallies owner (tail 1 s) r counts
     → LeftTallied owner s rest f o r counts
-left-tallied {s = s} {rest = rest} x u =
-    let a = u (x .left) (encode (x .right) ++ rest) (x .front) in
-    record { node = x; reads = a .0; counted = a .1; front = subst (λ (i : ℕ). Front (tail (1 + i) s) (x .right) rest) (sym (a .0)) (x .second) }
+left-tallied {r = r} x u =
+    let a = u _ _ (x .front) in
+    record { node = x; reads = a .0; counted = a .1; front = right-at x r (a .0) }
 
 pub tallied-two : {owner s rest : List ℕ} {f : Formula} {o : Binary} {r q : ℕ} {xs ys : List ℕ} → LeftTallied owner s rest f o r xs → Tallies owner (tail (1 + r) s) q ys
     → (1 + r + q ≡ size f) × Counted owner f (added xs ys)
-tallied-two {rest = rest} {o = o} x h =
-    let a = h (x .node .right) rest (x .front) in
+tallied-two {o = o} x h =
+    let a = h _ _ (x .front) in
     rw (x .node .same) (let e = a .0 in let d = x .reads in omega arith, counted-two o (x .counted) (a .1))

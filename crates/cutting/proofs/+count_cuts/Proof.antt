@@ -1,18 +1,16 @@
 -- The bytes begin with a formula, and its first byte's kind says which operands stand behind it: so each part lent is there, begins
 -- with an operand, and is shorter. The node on top of its operands is a function of its own. Assumes nothing.
-use mathlib.Core.List.{_++_}
-use Prim.Native.Nat.{_+_}
+use mathlib.Core.Path.{_≡_}
 use lib.ListN.{length}
 use Rattle.lists.proofs.Parts.{tail-length}
-use Rattle.ltl.specs.Formula.{encode}
 use Rattle.nodes.proofs.Fronts.{Single, Double, parts-as, begins-some, no-code, leaf-within}
 use Rattle.nodes.proofs.Operands.{one-of, two-of}
 use Rattle.cutting.proofs.Walks.{LeftWalked, left-walked, walked-leaf, walked-over-one, walked-over-two}
 use native.Mathlib.Omega.{arith}
 use borrow.Author.Needs.{needs}
-use Prim.Native.Nat.{ℕ, _<_}
+use Prim.Native.Nat.{ℕ, _+_, _<_}
 use borrow.Fn.Kinds.{In}
-use borrow.Fn.PlainCycle.{Measures, is, falls, and}
+use borrow.Fn.PlainCycle.{Measures}
 use Rattle.cutting.proofs.count_cuts.Reads as count-cuts
 use Rattle.cutting.proofs.count_cuts.Kinds as count-cuts-kinds
 use Rattle.cutting.proofs.+count_cuts.Lts-count_cuts as lts
@@ -29,10 +27,10 @@ abbrev μ-count-cuts : Measures 2 count-cuts-kinds.ps ℕ
 
 module _ (t : ℕ) where
   abbrev here : In 2 count-cuts-kinds.ps
-  here = and 2 count-cuts-kinds.ps (is 2 count-cuts-kinds.ps μ-count-cuts t) count-cuts.Pre
+  here κs a = (μ-count-cuts κs a ≡ t) × count-cuts.Pre κs a
 
   abbrev below : In 2 count-cuts-kinds.ps
-  below = and 2 count-cuts-kinds.ps (falls 2 count-cuts-kinds.ps _<_ μ-count-cuts t) count-cuts.Pre
+  below κs a = (μ-count-cuts κs a < t) × count-cuts.Pre κs a
 
   abbrev calls : lts.Claims
   calls = (of-reads.Asked, of-reads.Learnt, owner-of-reads.Asked, owner-of-reads.Learnt, over-none-reads.Asked, over-none-reads.Learnt, below, count-cuts.Post, over-one-reads.Asked, over-one-reads.Learnt, over-two-reads.Asked, over-two-reads.Learnt)
@@ -70,10 +68,9 @@ pub +count-cuts-spec : {M : Type 1} → statement M
     (λ c κs. let x = single t (c .before .before) in
     let a = first t (c .before .before .before .before) .pre in
     let l = tail-length 1 (first t (c .before .before .before .before) .args .s .now) in
-    (omega arith, (record { formula = x .operand; rest = a .1 .0 .rest; front = x .front }, a .1 .1, omega arith)))
+    (omega arith, (record { formula = _; rest = _; front = x .front }, a .1 .1, omega arith)))
     (λ c κs. let x = single t (c .before .before .before) in
-    let a = first t (c .before .before .before .before .before) in
-    record { owner = a .args .owner .now; formula = x .operand; walked = c .count-cuts .ensures (x .operand) (a .pre .1 .0 .rest) (x .front); small = omega arith })
+    record { owner = _; formula = _; walked = c .count-cuts .ensures _ _ (x .front); small = omega arith })
     (λ c. search needs)
     (λ c. let x = double t (c .before) in omega arith)
     (λ c. let x = double t (c .before) in omega arith)
@@ -81,7 +78,7 @@ pub +count-cuts-spec : {M : Type 1} → statement M
     (λ c κs. let x = double t (c .before .before) in
     let a = first t (c .before .before .before .before) .pre in
     let l = tail-length 1 (first t (c .before .before .before .before) .args .s .now) in
-    (omega arith, (record { formula = x .left; rest = encode (x .right) ++ a .1 .0 .rest; front = x .front }, a .1 .1, omega arith)))
+    (omega arith, (record { formula = _; rest = _; front = x .front }, a .1 .1, omega arith)))
     (λ c. let x = left-done t (c .before) in let d = x .node in omega arith)
     (λ c. let x = left-done t (c .before) in let d = x .node in omega arith)
     (λ c. let x = left-done t (c .before) in let d = x .node in omega arith)
@@ -89,13 +86,15 @@ pub +count-cuts-spec : {M : Type 1} → statement M
     (λ c κs. let x = left-done t (c .before .before) in let d = x .node in
     let a = first t (c .before .before .before .before .before .before .before) in
     let l = tail-length (1 + c .before .before .count-cuts2 .result .read) (a .args .s .now) in
-    (omega arith, (record { formula = d .right; rest = a .pre .1 .0 .rest; front = x .front }, a .pre .1 .1, omega arith)))
+    (omega arith, (record { formula = _; rest = _; front = x .front }, a .pre .1 .1, omega arith)))
     (λ c κs. let x = left-done t (c .before .before .before) in let d = x .node in
-    let a = first t (c .before .before .before .before .before .before .before .before) in
-    record { owner = a .args .owner .now; left = d .left; right = d .right; walked-left = x .walked; walked-right = c .count-cuts3 .ensures (d .right) (a .pre .1 .0 .rest) (x .front); small = omega arith })
+    let p = first t (c .before .before .before .before .before .before .before .before) .pre in
+    record { owner = _; left = _; right = _; walked-left = x .walked; walked-right = c .count-cuts3 .ensures _ _ (x .front); small = omega arith })
     (λ c. search needs)
     (λ c κs. omega arith)
-    (λ c f rest y. walked-leaf _ _ (parts-as _ f rest y (c .before .before .before .before .before .of .ensures) (c .before .before .before .k .given .1)) (c .before .owner-of .ensures .0) (c .over-none .ensures))
+    (λ c f rest y. walked-leaf (parts-as _ f rest y (c .before .before .before .before .before .of .ensures) (c .before .before .before .k .given .1)) (c .before .owner-of .ensures .0) (c .over-none .ensures))
     (λ c f rest y. walked-over-one (one-of y (c .before .before .before .before .before .before .of .ensures) (c .before .before .before .before .k2 .given .1)) (c .before .count-cuts .ensures) (c .over-one .ensures))
-    (λ c f rest y. walked-over-two (left-walked (two-of y (c .before .before .before .before .before .before .before .before .before .of .ensures) (c .before .before .before .before .before .before .before .k3 .given .1)) (c .before .before .before .before .count-cuts2 .ensures)) (c .before .count-cuts3 .ensures) (c .over-two .ensures))
+    (λ c f rest y. let e = c .before .before .before .before in
+    let x = left-walked (two-of y (e .before .before .before .before .before .of .ensures) (e .before .before .before .k3 .given .1)) (e .count-cuts2 .ensures) in
+    walked-over-two x (c .before .count-cuts3 .ensures) (c .over-two .ensures))
     (λ c f rest y. absurd (no-code (parts-as _ f rest y (c .before .before .before .of .ensures) (c .before .enum-told .given .1))))

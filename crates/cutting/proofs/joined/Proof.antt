@@ -1,7 +1,6 @@
 -- The scores added, and both parts looked at by the board that they are laid on. Assumes nothing.
-use mathlib.Core.Path.{sym, ap, ap₂, _∙_, subst}
+use mathlib.Core.Path.{ap, ap₂, _∙_}
 use Prim.Native.Nat.{_+_}
-use Rattle.scores.specs.Scored.{Few}
 use Rattle.scores.proofs.Added.{sums-few}
 use Rattle.cutting.specs.Cuts.{placeBy, lookedCuts}
 use Rattle.cutting.proofs.Looking.{cut-few}
@@ -10,41 +9,19 @@ use borrow.Author.Needs.{needs}
 use Rattle.cutting.proofs.joined.Statement.{statement}
 use Rattle.cutting.proofs.joined.Tie as tie
 
-plus-requires : tie.Need-plus-requires
-plus-requires c κs = search needs
-
-choice-of-requires : tie.Need-choice-of-requires
-choice-of-requires c κs = subst Few (sym (c .plus .ensures)) (sums-few (c .before .before .before .args .a .scores .counts) (c .before .before .before .args .b .scores .counts) (c .before .before .before .pre .scores))
-
-place-of-requires : tie.Need-place-of-requires
-place-of-requires c κs = search needs
-
-looked-requires : tie.Need-looked-requires
-looked-requires c κs = search needs
-
-looked-requires-2 : tie.Need-looked-requires-2
-looked-requires-2 c κs = search needs
-
-add-t11 : tie.Need-add-t11
-add-t11 c = let p = c .before .before .before .before .before .before .before .pre .cuts in let x = c .before .looked .ensures in let y = c .looked2 .ensures in let f = cut-few (c .before .before .before .before .before .before .before .args .a .choice) (c .before .before .place-of .result) in let g = cut-few (c .before .before .before .before .before .before .before .args .b .choice) (c .before .before .place-of .result) in omega arith
-
-returns : tie.Need-returns
-returns c =
-    let e = c .before .before .place-of .ensures ∙ ap (placeBy (c .before .before .before .before .before .before .before .args .on)) (c .before .before .before .choice-of .ensures) in
+pub joined-spec : {M : Type 1} → statement M
+joined-spec = tie.close (tie.spec
+    (λ c κs. search needs)
+    (λ c κs. rw (c .plus .ensures) (sums-few _ _ (c .before .before .before .pre .scores)))
+    (λ c κs. search needs)
+    (λ c κs. search needs)
+    (λ c κs. search needs)
+    (λ c. let a = c .before .before .before .before .before .before .before .args in let board = c .before .before .place-of .result in
+    let f = cut-few (a .a .choice) board in let g = cut-few (a .b .choice) board in omega arith)
+    (λ c. let a = c .before .before .before .before .before .before .before .args in
+    let e = c .before .before .place-of .ensures ∙ ap (placeBy _) (c .before .before .before .choice-of .ensures) in
     record {
       scores = c .before .before .before .before .plus .ensures;
       choice-is = c .before .before .before .choice-of .ensures;
-      cuts = ap₂ _+_ (c .before .looked .ensures ∙ ap (lookedCuts (c .before .before .before .before .before .before .before .args .a)) e) (c .looked2 .ensures ∙ ap (lookedCuts (c .before .before .before .before .before .before .before .args .b)) e);
-    }
-
-pub joined-spec : {M : Type 1} → statement M
-joined-spec =
-    tie.close
-    (tie.spec
-    plus-requires
-    choice-of-requires
-    place-of-requires
-    looked-requires
-    looked-requires-2
-    add-t11
-    returns)
+      cuts = ap₂ _+_ (c .before .looked .ensures ∙ ap (lookedCuts (a .a)) e) (c .looked2 .ensures ∙ ap (lookedCuts (a .b)) e);
+    }))

@@ -6,11 +6,7 @@ use borrow.Author.Needs.{needs}
 use Rattle.cutting.proofs.over_none.Statement.{statement}
 use Rattle.cutting.proofs.over_none.Tie as tie
 
-one-requires : tie.Need-one-requires
-one-requires c κs = search needs
-
-returns : tie.Need-returns
-returns c = (refl, c .one .ensures, (refl, choice-alone (c .before .args .owner) (c .before .pre) ∙ ap choiceOf (sym (c .one .ensures)), refl))
-
 pub over-none-spec : {M : Type 1} → statement M
-over-none-spec = tie.close (tie.spec one-requires returns)
+over-none-spec = tie.close (tie.spec
+    (λ c κs. search needs)
+    (λ c. (refl, c .one .ensures, (refl, choice-alone _ (c .before .pre) ∙ ap choiceOf (sym (c .one .ensures)), refl))))

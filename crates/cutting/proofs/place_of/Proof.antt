@@ -4,11 +4,7 @@ use Rattle.cutting.proofs.Looking.{place-own, place-given}
 use Rattle.cutting.proofs.place_of.Statement.{statement}
 use Rattle.cutting.proofs.place_of.Tie as tie
 
-returns : tie.Need-returns
-returns c = sym (place-own (c .before .args .on) (c .before .args .choice) (c .if1 .taken))
-
-returns-2 : tie.Need-returns-2
-returns-2 c = sym (place-given (c .before .args .on) (c .before .args .choice) (c .if1 .left))
-
 pub place-of-spec : {M : Type 1} → statement M
-place-of-spec = tie.close (tie.spec returns returns-2)
+place-of-spec = tie.close (tie.spec
+    (λ c. sym (place-own _ _ (c .if1 .taken)))
+    (λ c. sym (place-given _ _ (c .if1 .left))))

@@ -1,38 +1,28 @@
 -- Its length is that of the formula that was read. Assumes nothing.
 use mathlib.Core.Path.{ap, _∙_}
-use Rattle.nodes.proofs.Fronts.{front-length, begins-some}
+use Prim.Native.Nat.{_≤_}
+use Rattle.ltl.specs.Formula.{size}
+use Rattle.nodes.proofs.Fronts.{front-length}
 use Rattle.cutting.specs.Cuts.{placeBy}
 use Rattle.marking.proofs.Tops.{whole-over}
+use Rattle.marking.proofs.Walks.{asks-some}
 use native.Mathlib.Omega.{arith}
 use borrow.Author.Needs.{needs}
 use Rattle.marking.proofs.mark_whole.Statement.{statement}
 use Rattle.marking.proofs.mark_whole.Tie as tie
 
-tally-requires : tie.Need-tally-requires
-tally-requires c κs = (c .before .before .before .pre .0, c .before .before .before .pre .1, c .before .before .before .pre .3)
-
-choice-of-requires : tie.Need-choice-of-requires
-choice-of-requires c κs = λ i. let b = c .before .before .before .before .before .pre .0 in let t = c .before .tally .ensures (b .formula) (b .rest) (b .front) .1 .few i in let l = front-length (c .before .before .before .before .before .args .u .now) (b .formula) (b .rest) (b .front) in let n = c .before .before .before .before .before .pre .3 in omega arith
-
-place-of-requires : tie.Need-place-of-requires
-place-of-requires c κs = search needs
-
-seal-requires : tie.Need-seal-requires
-seal-requires c κs = let b = c .before .before .before .before .before .before .before .before .pre .0 in let t = c .before .before .before .before .tally .ensures (b .formula) (b .rest) (b .front) .0 in let l = front-length (c .before .before .before .before .before .before .before .before .args .u .now) (b .formula) (b .rest) (b .front) in let m = c .before .before .before .before .before .before .before .before .pre .2 in let n = c .before .before .before .before .before .before .before .before .pre .3 in let s = begins-some (c .before .before .before .before .before .before .before .before .args .u .now) (c .before .before .before .before .before .before .before .before .pre .0) in (omega arith, omega arith)
-
-same-length : tie.Need-same-length
-same-length c = search needs
-
-returns : tie.Need-returns
-returns c = λ f rest y. whole-over (c .before .before .before .before .before .before .before .before .before .before .before .args .on) (c .before .before .before .before .before .before .before .tally .ensures f rest y) (c .before .before .before .before .place-of .ensures ∙ ap (placeBy (c .before .before .before .before .before .before .before .before .before .before .before .args .on)) (c .before .before .before .before .before .choice-of .ensures)) (c .before .before .seal .ensures)
+-- the formula in front has few nodes
+few : (a : tie.Start) → size (a .pre .0 .formula) ≤ 4096
+few a = let l = front-length _ _ _ (a .pre .0 .front) in omega arith
 
 pub mark-whole-spec : {M : Type 1} → statement M
-mark-whole-spec =
-    tie.close
-    (tie.spec
-    tally-requires
-    choice-of-requires
-    place-of-requires
-    seal-requires
-    same-length
-    returns)
+mark-whole-spec = tie.close (tie.spec
+    (λ c κs. let p = c .before .before .before .pre in (p .0, p .1, p .3))
+    (λ c κs i. let a = c .before .before .before .before .before in let x = few a in
+    let t = c .before .tally .ensures _ _ (a .pre .0 .front) .1 .few i in omega arith)
+    (λ c κs. search needs)
+    (λ c κs. let a = c .before .before .before .before .before .before .before .before in let x = few a in
+    let t = c .before .before .before .before .tally .ensures _ _ (a .pre .0 .front) .0 in (asks-some (a .args .marks .now) (a .pre), omega arith))
+    (λ c. search needs)
+    (λ c f rest y. let d = c .before .before .before .before in
+    whole-over (d .before .before .before .tally .ensures f rest y) (d .place-of .ensures ∙ ap (placeBy _) (d .before .choice-of .ensures)) (c .before .before .seal .ensures)))

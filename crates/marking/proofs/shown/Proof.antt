@@ -5,14 +5,8 @@ use borrow.Author.Needs.{needs}
 use Rattle.marking.proofs.shown.Statement.{statement}
 use Rattle.marking.proofs.shown.Tie as tie
 
-stays-on-requires : tie.Need-stays-on-requires
-stays-on-requires c κs = search needs
-
-returns : tie.Need-returns
-returns c = sym (shown-stays (c .before .before .args .a .board) (c .before .before .args .a .here) (c .before .before .args .board) (sym (c .before .stays-on .ensures) ∙ c .if1 .taken))
-
-returns-2 : tie.Need-returns-2
-returns-2 c = sym (shown-cut (c .before .before .args .a .board) (c .before .before .args .a .here) (c .before .before .args .board) (sym (c .before .stays-on .ensures) ∙ c .if1 .left))
-
 pub shown-spec : {M : Type 1} → statement M
-shown-spec = tie.close (tie.spec stays-on-requires returns returns-2)
+shown-spec = tie.close (tie.spec
+    (λ c κs. search needs)
+    (λ c. sym (shown-stays _ _ _ (sym (c .before .stays-on .ensures) ∙ c .if1 .taken)))
+    (λ c. sym (shown-cut _ _ _ (sym (c .before .stays-on .ensures) ∙ c .if1 .left))))

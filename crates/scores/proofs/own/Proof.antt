@@ -17,60 +17,16 @@ Inv-loop mask board owner₀ left₀ owner left = (length owner ≡ 64) × ((i :
 abbrev μ-loop : tie.MeasureT-loop
 μ-loop mask board owner₀ left₀ owner left = left
 
-loop-holds : tie.Need-loop-holds Inv-loop μ-loop
-loop-holds c = (c .before .pre, λ i. refl)
-
-lowest-requires : tie.Need-lowest-requires Inv-loop μ-loop
-lowest-requires c κs = search needs
-
-cast-owner : tie.Need-cast-owner Inv-loop μ-loop
-cast-owner c = search needs
-
-slice-write-owner : tie.Need-slice-write-owner Inv-loop μ-loop
-slice-write-owner c =
-    let k = c .before .before .loop .inv .0 in
-    let l = c .lowest .ensures .0 in
-    omega arith
-
-sub-left : tie.Need-sub-left Inv-loop μ-loop
-sub-left c = search needs
-
-loop-less : tie.Need-loop-less Inv-loop μ-loop
-loop-less c =
-    let z = c .before .loop-test .taken in
-    let l = and-le-r (c .before .before .loop .left) (c .before .before .loop .left - 1) in
-    omega arith
-
-loop-again : tie.Need-loop-again Inv-loop μ-loop
-loop-again c =
-    let k = c .before .before .loop .inv in
-    let l = c .lowest .ensures in
-    let z = c .before .loop-test .taken in (
-      simp length-set (k .0),
-      λ i. own-more (c .before .before .loop .owner) (c .before .before .loop .left) (c .lowest .result) (c .before .before .before .before .args .board) (omega arith) (omega arith) (l .1, l .2) i ∙ k .1 i,
-    )
-
-same-length : tie.Need-same-length Inv-loop μ-loop
-same-length c =
-    let k = c .before .loop .inv .0 in
-    let e = c .before .before .before .pre in
-    omega arith
-
-returns : tie.Need-returns Inv-loop μ-loop
-returns c = λ i. sym (own-done i (c .before .before .before .args .board) (getD (c .before .loop .owner) i 0)) ∙ rw (c .loop-test .left) at (c .before .loop .inv .1 i)
-
 pub own-spec : {M : Type 1} → statement M
-own-spec =
-    tie.close
-    (tie.spec
-    Inv-loop
-    μ-loop
-    loop-holds
-    lowest-requires
-    cast-owner
-    slice-write-owner
-    sub-left
-    loop-less
-    loop-again
-    same-length
-    returns)
+own-spec = tie.close (tie.spec Inv-loop μ-loop
+    (λ c. (c .before .pre, λ i. refl))
+    (λ c κs. search needs)
+    (λ c. search needs)
+    (λ c. omega arith)
+    (λ c. search needs)
+    (λ c. let l = and-le-r (c .before .before .loop .left) (c .before .before .loop .left - 1) in omega arith)
+    (λ c. let d = c .before .before .loop in
+    let l = c .lowest .ensures in
+    (simp length-set (d .inv .0), λ i. own-more (d .owner) (d .left) (c .lowest .result) _ (omega arith) (omega arith) (l .1, l .2) i ∙ d .inv .1 i))
+    (λ c. omega arith)
+    (λ c i. sym (own-done i _ _) ∙ rw (c .loop-test .left) at (c .before .loop .inv .1 i)))

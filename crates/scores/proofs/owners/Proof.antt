@@ -1,7 +1,7 @@
 -- The owner that a proposition has once the masks left were looked at stays the same (`assigned-more`); at the end none is left.
 -- `owns` says what the table is then. Assumes nothing.
-use mathlib.Core.Path.{_≡_, refl, sym, ap, _∙_}
-use Prim.Native.Nat.{ℕ, _+_, _-_, _≤_}
+use mathlib.Core.Path.{_≡_, refl, sym, _∙_}
+use Prim.Native.Nat.{ℕ, _-_, _≤_}
 use lib.ListN.{length, getD, drop}
 use Rattle.scores.proofs.Assigned.{assigned, assigned-more, assigned-done, owns}
 use native.Mathlib.Omega.{arith}
@@ -15,64 +15,21 @@ Inv-loop masks owner₀ board₀ owner board = (board ≤ length masks) × (leng
 abbrev μ-loop : tie.MeasureT-loop
 μ-loop masks owner₀ board₀ owner board = length masks - board
 
-loop-holds : tie.Need-loop-holds Inv-loop μ-loop
-loop-holds c = (omega arith, c .before .before .pre .1 .long, λ i. refl)
-
-mul-own : tie.Need-mul-own Inv-loop μ-loop
-mul-own c = search needs
-
-shared-slice-read-own : tie.Need-shared-slice-read-own Inv-loop μ-loop
-shared-slice-read-own c = search needs
-
-cast-own : tie.Need-cast-own Inv-loop μ-loop
-cast-own c = search needs
-
-own-requires : tie.Need-own-requires Inv-loop μ-loop
-own-requires c κs = c .before .before .before .loop .inv .1
-
-add-board : tie.Need-add-board Inv-loop μ-loop
-add-board c = search needs
-
-loop-less : tie.Need-loop-less Inv-loop μ-loop
-loop-less c = omega arith
-
-loop-again : tie.Need-loop-again Inv-loop μ-loop
-loop-again c =
-    let k = c .before .before .before .before .before .before .loop .inv in (
-      omega arith,
-      c .before .before .own .kept .1 .1 .0 ∙ k .1,
-      λ i.
-          ap (λ (x : ℕ). assigned x (c .before .before .before .before .before .before .loop .board + 1) (drop (c .before .before .before .before .before .before .loop .board + 1) (c .before .before .before .before .before .before .before .before .before .args .masks .now)) i) (c .before .before .own .ensures i)
-          ∙ assigned-more (getD (c .before .before .before .before .before .before .loop .owner) i 0) (c .before .before .before .before .before .before .loop .board) (c .before .before .before .before .before .before .before .before .before .args .masks .now) i (omega arith)
-          ∙ k .2 i,
-    )
-
-same-length : tie.Need-same-length Inv-loop μ-loop
-same-length c =
-    let k = c .before .loop .inv .1 in
-    let e = c .before .before .before .before .pre .1 .long in
-    omega arith
-
-returns : tie.Need-returns Inv-loop μ-loop
-returns c =
-    let k = c .before .loop .inv in
-    let t = c .before .before .before .before .pre .1 in
-    owns (c .before .before .before .before .args .masks .now) (c .before .before .before .before .args .owner .now) (c .before .loop .owner) (c .before .before .before .before .pre .0) t (k .1 ∙ sym (t .long))
-    (λ i. sym (assigned-done (getD (c .before .loop .owner) i 0) (c .before .loop .board) (c .before .before .before .before .args .masks .now) i (omega arith)) ∙ k .2 i)
-
 pub owners-spec : {M : Type 1} → statement M
-owners-spec =
-    tie.close
-    (tie.spec
-    Inv-loop
-    μ-loop
-    loop-holds
-    mul-own
-    shared-slice-read-own
-    cast-own
-    own-requires
-    add-board
-    loop-less
-    loop-again
-    same-length
-    returns)
+owners-spec = tie.close (tie.spec Inv-loop μ-loop
+    (λ c. (omega arith, c .before .before .pre .1 .long, λ i. refl))
+    (λ c. search needs)
+    (λ c. search needs)
+    (λ c. search needs)
+    (λ c κs. c .before .before .before .loop .inv .1)
+    (λ c. search needs)
+    (λ c. omega arith)
+    (λ c. let d = c .before .before .before .before .before .before .loop in
+    let masks = c .before .before .before .before .before .before .before .before .before .args .masks .now in
+    (omega arith, omega arith, λ i. rw (c .before .before .own .ensures i) (assigned-more (getD (d .owner) i 0) (d .board) masks i (omega arith)) ∙ d .inv .2 i))
+    (λ c. omega arith)
+    (λ c. let d = c .before .loop in
+    let a = c .before .before .before .before in
+    let masks = a .args .masks .now in
+    owns masks (a .args .owner .now) (d .owner) (a .pre .0) (a .pre .1) (omega arith)
+    (λ i. sym (assigned-done (getD (d .owner) i 0) (d .board) masks i (omega arith)) ∙ d .inv .2 i)))

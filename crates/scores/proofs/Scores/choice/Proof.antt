@@ -18,36 +18,18 @@ Inv-loop counts most₀ b₀ most b = (b ≤ 16) × (length counts ≡ 16) × Be
 abbrev μ-loop : tie.MeasureT-loop
 μ-loop counts most₀ b₀ most b = 16 - b
 
-loop-holds : tie.Need-loop-holds Inv-loop μ-loop
-loop-holds c = (search needs, search needs, inl (omega arith), key-first _)
-
-mul-key : tie.Need-mul-key Inv-loop μ-loop
-mul-key c = search needs
-
-array-read-key : tie.Need-array-read-key Inv-loop μ-loop
-array-read-key c = search needs
-
-mul-key-2 : tie.Need-mul-key-2 Inv-loop μ-loop
-mul-key-2 c = search needs
-
-cast-key : tie.Need-cast-key Inv-loop μ-loop
-cast-key c = search needs
-
-sub-key : tie.Need-sub-key Inv-loop μ-loop
-sub-key c = search needs
-
-add-key : tie.Need-add-key Inv-loop μ-loop
-add-key c = search needs
-
-add-b : tie.Need-add-b Inv-loop μ-loop
-add-b c = search needs
-
-loop-less : tie.Need-loop-less Inv-loop μ-loop
-loop-less c = search needs
-
-loop-again : tie.Need-loop-again Inv-loop μ-loop
-loop-again c =
-    let k = c .before .before .loop .inv in
+pub choice-spec : {M : Type 1} → statement M
+choice-spec = tie.close (tie.spec Inv-loop μ-loop
+    (λ c. (search needs, search needs, inl (omega arith), key-first _))
+    (λ c. search needs)
+    (λ c. search needs)
+    (λ c. search needs)
+    (λ c. search needs)
+    (λ c. search needs)
+    (λ c. search needs)
+    (λ c. search needs)
+    (λ c. search needs)
+    (λ c. let k = c .before .before .loop .inv in
     let b = c .before .before .loop .b in
     let most = c .before .before .loop .most in
     let counts = c .before .before .before .before .args .self .counts in
@@ -65,43 +47,12 @@ loop-again c =
           (λ w. rw (w .1) (key-higher most b counts i (k .1) key e (k .2) (w .0 .taken) ∙ k .3))
           (λ w. rw (w .1) (key-not most b counts i (k .1) key e (w .0 .left) ∙ k .3))
           (c .if1 .came),
-    )
-
-returns : tie.Need-returns Inv-loop μ-loop
-returns c =
-    let k = c .before .before .loop .inv in
-    let e : c .before .before .loop .b ≡ 16 = omega arith in
-    key-none (c .before .before .loop .most) (c .before .before .before .before .args .self .counts) (omega arith) (c .if2 .taken) ∙ rw e at (k .3)
-
-cast-t17 : tie.Need-cast-t17 Inv-loop μ-loop
-cast-t17 c = search needs
-
-sub-t18 : tie.Need-sub-t18 Inv-loop μ-loop
-sub-t18 c = search needs
-
-returns-2 : tie.Need-returns-2 Inv-loop μ-loop
-returns-2 c =
-    let k = c .before .before .loop .inv in
-    let e : c .before .before .loop .b ≡ 16 = omega arith in
-    key-board (c .before .before .loop .most) (c .before .before .before .before .args .self .counts) (omega arith) (c .if2 .left) ∙ rw e at (k .3)
-
-pub choice-spec : {M : Type 1} → statement M
-choice-spec =
-    tie.close
-    (tie.spec
-    Inv-loop
-    μ-loop
-    loop-holds
-    mul-key
-    array-read-key
-    mul-key-2
-    cast-key
-    sub-key
-    add-key
-    add-b
-    loop-less
-    loop-again
-    returns
-    cast-t17
-    sub-t18
-    returns-2)
+    ))
+    (λ c. let d = c .before .before .loop in
+    let e : d .b ≡ 16 = omega arith in
+    key-none (d .most) (c .before .before .before .before .args .self .counts) (omega arith) (c .if2 .taken) ∙ rw e at (d .inv .3))
+    (λ c. search needs)
+    (λ c. search needs)
+    (λ c. let d = c .before .before .loop in
+    let e : d .b ≡ 16 = omega arith in
+    key-board (d .most) (c .before .before .before .before .args .self .counts) (omega arith) (c .if2 .left) ∙ rw e at (d .inv .3)))

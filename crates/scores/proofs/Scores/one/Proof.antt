@@ -15,51 +15,21 @@ Inv-loop board own counts₀ b₀ counts b = (b ≤ 16) × (length counts ≡ 16
 abbrev μ-loop : tie.MeasureT-loop
 μ-loop board own counts₀ b₀ counts b = 16 - b
 
-cast-own : tie.Need-cast-own Inv-loop μ-loop
-cast-own c = search needs
-
-loop-holds : tie.Need-loop-holds Inv-loop μ-loop
-loop-holds c = (search needs, search needs, alone-none _)
-
-mul-counts : tie.Need-mul-counts Inv-loop μ-loop
-mul-counts c = search needs
-
-array-write-counts : tie.Need-array-write-counts Inv-loop μ-loop
-array-write-counts c = search needs
-
-add-b : tie.Need-add-b Inv-loop μ-loop
-add-b c = search needs
-
-loop-less : tie.Need-loop-less Inv-loop μ-loop
-loop-less c = search needs
-
-loop-again : tie.Need-loop-again Inv-loop μ-loop
-loop-again c =
-    let k = c .before .before .loop .inv in
+pub one-spec : {M : Type 1} → statement M
+one-spec = tie.close (tie.spec Inv-loop μ-loop
+    (λ c. search needs)
+    (λ c. (search needs, search needs, alone-none _))
+    (λ c. search needs)
+    (λ c. search needs)
+    (λ c. search needs)
+    (λ c. search needs)
+    (λ c. let k = c .before .before .loop .inv in
     let own = c .before .before .before .args .board in
     let b = c .before .before .loop .b in (
       omega arith,
       simp length-set (k .1),
       rw (k .2) (⊎-elim (λ w. rw (w .1) (alone-own own b (w .0 .taken))) (λ w. rw (w .1) (alone-other own b (w .0 .left))) (c .if1 .came)),
-    )
-
-returns : tie.Need-returns Inv-loop μ-loop
-returns c =
-    let k = c .before .loop .inv in
+    ))
+    (λ c. let k = c .before .loop .inv in
     let e : c .before .loop .b ≡ 16 = omega arith in
-    k .2 ∙ rw e (alone-all (c .before .before .args .board) (c .before .before .pre))
-
-pub one-spec : {M : Type 1} → statement M
-one-spec =
-    tie.close
-    (tie.spec
-    Inv-loop
-    μ-loop
-    cast-own
-    loop-holds
-    mul-counts
-    array-write-counts
-    add-b
-    loop-less
-    loop-again
-    returns)
+    k .2 ∙ rw e (alone-all (c .before .before .args .board) (c .before .before .pre))))
