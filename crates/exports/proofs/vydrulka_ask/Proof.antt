@@ -7,21 +7,6 @@ use borrow.Author.Needs.{needs}
 use Rattle.exports.proofs.vydrulka_ask.Statement.{statement}
 use Rattle.exports.proofs.vydrulka_ask.Tie as tie
 
-ask-requires : tie.Need-ask-requires
-ask-requires c κs = search needs
-
-enum-known-answer : tie.Need-enum-known-answer
-enum-known-answer c = search needs
-
-number-requires : tie.Need-number-requires
-number-requires c κs = search needs
-
-enum-known-answer-2 : tie.Need-enum-known-answer-2
-enum-known-answer-2 c = search needs
-
-number-requires-2 : tie.Need-number-requires-2
-number-requires-2 c κs = search needs
-
 returns : tie.Need-returns
 returns c = let e = rw (c .before .before .answer .given .1) at (c .before .before .before .before .ask .ensures .says) in
     let w = c .before .before .answer .given .0 .0 in
@@ -37,10 +22,10 @@ pub vydrulka-ask-spec : {M : Type 1} → statement M
 vydrulka-ask-spec =
     tie.close
     (tie.spec
-    ask-requires
-    enum-known-answer
-    number-requires
-    enum-known-answer-2
-    number-requires-2
+    (λ c κs. search needs)
+    (λ c. search needs)
+    (λ c κs. search needs)
+    (λ c. search needs)
+    (λ c κs. search needs)
     returns
     returns-2)

@@ -7,32 +7,11 @@ use Rattle.exports.proofs.Values.{value-refused, value-accepted}
 use Rattle.exports.proofs.vydrulka_central.Statement.{statement}
 use Rattle.exports.proofs.vydrulka_central.Tie as tie
 
-central-requires : tie.Need-central-requires
-central-requires c κs = search needs
-
-enum-known-answer : tie.Need-enum-known-answer
-enum-known-answer c = search needs
-
-number-requires : tie.Need-number-requires
-number-requires c κs = search needs
-
-enum-known-answer-2 : tie.Need-enum-known-answer-2
-enum-known-answer-2 c = search needs
-
-number-requires-2 : tie.Need-number-requires-2
-number-requires-2 c κs = search needs
-
-same-length : tie.Need-same-length
-same-length c = search needs
-
 returns : tie.Need-returns
 returns c =
     let e = rw (c .before .before .answer .given .1) at (c .before .before .before .before .before .before .central .ensures .says) in
     let w = c .before .before .answer .given .0 .0 in
     record { says = c .number .ensures ∙ ap (λ (s : Said). s .number) e; leaves = c .before .before .before .before .before .before .central .ensures .leaves; gives-verdict = value-refused w 0 _ e; gives-length = value-refused w 1 _ e }
-
-same-length-2 : tie.Need-same-length-2
-same-length-2 c = search needs
 
 returns-2 : tie.Need-returns-2
 returns-2 c =
@@ -45,12 +24,12 @@ pub vydrulka-central-spec : {M : Type 1} → statement M
 vydrulka-central-spec =
     tie.close
     (tie.spec
-    central-requires
-    enum-known-answer
-    number-requires
-    enum-known-answer-2
-    number-requires-2
-    same-length
+    (λ c κs. search needs)
+    (λ c. search needs)
+    (λ c κs. search needs)
+    (λ c. search needs)
+    (λ c κs. search needs)
+    (λ c. search needs)
     returns
-    same-length-2
+    (λ c. search needs)
     returns-2)

@@ -7,35 +7,11 @@ use Rattle.exports.proofs.Values.{value-refused, value-accepted}
 use Rattle.exports.proofs.vydrulka_read.Statement.{statement}
 use Rattle.exports.proofs.vydrulka_read.Tie as tie
 
-read-requires : tie.Need-read-requires
-read-requires c κs = search needs
-
-enum-known-answer : tie.Need-enum-known-answer
-enum-known-answer c = search needs
-
-number-requires : tie.Need-number-requires
-number-requires c κs = search needs
-
-enum-known-answer-2 : tie.Need-enum-known-answer-2
-enum-known-answer-2 c = search needs
-
-same-length : tie.Need-same-length
-same-length c = search needs
-
-same-length-2 : tie.Need-same-length-2
-same-length-2 c = search needs
-
 returns : tie.Need-returns
 returns c =
     let e = rw (c .before .before .answer .given .1) at (c .before .before .before .before .before .before .before .before .read .ensures .says) in
     let w = c .before .before .answer .given .0 .0 in
     record { says = c .number .ensures ∙ ap (λ (s : Said). s .number) e; leaves-masks = c .before .before .before .before .before .before .before .before .read .ensures .leaves-masks; leaves-formula = c .before .before .before .before .before .before .before .before .read .ensures .leaves-formula; gives-boards = value-refused w 0 _ e; gives-propositions = value-refused w 1 _ e; gives-nodes = value-refused w 2 _ e }
-
-same-length-3 : tie.Need-same-length-3
-same-length-3 c = search needs
-
-same-length-4 : tie.Need-same-length-4
-same-length-4 c = search needs
 
 returns-2 : tie.Need-returns-2
 returns-2 c =
@@ -48,13 +24,13 @@ pub vydrulka-read-spec : {M : Type 1} → statement M
 vydrulka-read-spec =
     tie.close
     (tie.spec
-    read-requires
-    enum-known-answer
-    number-requires
-    enum-known-answer-2
-    same-length
-    same-length-2
+    (λ c κs. search needs)
+    (λ c. search needs)
+    (λ c κs. search needs)
+    (λ c. search needs)
+    (λ c. search needs)
+    (λ c. search needs)
     returns
-    same-length-3
-    same-length-4
+    (λ c. search needs)
+    (λ c. search needs)
     returns-2)

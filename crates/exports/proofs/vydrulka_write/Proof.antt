@@ -7,29 +7,11 @@ use Rattle.exports.proofs.Values.{value-refused, value-accepted}
 use Rattle.exports.proofs.vydrulka_write.Statement.{statement}
 use Rattle.exports.proofs.vydrulka_write.Tie as tie
 
-write-requires : tie.Need-write-requires
-write-requires c κs = search needs
-
-enum-known-answer : tie.Need-enum-known-answer
-enum-known-answer c = search needs
-
-number-requires : tie.Need-number-requires
-number-requires c κs = search needs
-
-enum-known-answer-2 : tie.Need-enum-known-answer-2
-enum-known-answer-2 c = search needs
-
-same-length : tie.Need-same-length
-same-length c = search needs
-
 returns : tie.Need-returns
 returns c =
     let e = rw (c .before .before .answer .given .1) at (c .before .before .before .before .before .before .write .ensures .says) in
     let w = c .before .before .answer .given .0 .0 in
     record { says = c .number .ensures ∙ ap (λ (s : Said). s .number) e; leaves = c .before .before .before .before .before .before .write .ensures .leaves; gives-length = value-refused w 0 _ e }
-
-same-length-2 : tie.Need-same-length-2
-same-length-2 c = search needs
 
 returns-2 : tie.Need-returns-2
 returns-2 c =
@@ -41,11 +23,11 @@ pub vydrulka-write-spec : {M : Type 1} → statement M
 vydrulka-write-spec =
     tie.close
     (tie.spec
-    write-requires
-    enum-known-answer
-    number-requires
-    enum-known-answer-2
-    same-length
+    (λ c κs. search needs)
+    (λ c. search needs)
+    (λ c κs. search needs)
+    (λ c. search needs)
+    (λ c. search needs)
     returns
-    same-length-2
+    (λ c. search needs)
     returns-2)

@@ -15,38 +15,6 @@ Inv-loop s at w v₀ i₀ v i = (i ≤ w) × (v ≡ leAt s (at + i) (w - i)) × 
 abbrev μ-loop : tie.MeasureT-loop
 μ-loop s at w v₀ i₀ v i = i
 
-loop-holds : tie.Need-loop-holds Inv-loop μ-loop
-loop-holds c =
-    let z = leAt-none (c .before .args .s .now) (c .before .args .at + c .before .args .w) (c .before .args .w - c .before .args .w) (omega arith) in
-    (search needs, z .0, z .1)
-
-sub-i : tie.Need-sub-i Inv-loop μ-loop
-sub-i c = search needs
-
-mul-v : tie.Need-mul-v Inv-loop μ-loop
-mul-v c = let r = number-room (c .before .before .before .args .w - c .before .loop .i) (c .before .loop .v) 0 (omega arith) (c .before .loop .inv .2) (omega arith) in omega arith
-
-add-wide : tie.Need-add-wide Inv-loop μ-loop
-add-wide c = search needs
-
-shared-slice-read-wide : tie.Need-shared-slice-read-wide Inv-loop μ-loop
-shared-slice-read-wide c = search needs
-
-wide-requires : tie.Need-wide-requires Inv-loop μ-loop
-wide-requires c κs = search needs
-
-add-v : tie.Need-add-v Inv-loop μ-loop
-add-v c = record { fits = number-room (c .before .before .before .before .before .args .w - c .before .before .before .loop .i) _ _ (omega arith) (c .before .before .before .loop .inv .2) (c .wide .ensures .1) }
-
-loop-less : tie.Need-loop-less Inv-loop μ-loop
-loop-less c = search needs
-
-loop-again : tie.Need-loop-again Inv-loop μ-loop
-loop-again c =
-    let k = c .before .before .before .loop .inv in
-    let h = c .before .before .loop-test .taken in
-    (omega arith, leAt-turn _ _ _ _ _ _ h (k .0) (k .1) (c .wide .ensures .0), number-grows _ _ _ _ h (k .0) (k .2) (c .wide .ensures .1))
-
 returns : tie.Need-returns Inv-loop μ-loop
 returns c =
     let k = c .before .loop .inv in
@@ -61,13 +29,19 @@ number-at-spec =
     (tie.spec
     Inv-loop
     μ-loop
-    loop-holds
-    sub-i
-    mul-v
-    add-wide
-    shared-slice-read-wide
-    wide-requires
-    add-v
-    loop-less
-    loop-again
+    (λ c.
+    let z = leAt-none (c .before .args .s .now) (c .before .args .at + c .before .args .w) (c .before .args .w - c .before .args .w) (omega arith) in
+    (search needs, z .0, z .1))
+    (λ c. search needs)
+    (λ c.
+    let r = number-room (c .before .before .before .args .w - c .before .loop .i) (c .before .loop .v) 0 (omega arith) (c .before .loop .inv .2) (omega arith) in omega arith)
+    (λ c. search needs)
+    (λ c. search needs)
+    (λ c κs. search needs)
+    (λ c. record { fits = number-room (c .before .before .before .before .before .args .w - c .before .before .before .loop .i) _ _ (omega arith) (c .before .before .before .loop .inv .2) (c .wide .ensures .1) })
+    (λ c. search needs)
+    (λ c.
+    let k = c .before .before .before .loop .inv in
+    let h = c .before .before .loop-test .taken in
+    (omega arith, leAt-turn _ _ _ _ _ _ h (k .0) (k .1) (c .wide .ensures .0), number-grows _ _ _ _ h (k .0) (k .2) (c .wide .ensures .1)))
     returns)

@@ -16,35 +16,6 @@ Inv-loop s₀ at w v x₀ k₀ s x k =
 abbrev μ-loop : tie.MeasureT-loop
 μ-loop s₀ at w v x₀ k₀ s x k = w - k
 
-loop-holds : tie.Need-loop-holds Inv-loop μ-loop
-loop-holds c =
-    let e : c .args .w - 0 ≡ c .args .w = omega arith in
-    let f : c .args .at + 0 ≡ c .args .at = omega arith in
-    (search needs, refl, rw (e, f))
-
-cast-s : tie.Need-cast-s Inv-loop μ-loop
-cast-s c = search needs
-
-add-s : tie.Need-add-s Inv-loop μ-loop
-add-s c = search needs
-
-slice-write-s : tie.Need-slice-write-s Inv-loop μ-loop
-slice-write-s c = search needs
-
-add-k : tie.Need-add-k Inv-loop μ-loop
-add-k c = search needs
-
-loop-less : tie.Need-loop-less Inv-loop μ-loop
-loop-less c = search needs
-
-loop-again : tie.Need-loop-again Inv-loop μ-loop
-loop-again c =
-    let k = c .before .loop .inv in
-    (omega arith, simp length-set (k .1), spliced-turn (c .before .loop .s) _ _ _ _ (c .loop-test .taken) (omega arith) ∙ k .2)
-
-same-length : tie.Need-same-length Inv-loop μ-loop
-same-length c = c .before .loop .inv .1
-
 returns : tie.Need-returns Inv-loop μ-loop
 returns c =
     let w = c .before .before .args .w in
@@ -58,12 +29,17 @@ put-at-spec =
     (tie.spec
     Inv-loop
     μ-loop
-    loop-holds
-    cast-s
-    add-s
-    slice-write-s
-    add-k
-    loop-less
-    loop-again
-    same-length
+    (λ c.
+    let e : c .args .w - 0 ≡ c .args .w = omega arith in
+    let f : c .args .at + 0 ≡ c .args .at = omega arith in
+    (search needs, refl, rw (e, f)))
+    (λ c. search needs)
+    (λ c. search needs)
+    (λ c. search needs)
+    (λ c. search needs)
+    (λ c. search needs)
+    (λ c.
+    let k = c .before .loop .inv in
+    (omega arith, simp length-set (k .1), spliced-turn (c .before .loop .s) _ _ _ _ (c .loop-test .taken) (omega arith) ∙ k .2))
+    (λ c. c .before .loop .inv .1)
     returns)

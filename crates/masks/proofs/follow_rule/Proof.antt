@@ -7,15 +7,6 @@ use borrow.Author.Needs.{needs}
 use Rattle.masks.proofs.follow_rule.Statement.{statement}
 use Rattle.masks.proofs.follow_rule.Tie as tie
 
-sum-ones-requires : tie.Need-sum-ones-requires
-sum-ones-requires c κs = search needs
-
-union-requires : tie.Need-union-requires
-union-requires c κs = search needs
-
-low-bits-requires : tie.Need-low-bits-requires
-low-bits-requires c κs = search needs
-
 returns : tie.Need-returns
 unfolding masksRule both
 returns c = rw (c .before .union .ensures, c .low-bits .ensures, eq-eqb _ _ (sym (c .before .before .before .sum-ones .ensures) ∙ c .before .before .if1 .taken))
@@ -26,4 +17,4 @@ returns-2 c = rw (ne-eqb _ _ (λ e. c .if1 .left (c .before .sum-ones .ensures �
 
 pub follow-rule-spec : {M : Type 1} → statement M
 follow-rule-spec =
-    tie.close (tie.spec sum-ones-requires union-requires low-bits-requires returns returns-2)
+    tie.close (tie.spec (λ c κs. search needs) (λ c κs. search needs) (λ c κs. search needs) returns returns-2)

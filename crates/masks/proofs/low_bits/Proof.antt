@@ -11,17 +11,5 @@ use Rattle.masks.proofs.low_bits.Tie as tie
 below : (c : tie.Else1) → c .before .args .p < 64
 below c = lt-of-le-ne (c .before .pre) (c .if1 .left)
 
-shl-result : tie.Need-shl-result
-shl-result c = search needs
-
-sub-result : tie.Need-sub-result
-sub-result c = rw (one-shifted _ (below c)) (pow-pos _)
-
-returns : tie.Need-returns
-returns c = rw (c .if1 .taken)
-
-returns-2 : tie.Need-returns-2
-returns-2 c = rw (one-shifted _ (below c))
-
 pub low-bits-spec : {M : Type 1} → statement M
-low-bits-spec = tie.close (tie.spec shl-result sub-result returns returns-2)
+low-bits-spec = tie.close (tie.spec (λ c. search needs) (λ c. rw (one-shifted _ (below c)) (pow-pos _)) (λ c. rw (c .if1 .taken)) (λ c. rw (one-shifted _ (below c))))

@@ -22,48 +22,21 @@ counted : (c : tie.After-shared-slice-known Inv-loop μ-loop)
     → ones (getD (c .before .before .before .args .masks .now) (c .before .before .loop .i) 0) ≡ onesOf (getD (c .before .before .before .args .masks .now) (c .before .before .loop .i) 0)
 counted c = ones-is _ (c .shared-slice-known .given (c .before .before .loop .i) .fits)
 
-loop-holds : tie.Need-loop-holds Inv-loop μ-loop
-loop-holds c = omega arith
-
-mul-sum : tie.Need-mul-sum Inv-loop μ-loop
-mul-sum c = search needs
-
-shared-slice-read-sum : tie.Need-shared-slice-read-sum Inv-loop μ-loop
-shared-slice-read-sum c = search needs
-
-cast-sum : tie.Need-cast-sum Inv-loop μ-loop
-cast-sum c = rw (counted c) (omega (arith, ones-few (getD (c .before .before .before .args .masks .now) (c .before .before .loop .i) 0)))
-
-add-sum : tie.Need-add-sum Inv-loop μ-loop
-add-sum c = rw (counted c) (omega (arith, ones-few (getD (c .before .before .before .args .masks .now) (c .before .before .loop .i) 0)))
-
-add-i : tie.Need-add-i Inv-loop μ-loop
-add-i c = search needs
-
-loop-less : tie.Need-loop-less Inv-loop μ-loop
-loop-less c = search needs
-
-loop-again : tie.Need-loop-again Inv-loop μ-loop
-loop-again c =
-    let i = c .before .before .loop .i in
-    let ms = c .before .before .before .args .masks .now in
-    rw (counted c) (omega (arith, ones-few (getD ms i 0), sumOnes-turn i ms (c .before .loop-test .taken)))
-
-returns : tie.Need-returns Inv-loop μ-loop
-returns c = omega (arith, sumOnes-done (c .before .loop .i) (c .before .before .args .masks .now) (c .loop-test .left))
-
 pub sum-ones-spec : {M : Type 1} → statement M
 sum-ones-spec =
     tie.close
     (tie.spec
     Inv-loop
     μ-loop
-    loop-holds
-    mul-sum
-    shared-slice-read-sum
-    cast-sum
-    add-sum
-    add-i
-    loop-less
-    loop-again
-    returns)
+    (λ c. omega arith)
+    (λ c. search needs)
+    (λ c. search needs)
+    (λ c. rw (counted c) (omega (arith, ones-few (getD (c .before .before .before .args .masks .now) (c .before .before .loop .i) 0))))
+    (λ c. rw (counted c) (omega (arith, ones-few (getD (c .before .before .before .args .masks .now) (c .before .before .loop .i) 0))))
+    (λ c. search needs)
+    (λ c. search needs)
+    (λ c.
+    let i = c .before .before .loop .i in
+    let ms = c .before .before .before .args .masks .now in
+    rw (counted c) (omega (arith, ones-few (getD ms i 0), sumOnes-turn i ms (c .before .loop-test .taken))))
+    (λ c. omega (arith, sumOnes-done (c .before .loop .i) (c .before .before .args .masks .now) (c .loop-test .left))))

@@ -16,37 +16,16 @@ Inv-loop masks all₀ i₀ all i = (i ≤ length masks) × (unionWith all (drop 
 abbrev μ-loop : tie.MeasureT-loop
 μ-loop masks all₀ i₀ all i = length masks - i
 
-loop-holds : tie.Need-loop-holds Inv-loop μ-loop
-loop-holds c = (search needs, refl)
-
-mul-all : tie.Need-mul-all Inv-loop μ-loop
-mul-all c = search needs
-
-shared-slice-read-all : tie.Need-shared-slice-read-all Inv-loop μ-loop
-shared-slice-read-all c = search needs
-
-add-i : tie.Need-add-i Inv-loop μ-loop
-add-i c = search needs
-
-loop-less : tie.Need-loop-less Inv-loop μ-loop
-loop-less c = search needs
-
-loop-again : tie.Need-loop-again Inv-loop μ-loop
-loop-again c = (omega arith, sym (unionWith-turn _ _ _ (c .before .loop-test .taken)) ∙ c .before .before .loop .inv .1)
-
-returns : tie.Need-returns Inv-loop μ-loop
-returns c = sym (unionWith-done _ _ _ (c .loop-test .left)) ∙ c .before .loop .inv .1
-
 pub union-spec : {M : Type 1} → statement M
 union-spec =
     tie.close
     (tie.spec
     Inv-loop
     μ-loop
-    loop-holds
-    mul-all
-    shared-slice-read-all
-    add-i
-    loop-less
-    loop-again
-    returns)
+    (λ c. (search needs, refl))
+    (λ c. search needs)
+    (λ c. search needs)
+    (λ c. search needs)
+    (λ c. search needs)
+    (λ c. (omega arith, sym (unionWith-turn _ _ _ (c .before .loop-test .taken)) ∙ c .before .before .loop .inv .1))
+    (λ c. sym (unionWith-done _ _ _ (c .loop-test .left)) ∙ c .before .loop .inv .1))

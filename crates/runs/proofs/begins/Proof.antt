@@ -15,32 +15,11 @@ Inv-loop l s n i₀ i = (i ≤ n) × (starts l s ≡ starts (drop i l) (drop i s
 abbrev μ-loop : tie.MeasureT-loop
 μ-loop l s n i₀ i = n - i
 
-returns : tie.Need-returns Inv-loop μ-loop
-returns c = sym (starts-short (c .before .args .l .now) (c .before .args .s .now) (c .if1 .taken))
-
-loop-holds : tie.Need-loop-holds Inv-loop μ-loop
-loop-holds c = search needs
-
-shared-slice-read-if2 : tie.Need-shared-slice-read-if2 Inv-loop μ-loop
-shared-slice-read-if2 c = search needs
-
-shared-slice-read-if2-2 : tie.Need-shared-slice-read-if2-2 Inv-loop μ-loop
-shared-slice-read-if2-2 c = search needs
-
 returns-2 : tie.Need-returns-2 Inv-loop μ-loop
 returns-2 c = sym (c .before .before .before .before .loop .inv .1 ∙ starts-other (c .before .before .before .before .before .before .args .l .now) (c .before .before .before .before .before .before .args .s .now) (c .before .before .before .before .loop .i) (omega arith) (omega arith) (c .if2 .taken))
 
-add-i : tie.Need-add-i Inv-loop μ-loop
-add-i c = search needs
-
-loop-less : tie.Need-loop-less Inv-loop μ-loop
-loop-less c = search needs
-
 loop-again : tie.Need-loop-again Inv-loop μ-loop
 loop-again c = (omega arith, c .before .before .before .before .loop .inv .1 ∙ starts-same (c .before .before .before .before .before .before .args .l .now) (c .before .before .before .before .before .before .args .s .now) (c .before .before .before .before .loop .i) (omega arith) (omega arith) (c .if2 .left))
-
-returns-3 : tie.Need-returns-3 Inv-loop μ-loop
-returns-3 c = sym (c .before .loop .inv .1 ∙ starts-end (c .before .before .before .args .l .now) (c .before .before .before .args .s .now) (c .before .loop .i) (omega arith))
 
 pub begins-spec : {M : Type 1} → statement M
 begins-spec =
@@ -48,12 +27,12 @@ begins-spec =
     (tie.spec
     Inv-loop
     μ-loop
-    returns
-    loop-holds
-    shared-slice-read-if2
-    shared-slice-read-if2-2
+    (λ c. sym (starts-short (c .before .args .l .now) (c .before .args .s .now) (c .if1 .taken)))
+    (λ c. search needs)
+    (λ c. search needs)
+    (λ c. search needs)
     returns-2
-    add-i
-    loop-less
+    (λ c. search needs)
+    (λ c. search needs)
     loop-again
-    returns-3)
+    (λ c. sym (c .before .loop .inv .1 ∙ starts-end (c .before .before .before .args .l .now) (c .before .before .before .args .s .now) (c .before .loop .i) (omega arith))))

@@ -16,26 +16,11 @@ Inv-loop p₀ n i₀ p i = (i ≤ n) × (p ≡ overlaid i (replicate n 0) p₀) 
 abbrev μ-loop : tie.MeasureT-loop
 μ-loop p₀ n i₀ p i = n - i
 
-loop-holds : tie.Need-loop-holds Inv-loop μ-loop
-loop-holds c = search needs
-
-slice-write-p : tie.Need-slice-write-p Inv-loop μ-loop
-slice-write-p c = omega arith
-
-add-i : tie.Need-add-i Inv-loop μ-loop
-add-i c = search needs
-
-loop-less : tie.Need-loop-less Inv-loop μ-loop
-loop-less c = search needs
-
 loop-again : tie.Need-loop-again Inv-loop μ-loop
 loop-again c =
     let k = c .before .loop .inv in
     let z = length-replicate {A = ℕ} (length (c .before .before .args .p .now)) 0 in
     (omega arith, ap (λ (x : List ℕ). set x (c .before .loop .i) 0) (k .1) ∙ cleared-more (c .before .before .args .p .now) (c .before .loop .i) (omega arith), simp length-set (k .2))
-
-same-length : tie.Need-same-length Inv-loop μ-loop
-same-length c = c .before .loop .inv .2
 
 returns : tie.Need-returns Inv-loop μ-loop
 returns c =
@@ -50,10 +35,10 @@ clear-spec =
     (tie.spec
     Inv-loop
     μ-loop
-    loop-holds
-    slice-write-p
-    add-i
-    loop-less
+    (λ c. search needs)
+    (λ c. omega arith)
+    (λ c. search needs)
+    (λ c. search needs)
     loop-again
-    same-length
+    (λ c. c .before .loop .inv .2)
     returns)

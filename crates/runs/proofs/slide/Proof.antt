@@ -17,35 +17,11 @@ Inv-loop p₀ from n i₀ p i = (i ≤ n) × (p ≡ overlaid i (drop from p₀) 
 abbrev μ-loop : tie.MeasureT-loop
 μ-loop p₀ from n i₀ p i = n - i
 
-returns : tie.Need-returns Inv-loop μ-loop
-returns c = rw (c .if1 .taken) (sym (take-append-drop (c .before .args .n) (c .before .args .p .now)))
-
-loop-holds : tie.Need-loop-holds Inv-loop μ-loop
-loop-holds c = search needs
-
-add-p : tie.Need-add-p Inv-loop μ-loop
-add-p c = search needs
-
-slice-read-p : tie.Need-slice-read-p Inv-loop μ-loop
-slice-read-p c = omega arith
-
-slice-write-p : tie.Need-slice-write-p Inv-loop μ-loop
-slice-write-p c = omega arith
-
-add-i : tie.Need-add-i Inv-loop μ-loop
-add-i c = search needs
-
-loop-less : tie.Need-loop-less Inv-loop μ-loop
-loop-less c = search needs
-
 loop-again : tie.Need-loop-again Inv-loop μ-loop
 loop-again c =
     let k = c .before .before .loop .inv in
     let d = length-drop (c .before .before .before .before .args .from) (c .before .before .before .before .args .p .now) in
     (omega arith, ap (λ (x : List ℕ). set x (c .before .before .loop .i) (getD x (c .before .before .before .before .args .from + c .before .before .loop .i) 0)) (k .1) ∙ slid-more (c .before .before .before .before .args .p .now) (c .before .before .before .before .args .from) (c .before .before .loop .i) (omega arith), simp length-set (k .2))
-
-same-length : tie.Need-same-length Inv-loop μ-loop
-same-length c = c .before .loop .inv .2
 
 returns-2 : tie.Need-returns-2 Inv-loop μ-loop
 returns-2 c =
@@ -58,13 +34,13 @@ slide-spec =
     (tie.spec
     Inv-loop
     μ-loop
-    returns
-    loop-holds
-    add-p
-    slice-read-p
-    slice-write-p
-    add-i
-    loop-less
+    (λ c. rw (c .if1 .taken) (sym (take-append-drop (c .before .args .n) (c .before .args .p .now))))
+    (λ c. search needs)
+    (λ c. search needs)
+    (λ c. omega arith)
+    (λ c. omega arith)
+    (λ c. search needs)
+    (λ c. search needs)
     loop-again
-    same-length
+    (λ c. c .before .loop .inv .2)
     returns-2)

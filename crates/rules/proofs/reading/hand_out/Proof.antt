@@ -9,30 +9,6 @@ use borrow.Author.Needs.{needs}
 use Rattle.rules.proofs.reading.hand_out.Statement.{statement}
 use Rattle.rules.proofs.reading.hand_out.Tie as tie
 
-copy-masks-requires : tie.Need-copy-masks-requires
-copy-masks-requires c κs = search needs
-
-copy-requires : tie.Need-copy-requires
-copy-requires c κs = search needs
-
-sub-clear : tie.Need-sub-clear
-sub-clear c = search needs
-
-part-clear-start : tie.Need-part-clear-start
-part-clear-start c = search needs
-
-part-clear-end : tie.Need-part-clear-end
-part-clear-end c = search needs
-
-clear-requires : tie.Need-clear-requires
-clear-requires c κs = search needs
-
-same-length : tie.Need-same-length
-same-length c = search needs
-
-same-length-2 : tie.Need-same-length-2
-same-length-2 c = search needs
-
 returns : tie.Need-returns
 returns c =
     let text = c .before .before .before .before .before .before .before .before .before .before .before .before .before .before .before .before .args .text .now in
@@ -46,12 +22,12 @@ pub hand-out-spec : {M : Type 1} → statement M
 hand-out-spec =
     tie.close
     (tie.spec
-    copy-masks-requires
-    copy-requires
-    sub-clear
-    part-clear-start
-    part-clear-end
-    clear-requires
-    same-length
-    same-length-2
+    (λ c κs. search needs)
+    (λ c κs. search needs)
+    (λ c. search needs)
+    (λ c. search needs)
+    (λ c. search needs)
+    (λ c κs. search needs)
+    (λ c. search needs)
+    (λ c. search needs)
     returns)

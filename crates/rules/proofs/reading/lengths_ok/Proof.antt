@@ -18,16 +18,10 @@ returns-3 : tie.Need-returns-3
 unfolding lengthsOk both
 returns-3 c = rw (eq-eqb _ _ (c .before .before .if1 .left), eq-eqb _ _ (c .before .if2 .left), lt-leb _ _ (c .if3 .taken))
 
-u32-at-requires : tie.Need-u32-at-requires
-u32-at-requires c κs = search needs
-
-cast-result : tie.Need-cast-result
-cast-result c = search needs
-
 returns-4 : tie.Need-returns-4
 unfolding lengthsOk both
 returns-4 c = rw (eq-eqb _ _ (c .before .before .before .if1 .left), eq-eqb _ _ (c .before .before .if2 .left), le-leb _ _ (c .before .if3 .left), c .u32-at .ensures)
 
 pub lengths-ok-spec : {M : Type 1} → statement M
 lengths-ok-spec =
-    tie.close (tie.spec returns returns-2 returns-3 u32-at-requires cast-result returns-4)
+    tie.close (tie.spec returns returns-2 returns-3 (λ c κs. search needs) (λ c. search needs) returns-4)

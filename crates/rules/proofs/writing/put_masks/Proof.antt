@@ -21,27 +21,6 @@ Inv-loop out₀ masks i₀ out i =
 abbrev μ-loop : tie.MeasureT-loop
 μ-loop out₀ masks i₀ out i = length masks - i
 
-loop-holds : tie.Need-loop-holds Inv-loop μ-loop
-loop-holds c = (search needs, maskBytes-none (c .before .before .args .out .now), refl)
-
-mul-put-u64 : tie.Need-mul-put-u64 Inv-loop μ-loop
-mul-put-u64 c = search needs
-
-mul-put-u64-2 : tie.Need-mul-put-u64-2 Inv-loop μ-loop
-mul-put-u64-2 c = search needs
-
-shared-slice-read-put-u64 : tie.Need-shared-slice-read-put-u64 Inv-loop μ-loop
-shared-slice-read-put-u64 c = search needs
-
-put-u64-requires : tie.Need-put-u64-requires Inv-loop μ-loop
-put-u64-requires c κs = search needs
-
-add-i : tie.Need-add-i Inv-loop μ-loop
-add-i c = search needs
-
-loop-less : tie.Need-loop-less Inv-loop μ-loop
-loop-less c = search needs
-
 loop-again : tie.Need-loop-again Inv-loop μ-loop
 loop-again c =
     let k = c .before .before .before .before .before .before .loop .inv in
@@ -58,9 +37,6 @@ loop-again c =
       c .before .before .put-u64 .kept .0 ∙ k .2,
     )
 
-same-length : tie.Need-same-length Inv-loop μ-loop
-same-length c = c .before .loop .inv .2
-
 returns : tie.Need-returns Inv-loop μ-loop
 returns c =
     let k = c .before .loop .inv in
@@ -75,13 +51,13 @@ put-masks-spec =
     (tie.spec
     Inv-loop
     μ-loop
-    loop-holds
-    mul-put-u64
-    mul-put-u64-2
-    shared-slice-read-put-u64
-    put-u64-requires
-    add-i
-    loop-less
+    (λ c. (search needs, maskBytes-none (c .before .before .args .out .now), refl))
+    (λ c. search needs)
+    (λ c. search needs)
+    (λ c. search needs)
+    (λ c κs. search needs)
+    (λ c. search needs)
+    (λ c. search needs)
     loop-again
-    same-length
+    (λ c. c .before .loop .inv .2)
     returns)
