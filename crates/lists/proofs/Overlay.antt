@@ -5,16 +5,13 @@ use mathlib.Core.List.{List, [], _∷_, _++_, append-assoc, append-nil}
 use Prim.Native.Nat.{ℕ, suc, _+_, _<_, _≤_}
 use native.Mathlib.Omega.{arith}
 use native.Mathlib.Numerals.{add-one}
-use lib.ListN.{length, getD, set, take, drop, length-append, length-drop, drop-of-length-le}
+use lib.ListN.{length, getD, set, take, drop, drop-of-length-le}
 use lib.Seq.{take-suc, drop-cons, set-at, length-take-le, take-length, getD-append-add, getD-drop}
 
 abbrev pub overlaid : ℕ → List ℕ → List ℕ → List ℕ
 overlaid i xs p = take i xs ++ drop i p
 
 module _ (xs p : List ℕ) (i : ℕ) where
-  pub overlaid-length : i ≤ length xs → i ≤ length p → length (overlaid i xs p) ≡ length p
-  overlaid-length h k = omega (arith, length-append (take i xs) (drop i p), length-take-le i xs h, length-drop i p)
-
   -- one more
   pub overlaid-more : i < length xs → i < length p → set (overlaid i xs p) i (getD xs i 0) ≡ overlaid (i + 1) xs p
   overlaid-more h k =
