@@ -15,16 +15,13 @@ use lib.Bits.{bitOr}
 use borrow.Author.Tests.{ltb-true, ltb-false, lt-ltb, eq-eqb}
 use Rattle.lists.specs.Tests.{pick, both, bit}
 use Rattle.lists.proofs.Tests.{no-true}
-use Rattle.kinds.specs.declared.Leaf.{Leaf}
 use Rattle.kinds.specs.declared.Leaf.the-variants.{Const, Prop, Hold}
-use Rattle.kinds.specs.declared.Unary.{Unary}
 use Rattle.kinds.specs.declared.Unary.the-variants.{Not, Next, Eventually, Always}
-use Rattle.kinds.specs.declared.Binary.{Binary}
 use Rattle.kinds.specs.declared.Binary.the-variants.{Joined, Until}
 use Rattle.kinds.specs.declared.Kind.{Kind}
 use Rattle.kinds.specs.Kinds.{kindOf}
 use Rattle.kinds.proofs.Codes.{CodeOf, isZero, isOne, isTwo, isNone, code}
-use Rattle.ltl.specs.Formula.{Formula, one, encode, over}
+use Rattle.ltl.specs.Formula.{Formula, encode}
 use Rattle.ltl.specs.Text.{textOf, overAlone, textOver}
 use Rattle.ltl.proofs.Texts.{text-is}
 use Rattle.texts.specs.declared.Owed.the-variants.{Operands, Broken}
