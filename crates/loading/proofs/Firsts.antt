@@ -24,7 +24,7 @@ use Rattle.marking.specs.declared.Placed.{Placed}
 use Rattle.marking.specs.Marks.{MarkedAs, Marking}
 use Rattle.storing.specs.Stores.{LaidOut, Counts, StateAsk, Stores}
 use Rattle.loading.specs.Load.{BeginAsk, FirstAsk, Firsts}
-use Rattle.loading.proofs.Rules.{Cut, board-of, first-large, first-slots, first-nodes, first-choice, first-laid}
+use Rattle.loading.proofs.Rules.{Fitting, board-of, first-large, first-slots, first-nodes, first-choice, first-laid}
 
 pub whole-begins : {s : List ℕ} {f : Formula} → Front s f [] → Begins s
 whole-begins {f = f} x = record { formula = f; rest = []; front = x }
@@ -71,27 +71,26 @@ module _ {state masks bytes owner : List ℕ} {board slots nodes : ℕ} {u marks
           subst (λ (f : Formula). state′ ≡ loadedState masks f) same (h (firstOf masks (ask .rule)) laid-is counts-are)
 
 -- ---- what the counts tell
-pub first-ask : {masks bytes state owner : List ℕ} (ask : BeginAsk masks bytes state) → Table owner → {x : Part} → Cut (ask .ruled) owner x
-    → 1 + x .cuts ≤ 64 → {count : ℕ} → count ≡ min (size (unfolded (ask .rule))) 4097 → count + x .cuts ≤ 4096
+pub first-ask : {masks bytes state owner : List ℕ} (ask : BeginAsk masks bytes state) → Table owner → {x : Part} {count : ℕ} → Fitting (ask .ruled) owner x count
     → {board : ℕ} → board ≡ pick (eqb (x .choice) boardsMost) 0 (x .choice) → {u marks : List ℕ} → length u ≡ 4096 → length marks ≡ 4096
     → FirstAsk state masks bytes owner board (1 + x .cuts) (count + x .cuts) u marks
-first-ask {masks} ask table cuts few c most b ul ml =
-    let s = first-slots cuts in
-    let n = first-nodes cuts in
+first-ask {masks} ask table fits b ul ml =
+    let s = first-slots (fits .cut) in
+    let n = first-nodes (fits .cut) in
     record {
       rule = ask .rule;
       ruled = ask .ruled;
       long = ask .long;
       table = table;
-      owned = cuts .owned;
+      owned = fits .cut .owned;
       board-is =
           b
-          ∙ ap (λ (i : ℕ). pick (eqb i boardsMost) 0 i) (cuts .parted .choice-is ∙ ap codeOf (first-choice cuts))
+          ∙ ap (λ (i : ℕ). pick (eqb i boardsMost) 0 i) (fits .cut .parted .choice-is ∙ ap codeOf (first-choice (fits .cut)))
           ∙ board-of (chosen masks (unfolded (ask .rule))) (λ c e. chosen-below boardsMost masks (ask .ruled .few-boards) (unfolded (ask .rule)) c e);
       slots-are = omega arith;
       nodes-are = omega arith;
-      few-slots = few;
-      few-nodes = most;
+      few-slots = fits .few-slots;
+      few-nodes = fits .few-nodes;
       u-long = ul;
       marks-long = ml;
     }

@@ -34,34 +34,35 @@ use Rattle.rules.specs.Read.{offsetsOk, readSays, Reads}
 use Rattle.rules.specs.Read as read
 use Rattle.state.specs.Fields.{stateLength}
 use Rattle.loading.specs.Load.{ruleIn, lengthsOk, loadSays, LoadsRule, Ruled, beginSays, BeginAsk, Begun}
-use Rattle.loading.proofs.Rules.{Cut, first-slots, first-nodes}
+use Rattle.loading.proofs.Rules.{Cut, Fitting, first-slots, first-nodes}
 
 -- ---- begin
-module _ {masks bytes : List ℕ} (state : List ℕ) {owner : List ℕ} {x : Part} {rule : Formula} {r : Ruled masks bytes rule} (cuts : Cut r owner x) where
-  abbrev Ends : List ℕ → Said → Type 0
-  Ends state′ said = (said ≡ beginSays masks rule) × (state′ ≡ left (beginSays masks rule) (loadedState masks rule) state)
+-- so much is answered of a rule, and so much left of the state
+abbrev Ends : List ℕ → Formula → List ℕ → List ℕ → Said → Type 0
+Ends masks rule state state′ said = (said ≡ beginSays masks rule) × (state′ ≡ left (beginSays masks rule) (loadedState masks rule) state)
 
-  refusal : (why : Refusal) → beginSays masks rule ≡ refused (numberOf why) → Ends state (refused (numberOf why))
-  refusal why e = (sym e, sym (ap (λ (s : Said). left s (loadedState masks rule) state) e ∙ left-refused why (loadedState masks rule) state))
+refusal : (masks : List ℕ) (rule : Formula) (state : List ℕ) (why : Refusal) → beginSays masks rule ≡ refused (numberOf why) → Ends masks rule state state (refused (numberOf why))
+refusal masks rule state why e = (sym e, sym (ap (λ (s : Said). left s (loadedState masks rule) state) e ∙ left-refused why (loadedState masks rule) state))
 
-  pub begun-slots : 64 < 1 + x .cuts → Ends state (refused (numberOf Slots))
-  begun-slots l = let e = first-slots cuts in refusal Slots (order-refused 7 _ _ _ (lt-leb (length (firstOf masks rule)) 64 (omega arith)))
+slots-ok : {masks bytes owner : List ℕ} {x : Part} {rule : Formula} {r : Ruled masks bytes rule} → Cut r owner x → 1 + x .cuts ≤ 64 → leb (length (firstOf masks rule)) 64 ≡ true
+slots-ok {masks} {rule = rule} cuts few = let e = first-slots cuts in le-leb (length (firstOf masks rule)) 64 (omega arith)
 
-  module _ (few : 1 + x .cuts ≤ 64) {count : ℕ} (counted-is : count ≡ min (size (unfolded rule)) 4097) where
-    slots-ok : leb (length (firstOf masks rule)) 64 ≡ true
-    slots-ok = let e = first-slots cuts in le-leb (length (firstOf masks rule)) 64 (omega arith)
+module _ {masks bytes owner : List ℕ} (state : List ℕ) {x : Part} {rule : Formula} {r : Ruled masks bytes rule} (cuts : Cut r owner x) where
+  pub begun-slots : 64 < 1 + x .cuts → Ends masks rule state state (refused (numberOf Slots))
+  begun-slots l = let e = first-slots cuts in refusal masks rule state Slots (order-refused 7 _ _ _ (lt-leb (length (firstOf masks rule)) 64 (omega arith)))
 
-    pub begun-nodes : 4096 < count + x .cuts → Ends state (refused (numberOf Nodes))
-    begun-nodes l =
-        let e = first-nodes cuts in
-        refusal Nodes (order-ok 7 _ _ _ slots-ok ∙ order-refused 8 _ _ _ (lt-leb (nodesOf (firstOf masks rule)) 4096 (omega arith)))
+  pub begun-nodes : 1 + x .cuts ≤ 64 → {count : ℕ} → count ≡ min (size (unfolded rule)) 4097 → 4096 < count + x .cuts → Ends masks rule state state (refused (numberOf Nodes))
+  begun-nodes few c l =
+      let e = first-nodes cuts in
+      refusal masks rule state Nodes (order-ok 7 _ _ _ (slots-ok cuts few) ∙ order-refused 8 _ _ _ (lt-leb (nodesOf (firstOf masks rule)) 4096 (omega arith)))
 
-    pub begun-done : count + x .cuts ≤ 4096 → {state′ : List ℕ} → state′ ≡ loadedState masks rule → Ends state′ (accepted [])
-    begun-done l h =
-        let e = first-nodes cuts in
-        let says : beginSays masks rule ≡ accepted [] =
-        order-ok 7 _ _ _ slots-ok ∙ order-ok 8 _ _ _ (le-leb (nodesOf (firstOf masks rule)) 4096 (omega arith)) ∙ order-done _ in
-        (sym says, h ∙ sym (ap (λ (s : Said). left s (loadedState masks rule) state) says ∙ left-accepted [] (loadedState masks rule) state))
+pub begun-done : {masks bytes owner : List ℕ} (state : List ℕ) {x : Part} {count : ℕ} {rule : Formula} {r : Ruled masks bytes rule} → Fitting r owner x count
+    → {state′ : List ℕ} → state′ ≡ loadedState masks rule → Ends masks rule state state′ (accepted [])
+begun-done {masks} state {rule = rule} fits h =
+    let e = first-nodes (fits .cut) in
+    let says : beginSays masks rule ≡ accepted [] =
+    order-ok 7 _ _ _ (slots-ok (fits .cut) (fits .few-slots)) ∙ order-ok 8 _ _ _ (le-leb (nodesOf (firstOf masks rule)) 4096 (omega arith)) ∙ order-done _ in
+    (sym says, h ∙ sym (ap (λ (s : Said). left s (loadedState masks rule) state) says ∙ left-accepted [] (loadedState masks rule) state))
 
 -- ---- load
 -- a list of checks that refuses, with more checks behind it

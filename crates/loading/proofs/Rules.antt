@@ -5,7 +5,7 @@ use mathlib.Core.Bool.{Bool, true, false}
 use mathlib.Core.List.{List, [], _++_, append-nil}
 use mathlib.Core.Logic.{_⊎_, inl, inr}
 use mathlib.Core.Option.{Option, none, some}
-use Prim.Native.Nat.{ℕ, zero, suc, _+_, _-_, _*_, _<_, _≤_}
+use Prim.Native.Nat.{ℕ, zero, suc, _+_, _-_, _*_, _<_, _≤_, min}
 use native.Mathlib.Omega.{arith}
 use lib.ListN.{length, getD, List·getD-append}
 use lib.Seq.{getD-append-add}
@@ -176,3 +176,10 @@ module _ {masks bytes : List ℕ} {rule : Formula} {r : Ruled masks bytes rule} 
 
   pub first-choice : highest none 0 0 (x .scores .counts) ≡ chosen masks (unfolded rule)
   first-choice = counted-chosen (r .propositions) 0 masks (cuts .parted .scored) (cuts .owned) (rule-within r)
+
+-- ---- a layout within the limits, by the nodes that were counted too
+pub record Fitting {masks bytes : List ℕ} {rule : Formula} (r : Ruled masks bytes rule) (owner : List ℕ) (x : Part) (count : ℕ) : Type 0 where
+  pub cut : Cut r owner x
+  pub few-slots : 1 + x .cuts ≤ 64
+  pub count-is : count ≡ min (size (unfolded rule)) 4097
+  pub few-nodes : count + x .cuts ≤ 4096

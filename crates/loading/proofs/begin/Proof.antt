@@ -4,7 +4,7 @@ use mathlib.Core.List.{[]}
 use Rattle.ltl.specs.Formula.{Formula}
 use Rattle.scores.proofs.Added.{zeros-few}
 use Rattle.loading.specs.Load.{Ruled}
-use Rattle.loading.proofs.Rules.{Cut, cuts-few}
+use Rattle.loading.proofs.Rules.{Cut, Fitting, cuts-few}
 use Rattle.loading.proofs.Firsts.{whole-begins, first-ask}
 use Rattle.loading.proofs.Outcomes.{begun-slots, begun-nodes, begun-done}
 use native.Mathlib.Omega.{arith}
@@ -12,12 +12,19 @@ use borrow.Author.Needs.{needs}
 use Rattle.loading.proofs.begin.Statement.{statement}
 use Rattle.loading.proofs.begin.Tie as tie
 
--- the cuts that were counted are those of any rule that the bytes are
+-- of any rule that the bytes are: the cuts that were counted, and behind both checks that the layout is within the limits
 abbrev first : tie.After-count-cuts → tie.Start
 first c = c .before .before .before .before .before .before .before .before
 
 cut : (c : tie.After-count-cuts) {rule : Formula} (r : Ruled (first c .args .masks .now) (first c .args .rule .now) rule) → Cut r (c .before .before .before .owners .last .1 .0) (c .count-cuts .result .part)
 cut c {rule} r = record { owned = c .before .before .before .owners .ensures .owned (r .propositions) (r .few-propositions) (r .follow); parted = c .count-cuts .ensures rule [] (r .front) .parted }
+
+abbrev counted : tie.Else2 → tie.After-count-cuts
+counted c = c .before .before .before .before .before .before .before
+
+fits : (c : tie.Else2) {rule : Formula} (r : Ruled (first (counted c) .args .masks .now) (first (counted c) .args .rule .now) rule)
+    → let k = counted c in Fitting r (k .before .before .before .owners .last .1 .0) (k .count-cuts .result .part) (c .before .before .before .count-unfolded .result .written)
+fits c {rule} r = record { cut = cut (counted c) r; few-slots = c .before .before .before .before .if1 .left; count-is = c .before .before .before .count-unfolded .ensures rule [] (r .front) .1; few-nodes = c .if2 .left }
 
 pub begin-spec : {M : Type 1} → statement M
 begin-spec =
@@ -36,7 +43,6 @@ begin-spec =
     (λ c. search needs)
     (λ c. search needs)
     (λ c. search needs)
-    (λ c κs. let k = c .before .before .before .before .before .before .before .before .before .before .before .before in let a = first k .pre in
-    first-ask a (k .before .before .before .owners .ensures .table) (cut k (a .ruled)) (c .before .before .before .before .before .before .before .before .before .if1 .left) (c .before .before .before .before .before .before .before .before .count-unfolded .ensures (a .rule) [] (a .ruled .front) .1) (c .before .before .before .before .before .if2 .left) (c .before .before .before .before .first-board .ensures) refl refl)
+    (λ c κs. let k = counted (c .before .before .before .before .before) in first-ask (first k .pre) (k .before .before .before .owners .ensures .table) (fits (c .before .before .before .before .before) (first k .pre .ruled)) (c .before .before .before .before .first-board .ensures) refl refl)
     (λ c. search needs)
-    (λ c rule r. begun-done _ (cut (c .before .before .before .before .before .before .before .before .before .before .before .before .before .before .before .before .before) r) (c .before .before .before .before .before .before .before .before .before .before .before .before .before .before .if1 .left) (c .before .before .before .before .before .before .before .before .before .before .before .before .before .count-unfolded .ensures rule [] (r .front) .1) (c .before .before .before .before .before .before .before .before .before .before .if2 .left) (c .before .before .before .before .put-first .ensures rule r)))
+    (λ c rule r. begun-done _ (fits (c .before .before .before .before .before .before .before .before .before .before) r) (c .before .before .before .before .put-first .ensures rule r)))
