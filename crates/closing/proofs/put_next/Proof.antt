@@ -9,6 +9,9 @@ use borrow.Author.Needs.{needs}
 use Rattle.closing.proofs.put_next.Statement.{statement}
 use Rattle.closing.proofs.put_next.Tie as tie
 
+abbrev first : tie.After-spread → tie.Start
+first c = c .before .before .before .before .before .before .before .before .before .before
+
 pub put-next-spec : {M : Type 1} → statement M
 put-next-spec =
     tie.close
@@ -18,8 +21,8 @@ put-next-spec =
     (λ c κs. spread-ask (c .before .before .before .before .before .before .before .before .before .pre))
     (λ c. c .before .before .before .before .before .spread .ensures .inside)
     (λ c. sym (length-take-le _ _ (c .before .before .before .before .before .before .spread .ensures .inside)))
-    (λ c κs. state-ask (c .before .before .before .before .before .before .before .before .before .before .before .before .before .before .before .before .before .pre) (c .before .before .before .before .before .before .before .spread .ensures))
+    (λ c κs. let k = c .before .before .before .before .before .before .before in state-ask (first k .pre) (k .spread .ensures))
     (λ c. search needs)
     (λ c. search needs)
     (λ c. search needs)
-    (λ c. next-put (c .before .before .before .before .before .before .before .before .before .before .before .before .before .before .before .before .before .before .before .before .pre) (c .before .before .before .before .before .before .before .before .before .before .spread .ensures) (ap (λ (n : ℕ). n + 1) (c .before .before .before .before .before .before .before .before .before .before .before .before .before .u32-at .ensures)) (c .before .before .put-state .ensures)))
+    (λ c. let k = c .before .before .before .before .before .before .before .before .before .before in next-put (first k .pre) (k .spread .ensures) (ap (λ (n : ℕ). n + 1) (k .before .before .before .u32-at .ensures)) (c .before .before .put-state .ensures)))
