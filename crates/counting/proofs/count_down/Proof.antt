@@ -28,7 +28,8 @@ count-down-spec =
     (λ c. let y = known-few (c .before .before .before .before .before .before .before .before .before .before .before .pre .0) in omega arith)
     (λ c. let x = c .before .before .before .before .before .before .loop .inv .1 .tables in let y = known-few (c .before .before .before .before .before .before .before .before .before .before .before .pre .0) in omega arith)
     (λ c. search needs)
-    (λ c. let a = c .before .before .before .before .before .before .before .before .before .before .before .pre .0 in let e = a .header .slots-are in (omega arith, filled-more (a .passes) (c .before .before .before .before .before .before .loop .inv .1) (omega arith) (omega arith) (c .before .before .count-slot .ensures)))
+    (λ c. let a = c .before .before .before .before .before .before .before .before .before .before .before .pre .0 in let e = a .header .slots-are in
+    (omega arith, filled-more (a .passes) (c .before .before .before .before .before .before .loop .inv .1) (omega arith) (omega arith) (c .before .before .count-slot .ensures)))
     (λ c. let x = c .before .before .loop .inv .1 .tables in omega arith)
     (λ c. omega (arith, c .slice-known3 .given 0))
     (λ c. let x = c .before .before .before .loop .inv .1 .tables in omega arith)

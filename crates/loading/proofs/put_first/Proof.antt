@@ -10,9 +10,12 @@ use borrow.Author.Needs.{needs}
 use Rattle.loading.proofs.put_first.Statement.{statement}
 use Rattle.loading.proofs.put_first.Tie as tie
 
+abbrev first : tie.After-unfold-into → tie.Start
+first c = c .before .before .before .before .before .before .before .before
+
 -- what was unfolded is inside its list
 inside : (c : tie.After-unfold-into) → c .unfold-into .result .written ≤ length (c .unfold-into .last .0)
-inside c = let a = c .before .before .before .before .before .before .before .before .pre in let w = c .unfold-into .ensures (a .rule) [] (a .ruled .front) .writes in let s = first-size a in let k = c .unfold-into .kept .0 in omega arith
+inside c = let a = first c .pre in let w = c .unfold-into .ensures (a .rule) [] (a .ruled .front) .writes in let s = first-size a in let k = c .unfold-into .kept .0 in omega arith
 
 pub put-first-spec : {M : Type 1} → statement M
 put-first-spec =
@@ -21,11 +24,11 @@ put-first-spec =
     (λ c κs. unfold-ask (c .before .before .before .before .before .before .before .pre))
     (λ c. inside (c .before .before))
     (λ c. sym (length-take-le _ _ (inside (c .before .before .before))))
-    (λ c κs. let u = c .before .before .before .before .unfold-into in mark-ask (c .before .before .before .before .before .before .before .before .before .before .before .before .pre) (u .result) (u .ensures))
+    (λ c κs. let k = c .before .before .before .before in let u = k .unfold-into in mark-ask (first k .pre) (u .result) (u .ensures))
     (λ c. inside (c .before .before .before .before .before .before .before .before))
     (λ c. sym (length-take-le _ _ (inside (c .before .before .before .before .before .before .before .before .before))))
-    (λ c κs. let u = c .before .before .before .before .before .before .before .before .before .before .unfold-into in let m = c .before .before .before .before .before .mark in state-ask (c .before .before .before .before .before .before .before .before .before .before .before .before .before .before .before .before .before .before .pre) (u .result) (u .ensures) (m .result) (m .ensures) (m .kept .1 .0))
+    (λ c κs. let k = c .before .before .before .before .before .before .before .before .before .before in let u = k .unfold-into in let m = c .before .before .before .before .before .mark in state-ask (first k .pre) (u .result) (u .ensures) (m .result) (m .ensures) (m .kept .1 .0))
     (λ c. search needs)
     (λ c. search needs)
     (λ c. search needs)
-    (λ c. let u = c .before .before .before .before .before .before .before .before .before .before .before .before .before .unfold-into in let m = c .before .before .before .before .before .before .before .before .mark in first-put (c .before .before .before .before .before .before .before .before .before .before .before .before .before .before .before .before .before .before .before .before .before .pre) (u .result) (u .ensures) (m .result) (m .ensures) (m .kept .1 .0) (c .before .before .put-state .ensures)))
+    (λ c. let k = c .before .before .before .before .before .before .before .before .before .before .before .before .before in let u = k .unfold-into in let m = c .before .before .before .before .before .before .before .before .mark in first-put (first k .pre) (u .result) (u .ensures) (m .result) (m .ensures) (m .kept .1 .0) (c .before .before .put-state .ensures)))

@@ -16,7 +16,8 @@ abbrev μ-loop : tie.MeasureT-loop
 μ-loop state c owner u₀ marks₀ end₀ i₀ u marks end i = 4096 - i
 
 -- at a place holder before the end
-holder : (c : tie.Then1 Inv-loop μ-loop) → let a = c .before .before .before .before .before .before .before .before .before .before .before .before .before .before .before .args in let k = c .before .before .before .loop in Holder (a .state .now) (a .c .boards) (a .c .slots) (a .c .nodes) (a .owner .now) (k .u) (k .marks) (k .i) (k .end)
+holder : (c : tie.Then1 Inv-loop μ-loop)
+    → let a = c .before .before .before .before .before .before .before .before .before .before .before .before .before .before .before .args in let k = c .before .before .before .loop in Holder (a .state .now) (a .c .boards) (a .c .slots) (a .c .nodes) (a .owner .now) (k .u) (k .marks) (k .i) (k .end)
 holder c = record { known = c .before .before .before .before .before .before .before .before .before .before .before .before .before .before .before .pre .known; turn = c .before .before .before .loop .inv; before = c .before .before .loop-test .taken; big = c .if1 .taken }
 
 pub spread-spec : {M : Type 1} → statement M

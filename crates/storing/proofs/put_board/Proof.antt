@@ -14,4 +14,5 @@ put-board-spec =
     (λ c. search needs)
     (λ c κs. search needs)
     (λ c. search needs)
-    (λ c. let a = c .before .before .before .before .before .before .before .before .before in let k = c .before .before .before .before .before .before .put-u64 in board-put (a .args .mask) (a .args .out .now) (k .last .0) (c .before .before .clear .last .0) (a .pre) (k .ensures) (k .kept .0) (c .before .before .clear .ensures)))
+    (λ c. let a = c .before .before .before .before .before .before .before .before .before in let k = c .before .before .before .before .before .before .put-u64 in
+    board-put (a .args .mask) (a .args .out .now) (k .last .0) (c .before .before .clear .last .0) (a .pre) (k .ensures) (k .kept .0) (c .before .before .clear .ensures)))

@@ -39,7 +39,10 @@ put-boards-spec =
     (λ c κs. let r = room (c .before .before) in let t = tail-length (17 * c .before .before .before .loop .i) (c .before .before .before .loop .out) in omega arith)
     (λ c. search needs)
     (λ c. search needs)
-    (λ c. let k = c .before .before .before .before .before .before .loop in let a = c .before .before .before .before .before .before .before .before .before .args in let p = c .before .before .put-board in let t = c .before .before .before .before .before .loop-test .taken in let r = room (c .before .before .before .before .before) in
-    (omega arith, boards-more (a .masks .now) (a .out .now) (k .out) (k .i) (k .inv .1) t (p .last .0) (p .ensures), handed-length (17 * k .i) (k .out) (p .last .0) (omega arith) (p .kept .0) ∙ k .inv .2))
+    (λ c. let k = c .before .before .before .before .before .before .loop in let a = c .before .before .before .before .before .before .before .before .before .args in let p = c .before .before .put-board in let t = c .before .before .before .before .before .loop-test .taken in let r = room (c .before .before .before .before .before) in (
+      omega arith,
+      boards-more (a .masks .now) (a .out .now) (k .out) (k .i) (k .inv .1) t (p .last .0) (p .ensures),
+      handed-length (17 * k .i) (k .out) (p .last .0) (omega arith) (p .kept .0) ∙ k .inv .2,
+    ))
     (λ c. c .before .loop .inv .2)
     (λ c. let k = c .before .loop in let a = c .before .before .before .before .args in let l = c .loop-test .left in boards-all (a .masks .now) (a .out .now) (k .out) (k .i) (k .inv .1) (omega arith)))
