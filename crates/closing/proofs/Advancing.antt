@@ -1,12 +1,10 @@
 -- What the functions that put the next state ask of each other, and what they have put: `next-put`; what the counts tell: `advanced-..`.
 -- Assumes nothing.
 use mathlib.Core.Path.{_≡_, sym, ap, _∙_, subst}
-use mathlib.Core.Bool.{true}
 use mathlib.Core.List.{List, []}
 use Prim.Native.Nat.{ℕ, _+_, _<_, _≤_}
 use native.Mathlib.Omega.{arith}
 use lib.ListN.{length, take}
-use lib.Dec.{leb}
 use borrow.Author.Tests.{le-leb, lt-leb}
 use Rattle.answers.specs.declared.Refusal.{Refusal}
 use Rattle.answers.specs.declared.Refusal.the-variants.{Slots, Nodes}
@@ -33,8 +31,7 @@ module _ {s second masks owner u marks : List ℕ} {boards slots nodes next-slot
     (ask : NextAsk s second boards slots nodes masks owner next-slots next-nodes u marks) where
   pub spread-ask : SpreadAsk s boards slots nodes owner u marks
   spread-ask =
-      let c = ask .counts .nodes-are in
-      let f = ask .counts .few-nodes in
+      let c = ask .counts in
       record { known = ask .known; few = omega arith; u-long = ask .u-long; marks-long = ask .marks-long }
 
   module _ {u′ marks′ : List ℕ} {n : ℕ} (h : Spreads s u′ marks′ n) where
@@ -76,28 +73,26 @@ module _ {s second : List ℕ} {boards slots nodes : ℕ} (ask : AdvanceAsk s se
     pub advanced-slots : 64 < r .slots → Advances s second second (Refused Slots)
     advanced-slots l = let e = total .slots-are in refusal Slots (order-refused 7 _ _ _ (lt-leb (length (nextIn s)) 64 (omega arith)))
 
-    module _ (few-slots : r .slots ≤ 64) where
-      slots-ok : leb (length (nextIn s)) 64 ≡ true
-      slots-ok = let e = total .slots-are in le-leb (length (nextIn s)) 64 (omega arith)
+    pub advanced-nodes : r .slots ≤ 64 → 4096 < r .nodes → Advances s second second (Refused Nodes)
+    advanced-nodes few l =
+        let a = total .slots-are in
+        let b = total .nodes-are in
+        refusal Nodes (order-ok 7 _ _ _ (le-leb (length (nextIn s)) 64 (omega arith)) ∙ order-refused 8 _ _ _ (lt-leb (nodesOf (nextIn s)) 4096 (omega arith)))
 
-      pub advanced-nodes : 4096 < r .nodes → Advances s second second (Refused Nodes)
-      advanced-nodes l =
-          let e = total .nodes-are in refusal Nodes (order-ok 7 _ _ _ slots-ok ∙ order-refused 8 _ _ _ (lt-leb (nodesOf (nextIn s)) 4096 (omega arith)))
+    pub counts-are : r .slots ≤ 64 → r .nodes ≤ 4096 → Counts (nextIn s) (r .slots) (r .nodes)
+    counts-are few-slots few-nodes =
+        let a = total .slots-are in
+        let b = total .nodes-are in
+        record { slots-are = omega arith; nodes-are = omega arith; few-slots = few-slots; few-nodes = few-nodes }
 
-      module _ (few-nodes : r .nodes ≤ 4096) where
-        counts-are : Counts (nextIn s) (r .slots) (r .nodes)
-        counts-are =
-            let a = total .slots-are in
-            let b = total .nodes-are in
-            record { slots-are = omega arith; nodes-are = omega arith; few-slots = few-slots; few-nodes = few-nodes }
+  -- within the limits
+  module _ {next-slots next-nodes : ℕ} (counts : Counts (nextIn s) next-slots next-nodes) where
+    pub next-ask : {masks owner u marks : List ℕ} → masks ≡ masksIn s → Known s boards slots nodes owner → length u ≡ nodesMost → length marks ≡ nodesMost
+        → NextAsk s second boards slots nodes masks owner next-slots next-nodes u marks
+    next-ask e k lu lm = record { known = k; counted = ask .counted; long = ask .long; masks-are = e; counts = counts; u-long = lu; marks-long = lm }
 
-        pub next-ask : {masks owner u marks : List ℕ} → masks ≡ masksIn s → Known s boards slots nodes owner → length u ≡ nodesMost → length marks ≡ nodesMost
-            → NextAsk s second boards slots nodes masks owner (r .slots) (r .nodes) u marks
-        next-ask e k lu lm =
-            record { known = k; counted = ask .counted; long = ask .long; masks-are = e; counts = counts-are; u-long = lu; marks-long = lm }
-
-        pub advanced-done : {second′ : List ℕ} → second′ ≡ nextState s → Advances s second second′ Done
-        advanced-done h =
-            let n = total .nodes-are in
-            let says : advanceSays s ≡ accepted [] = order-ok 7 _ _ _ slots-ok ∙ order-ok 8 _ _ _ (le-leb (nodesOf (nextIn s)) 4096 (omega arith)) ∙ order-done _ in
-            record { says = sym says; leaves = h ∙ sym (ap (λ (x : Said). left x (nextState s) second) says ∙ left-accepted [] (nextState s) second) }
+    pub advanced-done : {second′ : List ℕ} → second′ ≡ nextState s → Advances s second second′ Done
+    advanced-done h =
+        let says : advanceSays s ≡ accepted [] =
+        order-ok 7 _ _ _ (le-leb (length (nextIn s)) 64 (omega arith)) ∙ order-ok 8 _ _ _ (le-leb (nodesOf (nextIn s)) 4096 (omega arith)) ∙ order-done _ in
+        record { says = sym says; leaves = h ∙ sym (ap (λ (x : Said). left x (nextState s) second) says ∙ left-accepted [] (nextState s) second) }

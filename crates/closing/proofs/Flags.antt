@@ -9,22 +9,22 @@ use Rattle.state.specs.Clauses.{eachBelow}
 use Rattle.checking.proofs.Each.{each-none, each-more, each-false}
 
 -- the flags that are read are 1 so far
-module _ (flag : ℕ → ℕ) where
-  pub record AllSet (n i : ℕ) : Type 0 where
-    pub inside : i ≤ n
-    pub all : eachBelow i (λ k. eqb (flag k) 1) ≡ true
+pub record AllSet (flag : ℕ → ℕ) (n i : ℕ) : Type 0 where
+  pub inside : i ≤ n
+  pub all : eachBelow i (λ k. eqb (flag k) 1) ≡ true
 
-  pub flags-none : (n : ℕ) → AllSet n 0
-  flags-none n = record { inside = omega arith; all = each-none (λ k. eqb (flag k) 1) }
+pub flags-none : (flag : ℕ → ℕ) (n : ℕ) → AllSet flag n 0
+flags-none flag n = record { inside = omega arith; all = each-none (λ k. eqb (flag k) 1) }
 
-  pub flags-more : (n i x : ℕ) → AllSet n i → i < n → x ≡ flag i → x ≡ 1 → AllSet n (i + 1)
-  flags-more n i x a l e h = record { inside = omega arith; all = each-more (λ k. eqb (flag k) 1) i (a .all) (eq-eqb (flag i) 1 (sym e ∙ h)) }
+module _ {flag : ℕ → ℕ} {n i : ℕ} (a : AllSet flag n i) where
+  pub flags-more : i < n → {x : ℕ} → x ≡ flag i → x ≡ 1 → AllSet flag n (i + 1)
+  flags-more l e h = record { inside = omega arith; all = each-more (λ k. eqb (flag k) 1) i (a .all) (eq-eqb (flag i) 1 (sym e ∙ h)) }
 
-  pub flag-missing : (n m i x : ℕ) → n ≡ m → i < n → x ≡ flag i → (x ≡ 1 → ⊥) → false ≡ eachBelow m (λ k. eqb (flag k) 1)
-  flag-missing n m i x en l e h = sym (each-false (λ k. eqb (flag k) 1) i m (omega arith) (ne-eqb (flag i) 1 (λ q. h (e ∙ q))))
+  module _ {m : ℕ} (same : n ≡ m) where
+    pub flag-missing : i < n → {x : ℕ} → x ≡ flag i → (x ≡ 1 → ⊥) → false ≡ eachBelow m (λ k. eqb (flag k) 1)
+    flag-missing l e h = sym (each-false (λ k. eqb (flag k) 1) i m (omega arith) (ne-eqb (flag i) 1 (λ q. h (e ∙ q))))
 
-  pub flags-all : (n m i : ℕ) → n ≡ m → AllSet n i → n ≤ i → true ≡ eachBelow m (λ k. eqb (flag k) 1)
-  flags-all n m i en a l =
-      let b = a .inside in
-      let e : i ≡ m = omega arith in
-      sym (a .all) ∙ ap (λ (j : ℕ). eachBelow j (λ k. eqb (flag k) 1)) e
+    pub flags-all : n ≤ i → true ≡ eachBelow m (λ k. eqb (flag k) 1)
+    flags-all l =
+        let e : i ≡ m = omega arith in
+        sym (a .all) ∙ ap (λ (j : ℕ). eachBelow j (λ k. eqb (flag k) 1)) e

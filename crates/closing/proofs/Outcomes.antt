@@ -1,7 +1,7 @@
 -- What `close` answers and leaves, one law for each outcome, over plain lists. Assumes nothing.
 use mathlib.Core.Path.{_≡_, sym, ap, _∙_}
 use mathlib.Core.Bool.{Bool, true, false, not}
-use mathlib.Core.List.{List}
+use mathlib.Core.List.{List, _∷_}
 use Prim.Native.Nat.{ℕ, _+_, _<_, _≤_, _^_}
 use native.Mathlib.Omega.{arith}
 use lib.ListN.{length}
@@ -13,7 +13,7 @@ use Rattle.answers.specs.declared.Refusal.{Refusal}
 use Rattle.answers.specs.declared.Refusal.the-variants.{Length, State, Finished, Unready, Ticks}
 use Rattle.answers.specs.declared.Outcome.{Outcome}
 use Rattle.answers.specs.declared.Outcome.the-variants.{Refused}
-use Rattle.answers.specs.Said.{Said, refused, left, numberOf}
+use Rattle.answers.specs.Said.{Said, refused, left, numberOf, Check, check, inOrder}
 use Rattle.answers.proofs.Answers.{left-refused, order-ok, order-refused}
 use Rattle.state.specs.Fields.{ticksIn}
 use Rattle.state.specs.Clauses.{stateOk}
@@ -50,35 +50,40 @@ module _ (s second : List ℕ) where
       unfolding closeSays
       refused-finished e = refusal Finished (order-ok 1 _ _ _ long-ok ∙ order-ok 9 _ _ _ ok ∙ order-refused 10 _ _ _ (ap not e))
 
-      module _ (going : finishedIn s ≡ false) where
-        unready : doneIn s ≡ false → Closes s second second (Refused Unready)
-        unfolding closeSays
-        unready e = refusal Unready (order-ok 1 _ _ _ long-ok ∙ order-ok 9 _ _ _ ok ∙ order-ok 10 _ _ _ (ap not going) ∙ order-refused 14 _ _ _ e)
+-- what the checks have told up to the boards'
+pub record Going (s second : List ℕ) : Type 0 where
+  pub long : length second ≡ 4768
+  pub passes : stateOk s ≡ true
+  pub going : finishedIn s ≡ false
 
-        pub refused-boards : allSampled s ≡ false → Closes s second second (Refused Unready)
-        unfolding doneIn
-        refused-boards e = unready (first-false (allSampled s) (allStepped s) e)
+module _ {s second : List ℕ} (g : Going s second) where
+  going-says : (cs : List Check) (t : Said) → inOrder (check 1 (eqb (length second) 4768) ∷ check 9 (stateOk s) ∷ check 10 (not (finishedIn s)) ∷ cs) t ≡ inOrder cs t
+  going-says cs t = order-ok 1 _ _ _ (long-ok s second (g .long)) ∙ order-ok 9 _ _ _ (g .passes) ∙ order-ok 10 _ _ _ (ap not (g .going))
 
-        module _ (sampled : allSampled s ≡ true) where
-          pub refused-slots : allStepped s ≡ false → Closes s second second (Refused Unready)
-          unfolding doneIn
-          refused-slots e = unready (second-false (allSampled s) (allStepped s) sampled e)
+  unready : doneIn s ≡ false → Closes s second second (Refused Unready)
+  unfolding closeSays
+  unready e = refusal s second Unready (going-says _ _ ∙ order-refused 14 _ _ _ e)
 
-          module _ (stepped : allStepped s ≡ true) where
-            done-ok : doneIn s ≡ true
-            unfolding doneIn
-            done-ok = both-true (allSampled s) (allStepped s) sampled stepped
+  pub refused-boards : allSampled s ≡ false → Closes s second second (Refused Unready)
+  unfolding doneIn
+  refused-boards e = unready (first-false (allSampled s) (allStepped s) e)
 
-            pub refused-ticks : 4294967295 ≤ ticksIn s → Closes s second second (Refused Ticks)
-            unfolding closeSays
-            refused-ticks l =
-                refusal Ticks
-                (order-ok 1 _ _ _ long-ok ∙ order-ok 9 _ _ _ ok ∙ order-ok 10 _ _ _ (ap not going) ∙ order-ok 14 _ _ _ done-ok
-                ∙ order-refused 15 _ _ _ (le-ltb (ticksIn s + 1) (2 ^ 32) (omega arith)))
+  module _ (sampled : allSampled s ≡ true) where
+    pub refused-slots : allStepped s ≡ false → Closes s second second (Refused Unready)
+    unfolding doneIn
+    refused-slots e = unready (second-false (allSampled s) (allStepped s) sampled e)
 
-            pub advanced : (ticksIn s + 1 < 2 ^ 32) → {second′ : List ℕ} {answer : Outcome} → Advances s second second′ answer → Closes s second second′ answer
-            unfolding closeSays
-            advanced l x =
-                let says : closeSays s (length second) ≡ advanceSays s =
-                order-ok 1 _ _ _ long-ok ∙ order-ok 9 _ _ _ ok ∙ order-ok 10 _ _ _ (ap not going) ∙ order-ok 14 _ _ _ done-ok ∙ order-ok 15 _ _ _ (lt-ltb (ticksIn s + 1) (2 ^ 32) l) in
-                record { says = x .says ∙ sym says; leaves = x .leaves ∙ sym (ap (λ (y : Said). left y (nextState s) second) says) }
+    module _ (stepped : allStepped s ≡ true) where
+      done-ok : doneIn s ≡ true
+      unfolding doneIn
+      done-ok = both-true (allSampled s) (allStepped s) sampled stepped
+
+      pub refused-ticks : 4294967295 ≤ ticksIn s → Closes s second second (Refused Ticks)
+      unfolding closeSays
+      refused-ticks l = refusal s second Ticks (going-says _ _ ∙ order-ok 14 _ _ _ done-ok ∙ order-refused 15 _ _ _ (le-ltb (ticksIn s + 1) (2 ^ 32) (omega arith)))
+
+      pub advanced : ticksIn s + 1 < 2 ^ 32 → {second′ : List ℕ} {answer : Outcome} → Advances s second second′ answer → Closes s second second′ answer
+      unfolding closeSays
+      advanced l x =
+          let says : closeSays s (length second) ≡ advanceSays s = going-says _ _ ∙ order-ok 14 _ _ _ done-ok ∙ order-ok 15 _ _ _ (lt-ltb (ticksIn s + 1) (2 ^ 32) l) in
+          record { says = x .says ∙ sym says; leaves = x .leaves ∙ sym (ap (λ (y : Said). left y (nextState s) second) says) }

@@ -30,32 +30,27 @@ module _ (slots nodes : List ℕ) (b : ℕ) (t : Totals) where
 over-end : (entry : ℕ → ℕ) (p : List ℕ) (i : ℕ) → length p ≤ i → heldOver entry (drop i p) ≡ 0
 over-end entry p i h = ap (heldOver entry) (drop-of-length-le p h)
 
-module _ (slots nodes p : List ℕ) where
-  -- the bytes before place i are added
-  pub record Added (i : ℕ) (t : Totals) : Type 0 where
-    pub few-slots : t .slots ≤ 65
-    pub few-nodes : t .nodes ≤ 4097
-    pub slots-are : capped slotsMost (t .slots + heldOver (entryIn slots) (drop i p)) ≡ capped slotsMost (heldOver (entryIn slots) p)
-    pub nodes-are : capped nodesMost (t .nodes + heldOver (entryIn nodes) (drop i p)) ≡ capped nodesMost (heldOver (entryIn nodes) p)
+-- the bytes before place i are added
+pub record Added (slots nodes p : List ℕ) (i : ℕ) (t : Totals) : Type 0 where
+  pub few-slots : t .slots ≤ 65
+  pub few-nodes : t .nodes ≤ 4097
+  pub slots-are : capped slotsMost (t .slots + heldOver (entryIn slots) (drop i p)) ≡ capped slotsMost (heldOver (entryIn slots) p)
+  pub nodes-are : capped nodesMost (t .nodes + heldOver (entryIn nodes) (drop i p)) ≡ capped nodesMost (heldOver (entryIn nodes) p)
 
-  pub added-none : Added 0 (record { slots = 0; nodes = 0 })
-  added-none = record { few-slots = omega arith; few-nodes = omega arith; slots-are = omega arith; nodes-are = omega arith }
+pub added-none : {slots nodes p : List ℕ} → Added slots nodes p 0 (record { slots = 0; nodes = 0 })
+added-none = record { few-slots = omega arith; few-nodes = omega arith; slots-are = omega arith; nodes-are = omega arith }
 
-  pub added-more : (i : ℕ) (t r : Totals) → i < length p → Added i t → r .slots ≡ capped slotsMost (t .slots + heldAt (entryIn slots) (getD p i 0))
-      → r .nodes ≡ capped nodesMost (t .nodes + heldAt (entryIn nodes) (getD p i 0)) → Added (i + 1) r
-  added-more i t r l a es en =
+module _ {slots nodes p : List ℕ} {i : ℕ} {t : Totals} (a : Added slots nodes p i t) where
+  pub added-more : i < length p → {r : Totals} → After slots nodes (getD p i 0) t r → Added slots nodes p (i + 1) r
+  added-more l e =
       let x = over-next (entryIn slots) p i l in
       let y = over-next (entryIn nodes) p i l in
-      let xs = a .slots-are in
-      let ys = a .nodes-are in
+      let es = e .0 in
+      let en = e .1 in
       record { few-slots = omega arith; few-nodes = omega arith; slots-are = omega arith; nodes-are = omega arith }
 
-  pub added-all : (i : ℕ) (t : Totals) → length p ≤ i → Added i t → HeldBy slots nodes p t
-  added-all i t l a =
+  pub added-all : length p ≤ i → HeldBy slots nodes p t
+  added-all l =
       let x = over-end (entryIn slots) p i l in
       let y = over-end (entryIn nodes) p i l in
-      let fs = a .few-slots in
-      let fn = a .few-nodes in
-      let xs = a .slots-are in
-      let ys = a .nodes-are in
       record { slots-are = omega arith; nodes-are = omega arith }

@@ -51,52 +51,40 @@ pub record Filled (s : List ℕ) (k : ℕ) (slots nodes : List ℕ) : Type 0 whe
   pub slots-are : From slotsMost (slotsIn s) k (slotsOfSlot s) slots
   pub nodes-are : From nodesMost (slotsIn s) k (nodesOfSlot s) nodes
 
-pub filled-none : (s : List ℕ) (k : ℕ) (slots nodes : List ℕ) → k ≡ slotsIn s → Tables slots nodes → Filled s k slots nodes
-filled-none s k slots nodes e t = record { tables = t; slots-are = λ m a b. absurd (omega arith); nodes-are = λ m a b. absurd (omega arith) }
+pub filled-none : {s : List ℕ} {k : ℕ} {slots nodes : List ℕ} → k ≡ slotsIn s → Tables slots nodes → Filled s k slots nodes
+filled-none e t = record { tables = t; slots-are = λ m a b. absurd (omega arith); nodes-are = λ m a b. absurd (omega arith) }
 
-module _ (s : List ℕ) (ok : stateOk s ≡ true) where
-  -- what slot j holds, by the entries above it
-  held-is : (most j k : ℕ) (count : ℕ → ℕ) (entries : List ℕ) → j < slotsIn s → k ≤ j + 1 → From most (slotsIn s) k count entries
-      → capped most (heldOver (entryIn entries) (encode (formulaAt s j))) ≡ capped most (held count (unfolded (formulaAt s j)))
-  held-is most j k count entries l a from =
-      let f = formulaAt s j in
-      let choose = chosen (masksIn s) in
-      let entry = entryIn entries in
-      let clean = slot-clean s ok j l in
-      ap (capped most) (clean-held entry choose f (passing s ok .slots j l .coded) clean ∙ sym (unfolded-held choose entry f clean))
-      ∙ held-capped most entry count (unfolded f)
-      (holds-map (λ m. (j < m) × (m < slotsIn s)) (λ m. entry m ≡ capped most (count m)) (λ m h. (let lo = h .0 in from m (omega arith) (h .1))) (unfolded f) (slot-higher s ok j l))
+-- what slot j holds, by the entries above it
+held-is : (s : List ℕ) → stateOk s ≡ true → (most j k : ℕ) (count : ℕ → ℕ) (entries : List ℕ) → j < slotsIn s → k ≤ j + 1 → From most (slotsIn s) k count entries
+    → capped most (heldOver (entryIn entries) (encode (formulaAt s j))) ≡ capped most (held count (unfolded (formulaAt s j)))
+held-is s ok most j k count entries l a from =
+    let f = formulaAt s j in
+    let choose = chosen (masksIn s) in
+    let entry = entryIn entries in
+    let clean = slot-clean s ok j l in
+    ap (capped most) (clean-held entry choose f (passing s ok .slots j l .coded) clean ∙ sym (unfolded-held choose entry f clean))
+    ∙ held-capped most entry count (unfolded f)
+    (holds-map (λ m. (j < m) × (m < slotsIn s)) (λ m. entry m ≡ capped most (count m)) (λ m h. (let lo = h .0 in from m (omega arith) (h .1))) (unfolded f) (slot-higher s ok j l))
 
-  module _ (j k : ℕ) (slots nodes : List ℕ) (l : j < slotsIn s) (a : k ≤ j + 1) (filled : Filled s k slots nodes) (r : Totals)
-      (counted : CountedOn (masksIn s) slots nodes (formulaAt s j) (boardOfIn s j) r) where
-    slots-entry : r .slots ≡ capped slotsMost (slotsOfSlot s j)
-    slots-entry =
-        let e = counted .slots-are in
-        let h = held-is slotsMost j k (slotsOfSlot s) slots l a (filled .slots-are) in
-        let n = slots-at s ok j l in
-        omega arith
+module _ {s : List ℕ} {k : ℕ} {slots nodes : List ℕ} (ok : stateOk s ≡ true) (filled : Filled s k slots nodes) where
+  pub filled-more : {j : ℕ} → j < slotsIn s → k ≤ j + 1 → {r : Totals} → CountedOn (masksIn s) slots nodes (formulaAt s j) (boardOfIn s j) r
+      → Filled s j (set slots j (r .slots)) (set nodes j (r .nodes))
+  filled-more {j} l a {r} counted =
+      let few = passing s ok .header .few-slots in
+      let ls = filled .tables .slots-long in
+      let ln = filled .tables .nodes-long in
+      let hs = held-is s ok slotsMost j k (slotsOfSlot s) slots l a (filled .slots-are) in
+      let hn = held-is s ok nodesMost j k (nodesOfSlot s) nodes l a (filled .nodes-are) in
+      let ns = slots-at s ok j l in
+      let nn = nodes-at s ok j l in
+      record {
+        tables = record { slots-long = length-set slots j (r .slots) ∙ ls; nodes-long = length-set nodes j (r .nodes) ∙ ln };
+        slots-are = from-more slotsMost (slotsIn s) k (slotsOfSlot s) slots j (r .slots) a (omega arith) (filled .slots-are) (let e = counted .slots-are in omega arith);
+        nodes-are = from-more nodesMost (slotsIn s) k (nodesOfSlot s) nodes j (r .nodes) a (omega arith) (filled .nodes-are) (let e = counted .nodes-are in omega arith);
+      }
 
-    nodes-entry : r .nodes ≡ capped nodesMost (nodesOfSlot s j)
-    nodes-entry =
-        let e = counted .nodes-are in
-        let h = held-is nodesMost j k (nodesOfSlot s) nodes l a (filled .nodes-are) in
-        let n = nodes-at s ok j l in
-        omega arith
-
-    pub filled-more : Filled s j (set slots j (r .slots)) (set nodes j (r .nodes))
-    filled-more =
-        let t = filled .tables in
-        let ls = t .slots-long in
-        let ln = t .nodes-long in
-        let few = passing s ok .header .few-slots in
-        record {
-          tables = record { slots-long = length-set slots j (r .slots) ∙ ls; nodes-long = length-set nodes j (r .nodes) ∙ ln };
-          slots-are = from-more slotsMost (slotsIn s) k (slotsOfSlot s) slots j (r .slots) a (omega arith) (filled .slots-are) slots-entry;
-          nodes-are = from-more nodesMost (slotsIn s) k (nodesOfSlot s) nodes j (r .nodes) a (omega arith) (filled .nodes-are) nodes-entry;
-        }
-
-  pub filled-all : (k : ℕ) (slots nodes : List ℕ) → k ≤ 0 → Filled s k slots nodes → Totalled (nextIn s) (record { slots = getD slots 0 0; nodes = getD nodes 0 0 })
-  filled-all k slots nodes l filled =
+  pub filled-all : k ≤ 0 → Totalled (nextIn s) (record { slots = getD slots 0 0; nodes = getD nodes 0 0 })
+  filled-all l =
       let some = passing s ok .header .some-slots in
       record {
         slots-are = filled .slots-are 0 (omega arith) (omega arith) ∙ ap (capped slotsMost) (sym (next-slots s ok));

@@ -1,7 +1,7 @@
 -- What the functions that put the first state ask of each other, and what they have put: `first-put`. Assumes nothing.
 use mathlib.Core.Path.{_≡_, sym, ap, _∙_, subst}
 use mathlib.Core.List.{List, []}
-use Prim.Native.Nat.{ℕ, _+_, _≤_, min}
+use Prim.Native.Nat.{ℕ, _+_, _≤_}
 use native.Mathlib.Omega.{arith}
 use lib.ListN.{length, take}
 use lib.Dec.{eqb}
@@ -13,18 +13,18 @@ use Rattle.network.specs.Scores.{chosen}
 use Rattle.state.specs.Calls.{firstOf, loadedState}
 use Rattle.nodes.specs.Begins.{Front, Begins}
 use Rattle.nodes.proofs.Fronts.{front-length, front-one-way}
-use Rattle.scores.specs.Owned.{Table, Owned}
+use Rattle.scores.specs.Owned.{Table}
 use Rattle.unfolding.specs.declared.Walk.{Walk}
 use Rattle.unfolding.specs.Unfolds.{Room, Unfolds, UnfoldedTo}
 use Rattle.unfolding.proofs.Fronts.{written-bytes, written-front}
 use Rattle.cutting.specs.declared.Part.{Part}
-use Rattle.cutting.specs.Cuts.{codeOf, Parted}
+use Rattle.cutting.specs.Cuts.{codeOf}
 use Rattle.cutting.proofs.Choices.{chosen-below}
 use Rattle.marking.specs.declared.Placed.{Placed}
 use Rattle.marking.specs.Marks.{MarkedAs, Marking}
 use Rattle.storing.specs.Stores.{LaidOut, Counts, StateAsk, Stores}
 use Rattle.loading.specs.Load.{BeginAsk, FirstAsk, Firsts}
-use Rattle.loading.proofs.Rules.{board-of, first-large, first-slots, first-nodes, first-choice, first-laid}
+use Rattle.loading.proofs.Rules.{Fitting, board-of, first-large, first-slots, first-nodes, first-choice, first-laid}
 
 pub whole-begins : {s : List ℕ} {f : Formula} → Front s f [] → Begins s
 whole-begins {f = f} x = record { formula = f; rest = []; front = x }
@@ -34,10 +34,10 @@ module _ {state masks bytes owner : List ℕ} {board slots nodes : ℕ} {u marks
   U = unfolded (ask .rule)
 
   pub first-size : size U ≤ 4096
-  first-size = let l = first-large (ask .ruled) in let n = ask .nodes-are in let f = ask .few-nodes in omega arith
+  first-size = let l = first-large (ask .ruled) in omega arith
 
   pub unfold-ask : Room u bytes
-  unfold-ask = record { begins = record { formula = ask .rule; rest = []; front = ask .ruled .front }; room = let s = first-size in let l = ask .u-long in omega arith }
+  unfold-ask = record { begins = record { formula = ask .rule; rest = []; front = ask .ruled .front }; room = let s = first-size in omega arith }
 
   module _ {u′ : List ℕ} (w : Walk) (h : Unfolds u bytes u′ (w .read) (w .written)) where
     rule-unfolded : UnfoldedTo (ask .rule) u u′ (w .read) (w .written)
@@ -50,7 +50,6 @@ module _ {state masks bytes owner : List ℕ} {board slots nodes : ℕ} {u marks
     mark-ask =
         let e = front-length (take (w .written) u′) U [] front-is in
         let s = first-size in
-        let l = ask .marks-long in
         (whole-begins front-is, ask .table, omega arith, omega arith)
 
     module _ {marks′ : List ℕ} (y : Placed) (m : Marking owner (take (w .written) u′) board marks′ y) (kept : length marks′ ≡ length marks) where
@@ -58,7 +57,7 @@ module _ {state masks bytes owner : List ℕ} {board slots nodes : ℕ} {u marks
       laid-is =
           subst (λ (x : List ℕ). LaidOut x marks′ (firstOf masks (ask .rule))) (sym (written-bytes rule-unfolded))
           (first-laid (ask .ruled) owner (ask .owned) marks′ y (subst (λ (b : ℕ). MarkedAs owner U b marks′ y) (ask .board-is) (m U [] front-is))
-          (let s = first-size in let l = ask .marks-long in omega arith))
+          (let s = first-size in omega arith))
 
       counts-are : Counts (firstOf masks (ask .rule)) slots nodes
       counts-are = record { slots-are = ask .slots-are; nodes-are = ask .nodes-are; few-slots = ask .few-slots; few-nodes = ask .few-nodes }
@@ -72,27 +71,26 @@ module _ {state masks bytes owner : List ℕ} {board slots nodes : ℕ} {u marks
           subst (λ (f : Formula). state′ ≡ loadedState masks f) same (h (firstOf masks (ask .rule)) laid-is counts-are)
 
 -- ---- what the counts tell
-pub first-ask : {masks bytes state owner : List ℕ} (ask : BeginAsk masks bytes state) (owned : Owned (ask .ruled .propositions) masks owner) → Table owner
-    → (x : Part) → Parted owner (unfolded (ask .rule)) boardsMost x → 1 + x .cuts ≤ 64 → (count : ℕ) → count ≡ min (size (unfolded (ask .rule))) 4097 → count + x .cuts ≤ 4096
-    → (board : ℕ) → board ≡ pick (eqb (x .choice) boardsMost) 0 (x .choice)
-    → (u : List ℕ) → length u ≡ 4096 → (marks : List ℕ) → length marks ≡ 4096
+pub first-ask : {masks bytes state owner : List ℕ} (ask : BeginAsk masks bytes state) → Table owner → {x : Part} {count : ℕ} → Fitting (ask .ruled) owner x count
+    → {board : ℕ} → board ≡ pick (eqb (x .choice) boardsMost) 0 (x .choice) → {u marks : List ℕ} → length u ≡ 4096 → length marks ≡ 4096
     → FirstAsk state masks bytes owner board (1 + x .cuts) (count + x .cuts) u marks
-first-ask {masks} {owner = owner} ask owned table x parted few count c most board b u ul marks ml =
-    let r = ask .ruled in
-    let s = first-slots r owner owned x parted in
-    let n = first-nodes r owner owned x parted in
-    let h = first-choice r owner owned x parted in
+first-ask {masks} ask table fits b ul ml =
+    let s = first-slots (fits .cut) in
+    let n = first-nodes (fits .cut) in
     record {
       rule = ask .rule;
-      ruled = r;
+      ruled = ask .ruled;
       long = ask .long;
       table = table;
-      owned = owned;
-      board-is = b ∙ ap (λ (i : ℕ). pick (eqb i boardsMost) 0 i) (parted .choice-is ∙ ap codeOf h) ∙ board-of (chosen masks (unfolded (ask .rule))) (λ c e. chosen-below boardsMost masks (r .few-boards) (unfolded (ask .rule)) c e);
+      owned = fits .cut .owned;
+      board-is =
+          b
+          ∙ ap (λ (i : ℕ). pick (eqb i boardsMost) 0 i) (fits .cut .parted .choice-is ∙ ap codeOf (first-choice (fits .cut)))
+          ∙ board-of (chosen masks (unfolded (ask .rule))) (λ c e. chosen-below boardsMost masks (ask .ruled .few-boards) (unfolded (ask .rule)) c e);
       slots-are = omega arith;
       nodes-are = omega arith;
-      few-slots = few;
-      few-nodes = most;
+      few-slots = fits .few-slots;
+      few-nodes = fits .few-nodes;
       u-long = ul;
       marks-long = ml;
     }

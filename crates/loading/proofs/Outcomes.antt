@@ -20,15 +20,12 @@ use Rattle.ltl.specs.Formula.{Formula, size, encode, Within}
 use Rattle.ltl.specs.Progression.{unfolded}
 use Rattle.state.specs.Bytes.{nodesOf}
 use Rattle.state.specs.Calls.{firstOf, loadedState}
-use Rattle.scores.specs.Owned.{Owned}
 use Rattle.cutting.specs.declared.Part.{Part}
-use Rattle.cutting.specs.Cuts.{Parted}
 use Rattle.ltl.specs.Limits.{boardsMost, ruleNodesMost}
 use Rattle.masks.specs.Masks.{masksRule}
 use Rattle.ltl.specs.Text.{textOf, ruleText, someFormula}
 use Rattle.ltl.proofs.Texts.{RuleText, rule-is, text-of, wider}
 use Rattle.rules.specs.declared.reading.Counts.{Counts}
-use Rattle.rules.specs.declared.reading.ReadAnswer.{ReadAnswer}
 use Rattle.rules.specs.declared.reading.ReadAnswer.the-variants.{Rule}
 use Rattle.lists.proofs.Listed.{listed-length}
 use Rattle.rules.proofs.Outcomes.{sized, counted, placed, ReadPassed, read-passed}
@@ -37,35 +34,35 @@ use Rattle.rules.specs.Read.{offsetsOk, readSays, Reads}
 use Rattle.rules.specs.Read as read
 use Rattle.state.specs.Fields.{stateLength}
 use Rattle.loading.specs.Load.{ruleIn, lengthsOk, loadSays, LoadsRule, Ruled, beginSays, BeginAsk, Begun}
-use Rattle.loading.proofs.Rules.{first-slots, first-nodes}
+use Rattle.loading.proofs.Rules.{Cut, Fitting, first-slots, first-nodes}
 
 -- ---- begin
-module _ (masks bytes state : List ℕ) (owner : List ℕ) (x : Part) (rule : Formula) (r : Ruled masks bytes rule) (owned : Owned (r .propositions) masks owner)
-    (parted : Parted owner (unfolded rule) boardsMost x) where
-  abbrev Ends : List ℕ → Said → Type 0
-  Ends state′ said = (said ≡ beginSays masks rule) × (state′ ≡ left (beginSays masks rule) (loadedState masks rule) state)
+-- so much is answered of a rule, and so much left of the state
+abbrev Ends : List ℕ → Formula → List ℕ → List ℕ → Said → Type 0
+Ends masks rule state state′ said = (said ≡ beginSays masks rule) × (state′ ≡ left (beginSays masks rule) (loadedState masks rule) state)
 
-  refusal : (why : Refusal) → beginSays masks rule ≡ refused (numberOf why) → Ends state (refused (numberOf why))
-  refusal why e = (sym e, sym (ap (λ (s : Said). left s (loadedState masks rule) state) e ∙ left-refused why (loadedState masks rule) state))
+refusal : (masks : List ℕ) (rule : Formula) (state : List ℕ) (why : Refusal) → beginSays masks rule ≡ refused (numberOf why) → Ends masks rule state state (refused (numberOf why))
+refusal masks rule state why e = (sym e, sym (ap (λ (s : Said). left s (loadedState masks rule) state) e ∙ left-refused why (loadedState masks rule) state))
 
-  pub begun-slots : 64 < 1 + x .cuts → Ends state (refused (numberOf Slots))
-  begun-slots l = let e = first-slots r owner owned x parted in refusal Slots (order-refused 7 _ _ _ (lt-leb (length (firstOf masks rule)) 64 (omega arith)))
+slots-ok : {masks bytes owner : List ℕ} {x : Part} {rule : Formula} {r : Ruled masks bytes rule} → Cut r owner x → 1 + x .cuts ≤ 64 → leb (length (firstOf masks rule)) 64 ≡ true
+slots-ok {masks} {rule = rule} cuts few = let e = first-slots cuts in le-leb (length (firstOf masks rule)) 64 (omega arith)
 
-  module _ (few : 1 + x .cuts ≤ 64) where
-    slots-ok : leb (length (firstOf masks rule)) 64 ≡ true
-    slots-ok = let e = first-slots r owner owned x parted in le-leb (length (firstOf masks rule)) 64 (omega arith)
+module _ {masks bytes owner : List ℕ} (state : List ℕ) {x : Part} {rule : Formula} {r : Ruled masks bytes rule} (cuts : Cut r owner x) where
+  pub begun-slots : 64 < 1 + x .cuts → Ends masks rule state state (refused (numberOf Slots))
+  begun-slots l = let e = first-slots cuts in refusal masks rule state Slots (order-refused 7 _ _ _ (lt-leb (length (firstOf masks rule)) 64 (omega arith)))
 
-    pub begun-nodes : (count : ℕ) → count ≡ min (size (unfolded rule)) 4097 → 4096 < count + x .cuts → Ends state (refused (numberOf Nodes))
-    begun-nodes count c l =
-        let e = first-nodes r owner owned x parted in
-        refusal Nodes (order-ok 7 _ _ _ slots-ok ∙ order-refused 8 _ _ _ (lt-leb (nodesOf (firstOf masks rule)) 4096 (omega arith)))
+  pub begun-nodes : 1 + x .cuts ≤ 64 → {count : ℕ} → count ≡ min (size (unfolded rule)) 4097 → 4096 < count + x .cuts → Ends masks rule state state (refused (numberOf Nodes))
+  begun-nodes few c l =
+      let e = first-nodes cuts in
+      refusal masks rule state Nodes (order-ok 7 _ _ _ (slots-ok cuts few) ∙ order-refused 8 _ _ _ (lt-leb (nodesOf (firstOf masks rule)) 4096 (omega arith)))
 
-    pub begun-done : (count : ℕ) → count ≡ min (size (unfolded rule)) 4097 → count + x .cuts ≤ 4096 → (state′ : List ℕ) → state′ ≡ loadedState masks rule → Ends state′ (accepted [])
-    begun-done count c l state′ h =
-        let e = first-nodes r owner owned x parted in
-        let says : beginSays masks rule ≡ accepted [] =
-        order-ok 7 _ _ _ slots-ok ∙ order-ok 8 _ _ _ (le-leb (nodesOf (firstOf masks rule)) 4096 (omega arith)) ∙ order-done _ in
-        (sym says, h ∙ sym (ap (λ (s : Said). left s (loadedState masks rule) state) says ∙ left-accepted [] (loadedState masks rule) state))
+pub begun-done : {masks bytes owner : List ℕ} (state : List ℕ) {x : Part} {count : ℕ} {rule : Formula} {r : Ruled masks bytes rule} → Fitting r owner x count
+    → {state′ : List ℕ} → state′ ≡ loadedState masks rule → Ends masks rule state state′ (accepted [])
+begun-done {masks} state {rule = rule} fits h =
+    let e = first-nodes (fits .cut) in
+    let says : beginSays masks rule ≡ accepted [] =
+    order-ok 7 _ _ _ (slots-ok (fits .cut) (fits .few-slots)) ∙ order-ok 8 _ _ _ (le-leb (nodesOf (firstOf masks rule)) 4096 (omega arith)) ∙ order-done _ in
+    (sym says, h ∙ sym (ap (λ (s : Said). left s (loadedState masks rule) state) says ∙ left-accepted [] (loadedState masks rule) state))
 
 -- ---- load
 -- a list of checks that refuses, with more checks behind it
@@ -148,12 +145,8 @@ module _ (file : List ℕ) (passed : ReadPassed file boardsMost ruleNodesMost) w
       let z = sized file boardsMost ruleNodesMost (passed .lengths) in
       let c = counted (boardsIn file) (propositionsIn file) (nodesIn file) (passed .counts) in
       let o = placed file (passed .offsets) in
-      let a = z .whole in
-      let b = o .total in
       let d = length-drop (formulaAt (boardsIn file)) file in
-      let n = c .nodes-few in
       let l = listed-length (maskIn file) (boardsIn file) in
-      let m = c .boards-few in
       record {
         propositions = propositionsIn file;
         few-propositions = c .propositions-few;
@@ -164,47 +157,6 @@ module _ (file : List ℕ) (passed : ReadPassed file boardsMost ruleNodesMost) w
         few-nodes = omega arith;
       }
 
-  -- the answer's counts, and the fronts of the lent outputs
-  module _ (c : Counts) (masks formula masks′ formula′ : List ℕ) (m : length masks ≡ boardsMost) (f : length formula ≡ ruleNodesMost) (r : Reads file masks formula masks′ formula′ (Rule c)) where
-    says-read : readSays file (length masks) (length formula) ≡ accepted (boardsIn file ∷ propositionsIn file ∷ nodesIn file ∷ [])
-    unfolding readSays
-    says-read =
-        ap₂ (readSays file) m f
-        ∙ order-ok 1 _ _ _ (passed .lengths)
-        ∙ order-ok 2 _ _ _ (passed .version)
-        ∙ order-ok 3 _ _ _ (passed .counts)
-        ∙ order-ok 4 _ _ _ (passed .offsets)
-        ∙ order-ok 5 _ _ _ (passed .masks)
-        ∙ order-ok 6 _ _ _ (passed .formula)
-        ∙ order-done _
-
-    pub read-boards : c .boards ≡ boardsIn file
-    read-boards = ap (λ (s : Said). getD (s .values) 0 0) (r .says ∙ says-read)
-
-    pub read-nodes : c .nodes ≡ nodesIn file
-    read-nodes = ap (λ (s : Said). getD (s .values) 2 0) (r .says ∙ says-read)
-
-    pub read-masks : take (c .boards) masks′ ≡ masksIn file
-    read-masks =
-        ap (take (c .boards)) (r .leaves-masks ∙ ap (λ (s : Said). left s (padded boardsMost (masksIn file)) masks) says-read ∙ left-accepted _ (padded boardsMost (masksIn file)) masks)
-        ∙ take-at (masksIn file) (replicate (boardsMost - length (masksIn file)) 0) (c .boards) (listed-length (maskIn file) (boardsIn file) ∙ sym read-boards)
-
-    pub read-formula : take (c .nodes) formula′ ≡ formulaIn file
-    read-formula =
-        let z = sized file boardsMost ruleNodesMost (passed .lengths) in
-        let o = placed file (passed .offsets) in
-        let a = z .whole in
-        let b = o .total in
-        let d = length-drop (formulaAt (boardsIn file)) file in
-        let n = read-nodes in
-        ap (take (c .nodes)) (r .leaves-formula ∙ ap (λ (s : Said). left s (padded ruleNodesMost (formulaIn file)) formula) says-read ∙ left-accepted _ (padded ruleNodesMost (formulaIn file)) formula)
-        ∙ take-at (formulaIn file) (replicate (ruleNodesMost - length (formulaIn file)) 0) (c .nodes) (omega arith)
-
-pub read-was-passed : (file masks formula masks′ formula′ : List ℕ) (c : Counts) → length masks ≡ boardsMost → length formula ≡ ruleNodesMost
-    → Reads file masks formula masks′ formula′ (Rule c) → ReadPassed file boardsMost ruleNodesMost
-read-was-passed file masks formula masks′ formula′ c m f r =
-    read-passed file boardsMost ruleNodesMost (ap (λ (s : Said). s .number) (sym (r .says ∙ ap₂ (readSays file) m f)))
-
 -- ---- a rule was read into outputs of their lengths: all that the call needs of it
 pub record Read (file masks′ formula′ : List ℕ) (c : Counts) : Type 0 where
   pub passed : ReadPassed file boardsMost ruleNodesMost
@@ -213,36 +165,55 @@ pub record Read (file masks′ formula′ : List ℕ) (c : Counts) : Type 0 wher
   pub masks-are : take (c .boards) masks′ ≡ masksIn file
   pub formula-is : take (c .nodes) formula′ ≡ formulaIn file
 
-pub read-all : (file masks formula masks′ formula′ : List ℕ) (c : Counts) (answer : ReadAnswer) → answer ≡ Rule c → length masks ≡ boardsMost → length formula ≡ ruleNodesMost
-    → Reads file masks formula masks′ formula′ answer → Read file masks′ formula′ c
-read-all file masks formula masks′ formula′ c answer e m f h =
-    let r = subst (Reads file masks formula masks′ formula′) e h in
-    let p = read-was-passed file masks formula masks′ formula′ c m f r in
-    let n = counted (boardsIn file) (propositionsIn file) (nodesIn file) (p .counts) in
-    let b = read-boards file p c masks formula masks′ formula′ m f r in
-    let k = read-nodes file p c masks formula masks′ formula′ m f r in
-    let x = n .boards-few in
-    let y = n .nodes-few in
-    record {
-      passed = p;
-      boards-few = omega arith;
-      nodes-few = omega arith;
-      masks-are = read-masks file p c masks formula masks′ formula′ m f r;
-      formula-is = read-formula file p c masks formula masks′ formula′ m f r;
-    }
+module _ {file masks formula masks′ formula′ : List ℕ} {c : Counts} (m : length masks ≡ boardsMost) (f : length formula ≡ ruleNodesMost) (r : Reads file masks formula masks′ formula′ (Rule c)) where
+  passed : ReadPassed file boardsMost ruleNodesMost
+  passed = read-passed file boardsMost ruleNodesMost (ap (λ (s : Said). s .number) (sym (r .says ∙ ap₂ (readSays file) m f)))
 
-pub read-begins : {file masks′ formula′ : List ℕ} {c : Counts} (state : List ℕ) → length state ≡ stateLength → Read file masks′ formula′ c
-    → BeginAsk (take (c .boards) masks′) (take (c .nodes) formula′) state
-read-begins {file} {masks′} {c = c} state long r =
-    record {
-      rule = ruleIn file;
-      ruled = subst (λ (b : List ℕ). Ruled (take (c .boards) masks′) b (ruleIn file)) (sym (r .formula-is)) (subst (λ (m : List ℕ). Ruled m (formulaIn file) (ruleIn file)) (sym (r .masks-are)) (read-ruled file (r .passed)));
-      long = long;
-    }
+  says-read : readSays file (length masks) (length formula) ≡ accepted (boardsIn file ∷ propositionsIn file ∷ nodesIn file ∷ [])
+  unfolding readSays
+  says-read =
+      ap₂ (readSays file) m f
+      ∙ order-ok 1 _ _ _ (passed .lengths)
+      ∙ order-ok 2 _ _ _ (passed .version)
+      ∙ order-ok 3 _ _ _ (passed .counts)
+      ∙ order-ok 4 _ _ _ (passed .offsets)
+      ∙ order-ok 5 _ _ _ (passed .masks)
+      ∙ order-ok 6 _ _ _ (passed .formula)
+      ∙ order-done _
 
-pub read-begun : {file masks′ formula′ : List ℕ} {c : Counts} (state state′ : List ℕ) (answer : Outcome) → length state ≡ stateLength → Read file masks′ formula′ c
-    → Begun (take (c .boards) masks′) (take (c .nodes) formula′) state state′ answer → LoadsRule file state state′ answer
-read-begun {file} {masks′} {c = c} state state′ answer long r h =
-    let b = subst (λ (m : List ℕ). Begun m (formulaIn file) state state′ answer) (r .masks-are) (subst (λ (f : List ℕ). Begun (take (c .boards) masks′) f state state′ answer) (r .formula-is) h) in
-    let x = b (ruleIn file) (read-ruled file (r .passed)) in
-    load-begun file state long (r .passed) state′ answer (x .0) (x .1)
+  -- the answer's counts
+  boards-are : c .boards ≡ boardsIn file
+  boards-are = ap (λ (s : Said). getD (s .values) 0 0) (r .says ∙ says-read)
+
+  nodes-are : c .nodes ≡ nodesIn file
+  nodes-are = ap (λ (s : Said). getD (s .values) 2 0) (r .says ∙ says-read)
+
+  -- the front of a lent output
+  output-front : (l l₀ l′ : List ℕ) (n room : ℕ) → l′ ≡ left (readSays file (length masks) (length formula)) (padded room l) l₀ → length l ≡ n → take n l′ ≡ l
+  output-front l l₀ l′ n room e k =
+      ap (take n) (e ∙ ap (λ (s : Said). left s (padded room l) l₀) says-read ∙ left-accepted _ (padded room l) l₀) ∙ take-at l (replicate (room - length l) 0) n k
+
+  pub read-whole : Read file masks′ formula′ c
+  read-whole =
+      let n = counted (boardsIn file) (propositionsIn file) (nodesIn file) (passed .counts) in
+      let z = sized file boardsMost ruleNodesMost (passed .lengths) in
+      let o = placed file (passed .offsets) in
+      let d = length-drop (formulaAt (boardsIn file)) file in
+      let b = boards-are in
+      let k = nodes-are in
+      record {
+        passed = passed;
+        boards-few = omega arith;
+        nodes-few = omega arith;
+        masks-are = output-front (masksIn file) masks masks′ (c .boards) boardsMost (r .leaves-masks) (listed-length (maskIn file) (boardsIn file) ∙ sym b);
+        formula-is = output-front (formulaIn file) formula formula′ (c .nodes) ruleNodesMost (r .leaves-formula) (omega arith);
+      }
+
+module _ {file masks′ formula′ : List ℕ} {c : Counts} {state : List ℕ} (long : length state ≡ stateLength) (r : Read file masks′ formula′ c) where
+  pub read-begins : BeginAsk (take (c .boards) masks′) (take (c .nodes) formula′) state
+  read-begins = record { rule = ruleIn file; ruled = rw (r .masks-are, r .formula-is) (read-ruled file (r .passed)); long = long }
+
+  pub read-begun : {state′ : List ℕ} {answer : Outcome} → Begun (take (c .boards) masks′) (take (c .nodes) formula′) state state′ answer → LoadsRule file state state′ answer
+  read-begun h =
+      let x = rw (r .masks-are, r .formula-is) at (h (ruleIn file)) (read-ruled file (r .passed)) in
+      load-begun file state long (r .passed) _ _ (x .0) (x .1)

@@ -5,7 +5,7 @@ use mathlib.Core.Bool.{Bool, true, false}
 use mathlib.Core.List.{List, [], _++_, append-nil}
 use mathlib.Core.Logic.{_⊎_, inl, inr}
 use mathlib.Core.Option.{Option, none, some}
-use Prim.Native.Nat.{ℕ, zero, suc, _+_, _-_, _<_, _≤_}
+use Prim.Native.Nat.{ℕ, zero, suc, _+_, _-_, _*_, _<_, _≤_, min}
 use native.Mathlib.Omega.{arith}
 use lib.ListN.{length, getD, List·getD-append}
 use lib.Seq.{getD-append-add}
@@ -34,6 +34,7 @@ use Rattle.scores.proofs.Counting.{counted-chosen}
 use Rattle.cutting.specs.declared.Part.{Part}
 use Rattle.cutting.specs.Cuts.{codeOf, cutsOn, Rests, Parted}
 use Rattle.cutting.proofs.Choices.{chosen-below}
+use Rattle.cutting.proofs.Nodes.{unfolded-few}
 use Rattle.nodes.specs.Begins.{Front}
 use Rattle.marking.specs.declared.Placed.{Placed}
 use Rattle.marking.specs.Marks.{MarkedAs}
@@ -95,7 +96,7 @@ module _ {masks bytes : List ℕ} {rule : Formula} (r : Ruled masks bytes rule) 
   rule-within = unfolded-coded (r .propositions) 0 rule (r .within)
 
   pub rule-size : size rule ≤ 1024
-  rule-size = let e = front-length bytes rule [] (r .front) in let f = r .few-nodes in omega arith
+  rule-size = let e = front-length bytes rule [] (r .front) in omega arith
 
   first-rests : Rests choose (unfolded rule) first-board
   first-rests = go (choose (unfolded rule)) refl
@@ -121,25 +122,6 @@ module _ {masks bytes : List ℕ} {rule : Formula} (r : Ruled masks bytes rule) 
 
   pub first-large : size (unfolded rule) ≤ nodesOf (firstOf masks rule)
   first-large = omega (arith, laid-out-nodes)
-
-  -- how many slots and nodes the layout has, by the cuts that were counted
-  module _ (owner : List ℕ) (owned : Owned (r .propositions) masks owner) (x : Part) (parted : Parted owner (unfolded rule) boardsMost x) where
-    cuts-are : x .cuts ≡ cutsOn choose (unfolded rule) first-board
-    cuts-are = parted .cuts-are (r .propositions) 0 masks owned rule-within first-board (inl (refl, first-rests))
-
-    pub first-slots : length (firstOf masks rule) ≡ 1 + x .cuts
-    unfolding load
-    first-slots =
-        let e = laid-slots choose noHold (λ m. 0) (unfolded rule) first-board 1 (holds-all (λ m. (n : ℕ) → length (noHold m n .slots) ≡ 0)) in
-        let z = held-none (unfolded rule) in
-        let c = cuts-are in
-        omega arith
-
-    pub first-nodes : nodesOf (firstOf masks rule) ≡ size (unfolded rule) + x .cuts
-    first-nodes = omega (arith, laid-out-nodes, held-none (unfolded rule), cuts-are)
-
-    pub first-choice : highest none 0 0 (x .scores .counts) ≡ choose (unfolded rule)
-    first-choice = counted-chosen (r .propositions) 0 masks (parted .scored) owned rule-within
 
   -- the marked bytes are laid out to it
   module _ (owner : List ℕ) (owned : Owned (r .propositions) masks owner) (marks : List ℕ) (y : Placed) (m : MarkedAs owner (unfolded rule) first-board marks y) (long : size (unfolded rule) ≤ length marks) where
@@ -168,3 +150,36 @@ module _ {masks bytes : List ℕ} {rule : Formula} (r : Ruled masks bytes rule) 
           stands = on-board (r .propositions) 0 masks y owned rule-within first-front m first-there;
           network-is = refl;
         }
+
+-- ---- how many slots and nodes the layout has, by the cuts that were counted
+pub record Cut {masks bytes : List ℕ} {rule : Formula} (r : Ruled masks bytes rule) (owner : List ℕ) (x : Part) : Type 0 where
+  pub owned : Owned (r .propositions) masks owner
+  pub parted : Parted owner (unfolded rule) boardsMost x
+
+module _ {masks bytes : List ℕ} {rule : Formula} {r : Ruled masks bytes rule} {owner : List ℕ} {x : Part} (cuts : Cut r owner x) where
+  cuts-are : x .cuts ≡ cutsOn (chosen masks) (unfolded rule) (first-board r)
+  cuts-are = cuts .parted .cuts-are (r .propositions) 0 masks (cuts .owned) (rule-within r) (first-board r) (inl (refl, first-rests r))
+
+  pub cuts-few : x .cuts < 4100 * 4096
+  cuts-few = let w = cuts .parted .few in let s = rule-size r in let u = unfolded-few rule (omega arith) in omega arith
+
+  pub first-slots : length (firstOf masks rule) ≡ 1 + x .cuts
+  unfolding load
+  first-slots =
+      let e = laid-slots (chosen masks) noHold (λ m. 0) (unfolded rule) (first-board r) 1 (holds-all r (λ m. (n : ℕ) → length (noHold m n .slots) ≡ 0)) in
+      let z = held-none (unfolded rule) in
+      let c = cuts-are in
+      omega arith
+
+  pub first-nodes : nodesOf (firstOf masks rule) ≡ size (unfolded rule) + x .cuts
+  first-nodes = omega (arith, laid-out-nodes r, held-none (unfolded rule), cuts-are)
+
+  pub first-choice : highest none 0 0 (x .scores .counts) ≡ chosen masks (unfolded rule)
+  first-choice = counted-chosen (r .propositions) 0 masks (cuts .parted .scored) (cuts .owned) (rule-within r)
+
+-- ---- a layout within the limits, by the nodes that were counted too
+pub record Fitting {masks bytes : List ℕ} {rule : Formula} (r : Ruled masks bytes rule) (owner : List ℕ) (x : Part) (count : ℕ) : Type 0 where
+  pub cut : Cut r owner x
+  pub few-slots : 1 + x .cuts ≤ 64
+  pub count-is : count ≡ min (size (unfolded rule)) 4097
+  pub few-nodes : count + x .cuts ≤ 4096

@@ -1,6 +1,6 @@
 -- The pass over a slot's bytes finds exactly a formula in which what may stand stands, and notes its place holders: `pass-is`. Behind
--- each node as many operands are owed as in the language (`owing`), so that a pass that succeeds is over a formula (`pass-scans`).
--- Assumes nothing.
+-- each node as many operands are owed as in the language (`owing`, `owing-few`), so that a pass that succeeds is over a formula
+-- (`pass-scans`). Assumes nothing.
 use mathlib.Core.Path.{_≡_, refl, sym, ap, _∙_}
 use mathlib.Core.Bool.{Bool, true, false, not}
 use mathlib.Core.List.{List, [], _∷_, append-nil}
@@ -15,21 +15,18 @@ use lib.Bits.{bitOr}
 use borrow.Author.Tests.{ltb-true, ltb-false, lt-ltb, eq-eqb}
 use Rattle.lists.specs.Tests.{pick, both, bit}
 use Rattle.lists.proofs.Tests.{no-true}
-use Rattle.kinds.specs.declared.Leaf.{Leaf}
 use Rattle.kinds.specs.declared.Leaf.the-variants.{Const, Prop, Hold}
-use Rattle.kinds.specs.declared.Unary.{Unary}
 use Rattle.kinds.specs.declared.Unary.the-variants.{Not, Next, Eventually, Always}
-use Rattle.kinds.specs.declared.Binary.{Binary}
 use Rattle.kinds.specs.declared.Binary.the-variants.{Joined, Until}
 use Rattle.kinds.specs.declared.Kind.{Kind}
 use Rattle.kinds.specs.Kinds.{kindOf}
 use Rattle.kinds.proofs.Codes.{CodeOf, isZero, isOne, isTwo, isNone, code}
-use Rattle.ltl.specs.Formula.{Formula, one, encode, over}
+use Rattle.ltl.specs.Formula.{Formula, encode}
 use Rattle.ltl.specs.Text.{textOf, overAlone, textOver}
 use Rattle.ltl.proofs.Texts.{text-is}
 use Rattle.texts.specs.declared.Owed.the-variants.{Operands, Broken}
 use Rattle.texts.specs.Scan.{owedAfter, scan}
-use Rattle.texts.proofs.Scans.{scan-is, turn-on, turn-end}
+use Rattle.texts.proofs.Scans.{scan-is, owed-bound, turn-on, turn-end}
 use Rattle.scanning.specs.declared.Allowed.{Allowed}
 use Rattle.scanning.specs.declared.Pass.{Pass}
 use Rattle.scanning.specs.declared.Passed.{Passed}
@@ -85,11 +82,11 @@ outside-scans a b (isTwo {o = Until} e) n seen y h = on-owed-if (a .temporal) n 
 outside-scans a b isNone n seen y h = absurd (off-on y h)
 
 -- behind a node as many operands are owed as in the language
-pub record Owing (k : Kind) (x y : Pass) : Type 0 where
-  pub some : 0 < x .outer + x .inner
-  pub owed : owedAfter 64 64 k (x .outer + x .inner - 1) ≡ Operands (y .outer + y .inner)
+record Owing (k : Kind) (x y : Pass) : Type 0 where
+  some : 0 < x .outer + x .inner
+  owed : owedAfter 64 64 k (x .outer + x .inner - 1) ≡ Operands (y .outer + y .inner)
 
-pub owing : (a : Allowed) (b : ℕ) (x y : Pass) → passAfter a (kindOf b) x ≡ On y → Owing (kindOf b) x y
+owing : (a : Allowed) (b : ℕ) (x y : Pass) → passAfter a (kindOf b) x ≡ On y → Owing (kindOf b) x y
 unfolding passAfter pick
 owing a b x y h = go (ltb 0 (x .inner)) refl (ltb (x .outer) 1) refl h
   where
@@ -106,6 +103,10 @@ owing a b x y h = go (ltb 0 (x .inner)) refl (ltb (x .outer) 1) refl h
         let w = ltb-false (x .outer) 1 q in
         let e : x .outer + x .inner - 1 ≡ x .outer - 1 = omega arith in
         record { some = omega arith; owed = ap (λ (n : ℕ). owedAfter 64 64 (kindOf b) n) e ∙ outside-scans a b (code b) (x .outer - 1) (x .seen) y h }
+
+-- and so at most one more than before it
+pub owing-few : (a : Allowed) (b : ℕ) (x y : Pass) → passAfter a (kindOf b) x ≡ On y → y .outer + y .inner ≤ x .outer + x .inner + 1
+owing-few a b x y h = let w = owing a b x y h in let s = w .some in let f = owed-bound 64 64 (kindOf b) (x .outer + x .inner - 1) (y .outer + y .inner) (w .owed) in omega arith
 
 pub wrong-slots : (r : ℕ) → _≡_ {A = Held} Wrong (Slots r) → ⊥
 wrong-slots r e = let z : _≡_ {A = ℕ} 0 1 = cc in omega arith

@@ -79,6 +79,16 @@ unfolding pick
 thereafter-pick true h k = refl
 thereafter-pick false h k = refl
 
+goOn-pick : (b : Bool) (x : Pass) (h : Pass → Held) → goOn (pick b (On x) Off) h ≡ pick b (h x) Wrong
+unfolding pick
+goOn-pick true x h = refl
+goOn-pick false x h = refl
+
+goOn-inward : (b : Bool) (n m seen : ℕ) (h : Pass → Held) → goOn (inward (pick b (Operands m) Broken) n seen) h ≡ pick b (h (at n m seen)) Wrong
+unfolding pick
+goOn-inward true n m seen h = refl
+goOn-inward false n m seen h = refl
+
 pub noted-append : (xs ys : List ℕ) (seen : ℕ) → noted (xs ++ ys) seen ≡ thereafter (noted xs seen) (λ s. noted ys s)
 unfolding noted pick
 noted-append [] ys seen = refl
@@ -115,16 +125,8 @@ inside-leaf : (a : Allowed) (v : Leaf) (n m seen : ℕ) (l : List ℕ) → leafW
     → pass a (leafCode v ∷ l) (at n (suc m) seen) ≡ pick (leafOver (a .propositions) 0 v) (pass a l (at n m seen)) Wrong
 unfolding pick leafOver
 inside-leaf a (Const v) n m seen l c = cons-inside a (leafCode (Const v)) n m seen l ∙ rw (kind-leaf (Const v) tt)
-inside-leaf a (Prop i) n m seen l c = cons-inside a (64 + i) n m seen l ∙ rw (kind-leaf (Prop i) c) (go (ltb i (a .propositions)))
-  where
-    go : (x : Bool) → goOn (inward (pick x (Operands m) Broken) n seen) (λ y. pass a l y) ≡ pick x (pass a l (at n m seen)) Wrong
-    go true = refl
-    go false = refl
-inside-leaf a (Hold k) n m seen l c = cons-inside a (128 + k) n m seen l ∙ rw (kind-leaf (Hold k) c) (go (ltb k 0))
-  where
-    go : (x : Bool) → goOn (inward (pick x (Operands m) Broken) n seen) (λ y. pass a l y) ≡ pick x (pass a l (at n m seen)) Wrong
-    go true = refl
-    go false = refl
+inside-leaf a (Prop i) n m seen l c = cons-inside a (64 + i) n m seen l ∙ rw (kind-leaf (Prop i) c) (goOn-inward (ltb i (a .propositions)) n m seen (λ y. pass a l y))
+inside-leaf a (Hold k) n m seen l c = cons-inside a (128 + k) n m seen l ∙ rw (kind-leaf (Hold k) c) (goOn-inward (ltb k 0) n m seen (λ y. pass a l y))
 
 over-two : (p s : ℕ) (o : Binary) (f g : Formula) → over p s (two o f g) ≡ both (over p s f) (over p s g)
 unfolding over
@@ -166,11 +168,9 @@ outside-leaf : (a : Allowed) (v : Leaf) (n seen : ℕ) (l : List ℕ)
     → goOn (leafOutside a v n seen) (λ y. pass a l y) ≡ thereafter (checked a (leaf v) seen) (λ s. pass a l (at n 0 s))
 unfolding pick both stands leafStands heldBy noted
 outside-leaf a (Const v) n seen l = refl
-outside-leaf a (Prop i) n seen l = go (both (ltb i (a .propositions)) (bit (a .own) i))
-  where
-    go : (x : Bool) → goOn (pick x (On (at n 0 seen)) Off) (λ y. pass a l y) ≡ thereafter (pick x (Slots seen) Wrong) (λ s. pass a l (at n 0 s))
-    go true = refl
-    go false = refl
+outside-leaf a (Prop i) n seen l =
+    let x = both (ltb i (a .propositions)) (bit (a .own) i) in
+    goOn-pick x (at n 0 seen) (λ y. pass a l y) ∙ sym (thereafter-pick x (Slots seen) (λ s. pass a l (at n 0 s)))
 outside-leaf a (Hold m) n seen l = go (holdable a m) (bit seen m)
   where
     go : (x y : Bool) → goOn (pick (both x (not y)) (On (at n 0 (bitOr seen (2 ^ m)))) Off) (λ y. pass a l y)
@@ -202,11 +202,6 @@ two-checked true false f g seen k = thereafter-wrong (noted f seen)
 two-checked false y f g seen k = refl
 
 -- a temporal operator's operands stand inside
-goOn-pick : (b : Bool) (x : Pass) (h : Pass → Held) → goOn (pick b (On x) Off) h ≡ pick b (h x) Wrong
-unfolding pick
-goOn-pick true x h = refl
-goOn-pick false x h = refl
-
 temporal-one : (a : Allowed) (f : Formula) (n seen : ℕ) (l : List ℕ) → Within 64 64 f
     → goOn (pick (a .temporal) (On (at n 1 seen)) Off) (λ y. pass a (encode f ++ l) y)
     ≡ thereafter (pick (both (a .temporal) (over (a .propositions) 0 f)) (noted (heldBy f) seen) Wrong) (λ s. pass a l (at n 0 s))

@@ -67,9 +67,6 @@ module _ (s : List ℕ) (ok : stateOk s ≡ true) where
   spread-done {u} {marks} {i} {end} turn done =
       let w = take end u in
       let p = passing s ok in
-      let lu = turn .u-long in
-      let lm = turn .marks-long in
-      let ins = turn .inside in
       let lw = length-take-le end u (omega arith) in
       record {
         inside = omega arith;

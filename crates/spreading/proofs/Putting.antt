@@ -29,15 +29,25 @@ use Rattle.spreading.proofs.Room.{slot-hold, slot-room}
 use Rattle.spreading.proofs.Places.{StandsIn, HeldFront, stands-more, held-more, stands-last}
 use Rattle.spreading.proofs.Turns.{Turn, Reached, w-long, byte-is, room-next}
 
-module _ {s u marks : List ℕ} {i end : ℕ} (turn : Turn s u marks i end) (l : i < end) (big : 128 ≤ getD u i 0) where
+-- a turn at a place holder
+pub record Holder (s : List ℕ) (boards slots nodes : ℕ) (owner u marks : List ℕ) (i end : ℕ) : Type 0 where
+  pub known : Known s boards slots nodes owner
+  pub turn : Turn s u marks i end
+  pub before : i < end
+  pub big : 128 ≤ getD u i 0
+
+module _ {s : List ℕ} {boards slots nodes : ℕ} {owner u marks : List ℕ} {i end : ℕ} (holder : Holder s boards slots nodes owner u marks i end) where
+  abbrev turn : Turn s u marks i end
+  turn = holder .turn
+
   abbrev w : List ℕ
   w = take end u
 
-  long : length w ≡ end
-  long = w-long turn l
-
   abbrev m : ℕ
   m = getD u i 0 - 128
+
+  abbrev g : Formula
+  g = unfoldedAt s m
 
   abbrev marked : ℕ
   marked = getD marks i 0 % 262144 + (end - i) * 262144
@@ -45,132 +55,129 @@ module _ {s u marks : List ℕ} {i end : ℕ} (turn : Turn s u marks i end) (l :
   abbrev marks₁ : List ℕ
   marks₁ = set marks i marked
 
+  long : length w ≡ end
+  long = w-long turn (holder .before)
+
   pub inside-marks : (x : ℕ) → end ≤ length (set marks i x)
-  inside-marks x = let a = turn .marks-long in let b = turn .inside in let k = length-set marks i x in omega arith
+  inside-marks x = let k = length-set marks i x in omega arith
 
-  holder-there : m < slotsIn s
-  holder-there = let e = turn .reached .holds i in let b = byte-is turn l in omega arith
+  there : m < slotsIn s
+  there = let e = turn .reached .holds i in let b = byte-is turn (holder .before) in omega arith
 
-  module _ {boards slots nodes : ℕ} {owner : List ℕ} (known : Known s boards slots nodes owner) where
-    abbrev g : Formula
-    g = unfoldedAt s m
+  fits : end + (size g + (heldOver (nodesOfSlot s) (encode g) + heldOver (nodesOfSlot s) (drop (i + 1) w))) ≤ nodesMost
+  fits =
+      let r = slot-room s (holder .known .passes) m there in
+      let n = room-next turn (holder .before) in
+      let e = held-high (nodesOfSlot s) (getD u i 0) (holder .big) in
+      omega arith
 
-    fits : end + (size g + (heldOver (nodesOfSlot s) (encode g) + heldOver (nodesOfSlot s) (drop (i + 1) w))) ≤ nodesMost
-    fits =
-        let r = slot-room s (known .passes) m holder-there in
-        let n = room-next turn l in
-        let e = held-high (nodesOfSlot s) (getD u i 0) big in
-        omega arith
+  slot-there : m < slots
+  slot-there = let h = there in let e = holder .known .header .slots-are in omega arith
 
-    holder-slot : m < slots
-    holder-slot = let h = holder-there in let e = known .header .slots-are in omega arith
+  pub holder-few : m < 64
+  holder-few = let x = slot-numbers (holder .known) slot-there in omega arith
 
-    pub holder-few : m < 64
-    holder-few = let x = slot-numbers known holder-slot in omega arith
+  pub holder-ask : SlotAsk s boards slots nodes m owner (tail end u) (tail end marks₁)
+  holder-ask =
+      let f = fits in
+      let d = tail-length end u in
+      let e = tail-length end marks₁ in
+      let k = length-set marks i marked in
+      record { known = holder .known; there = slot-there; room = omega arith; few = omega arith; long = omega arith }
 
-    pub holder-ask : SlotAsk s boards slots nodes m owner (tail end u) (tail end marks₁)
-    holder-ask =
+  module _ {x y : List ℕ} {n : ℕ} (h : PutsSlot s m (tail end u) x y n) (lx : length x ≡ length (tail end u)) (ly : length y ≡ length (tail end marks₁)) where
+    abbrev u′ : List ℕ
+    u′ = tailAs end u x
+
+    abbrev marks′ : List ℕ
+    marks′ = tailAs end marks₁ y
+
+    inside-u : end ≤ length u
+    inside-u = omega arith
+
+    written : take (end + n) u′ ≡ w ++ encode g
+    written =
+        ap (take (end + n)) (tail-put u w (drop end u) end (sym (take-append-drop end u)) long (encode g) x (size g) (h .leaves))
+        ∙ take-at (w ++ encode g) (drop (size g) (drop end u)) (end + n) (omega (arith, length-append w (encode g), long, length-encode g, h .writes))
+
+    -- the marks before the end: that of the place holder has its distance, the others are as they were
+    mark-here : getD marks′ i 0 ≡ marked
+    mark-here = handed-front end marks₁ y (inside-marks marked) i (holder .before) ∙ getD-set-same marks i marked 0 (omega arith)
+
+    mark-other : (j : ℕ) → j < end → (j ≡ i → ⊥) → getD marks′ j 0 ≡ getD marks j 0
+    mark-other j k other = handed-front end marks₁ y (inside-marks marked) j k ∙ getD-set-other marks i j marked 0 other
+
+    alike-here : Alike (getD marks i 0) marked
+    alike-here = record { board-is = omega arith; here-is = omega arith }
+
+    agree : Agree end marks marks′
+    agree j k = go (eqb j i) refl
+      where
+        go : (t : Bool) → eqb j i ≡ t → Alike (getD marks j 0) (getD marks′ j 0)
+        go true e =
+            let is = eqb-true j i e in
+            subst (λ (n : ℕ). Alike (getD marks n 0) (getD marks′ n 0)) (sym is) (subst (Alike (getD marks i 0)) (sym mark-here) alike-here)
+        go false e = alike-same (getD marks j 0) (getD marks′ j 0) (sym (mark-other j k (eqb-false j i e)))
+
+    -- a place holder before i
+    held-before : (j : ℕ) → j < i → 128 ≤ getD w j 0 → HeldFront s (drop j (w ++ encode g)) (drop j marks′)
+    held-before j k is =
+        let d = length-drop j w in
+        let a = agree-drop j (length (drop j w)) end marks marks′ (omega (arith, long)) agree in
+        let ahead : aheadIn (getD (drop j marks) 0 0) ≡ aheadIn (getD (drop j marks′) 0 0) =
+        ap aheadIn (getD-drop j marks 0 0 ∙ sym (mark-other (j + 0) (omega arith) (λ e. omega arith)) ∙ sym (getD-drop j marks′ 0 0)) in
+        subst (λ (z : List ℕ). HeldFront s z (drop j marks′)) (sym (drop-append-le j w (encode g) (omega (arith, long))))
+        (held-more s (drop j w) (encode g) (drop j marks) (drop j marks′) a (omega (arith, long)) ahead (turn .reached .held j k is))
+
+    -- the one at i
+    held-here : HeldFront s (drop i (w ++ encode g)) (drop i marks′)
+    held-here =
+        let d = length-drop i w in
+        let mark : getD (drop i marks′) 0 0 ≡ marked = getD-drop i marks′ 0 0 ∙ ap (λ (n : ℕ). getD marks′ n 0) (omega arith) ∙ mark-here in
+        let ahead : aheadIn (getD (drop i marks′) 0 0) ≡ end - i = ap aheadIn mark ∙ (omega arith) in
+        let byte : getD (drop i w ++ encode g) 0 0 ≡ getD u i 0 =
+        List·getD-append (drop i w) (encode g) 0 0 (omega (arith, long)) ∙ getD-drop i w 0 0 ∙ ap (λ (n : ℕ). getD w n 0) (omega arith) ∙ byte-is turn (holder .before) in
+        let to : i + (end - i) ≡ end = omega arith in
+        let behind : drop (end - i) (drop i marks′) ≡ y = drop-drop (end - i) i marks′ ∙ ap (λ (n : ℕ). drop n marks′) to ∙ handed-back end marks₁ y (inside-marks marked) in
+        let last = stands-last s (drop i w) x (drop i marks′) y (end - i) m (omega (arith, long)) behind (h .stands) in
+        subst (λ (z : List ℕ). HeldFront s z (drop i marks′)) (sym (drop-append-le i w (encode g) (omega (arith, long))))
+        (record {
+          ahead = omega arith;
+          there = subst (λ (b : ℕ). b - 128 < slotsIn s) (sym byte) there;
+          stands =
+              subst (λ (a : ℕ). StandsIn s (drop i w ++ encode g) (drop i marks′) a (getD (drop i w ++ encode g) 0 0 - 128)) (sym ahead)
+              (subst (λ (b : ℕ). StandsIn s (drop i w ++ encode g) (drop i marks′) (end - i) (b - 128)) (sym byte) last);
+        })
+
+    held-next : (j : ℕ) → j < i + 1 → 128 ≤ getD (w ++ encode g) j 0 → HeldFront s (drop j (w ++ encode g)) (drop j marks′)
+    held-next j k is = go (eqb j i) refl
+      where
+        go : (t : Bool) → eqb j i ≡ t → HeldFront s (drop j (w ++ encode g)) (drop j marks′)
+        go true e = subst (λ (n : ℕ). HeldFront s (drop n (w ++ encode g)) (drop n marks′)) (sym (eqb-true j i e)) held-here
+        go false e =
+            let other = eqb-false j i e in
+            let same = List·getD-append w (encode g) 0 j (omega (arith, long)) in
+            held-before j (omega arith) (omega arith)
+
+    pub turn-put : Turn s u′ marks′ (i + 1) (end + n)
+    turn-put =
         let f = fits in
-        let a = turn .u-long in
-        let b = turn .marks-long in
-        let d = tail-length end u in
-        let e = tail-length end marks₁ in
-        let k = length-set marks i marked in
-        record { known = known; there = holder-slot; room = omega arith; few = omega arith; long = omega arith }
-
-    module _ {x y : List ℕ} {n : ℕ} (h : PutsSlot s m (tail end u) x y n) (lx : length x ≡ length (tail end u)) (ly : length y ≡ length (tail end marks₁)) where
-      abbrev u′ : List ℕ
-      u′ = tailAs end u x
-
-      abbrev marks′ : List ℕ
-      marks′ = tailAs end marks₁ y
-
-      inside-u : end ≤ length u
-      inside-u = let a = turn .u-long in let b = turn .inside in omega arith
-
-      written : take (end + n) u′ ≡ w ++ encode g
-      written =
-          ap (take (end + n)) (tail-put u w (drop end u) end (sym (take-append-drop end u)) long (encode g) x (size g) (h .leaves))
-          ∙ take-at (w ++ encode g) (drop (size g) (drop end u)) (end + n) (omega (arith, length-append w (encode g), long, length-encode g, h .writes))
-
-      -- the marks before the end: that of the place holder has its distance, the others are as they were
-      mark-here : getD marks′ i 0 ≡ marked
-      mark-here = handed-front end marks₁ y (inside-marks marked) i l ∙ getD-set-same marks i marked 0 (let a = turn .marks-long in let b = turn .inside in omega arith)
-
-      mark-other : (j : ℕ) → j < end → (j ≡ i → ⊥) → getD marks′ j 0 ≡ getD marks j 0
-      mark-other j k other = handed-front end marks₁ y (inside-marks marked) j k ∙ getD-set-other marks i j marked 0 other
-
-      alike-here : Alike (getD marks i 0) marked
-      alike-here = record { board-is = omega arith; here-is = omega arith }
-
-      agree : Agree end marks marks′
-      agree j k = go (eqb j i) refl
-        where
-          go : (t : Bool) → eqb j i ≡ t → Alike (getD marks j 0) (getD marks′ j 0)
-          go true e =
-              let is = eqb-true j i e in
-              subst (λ (n : ℕ). Alike (getD marks n 0) (getD marks′ n 0)) (sym is) (subst (Alike (getD marks i 0)) (sym mark-here) alike-here)
-          go false e = alike-same (getD marks j 0) (getD marks′ j 0) (sym (mark-other j k (eqb-false j i e)))
-
-      -- a place holder before i
-      held-before : (j : ℕ) → j < i → 128 ≤ getD w j 0 → HeldFront s (drop j (w ++ encode g)) (drop j marks′)
-      held-before j k is =
-          let d = length-drop j w in
-          let a = agree-drop j (length (drop j w)) end marks marks′ (omega (arith, long)) agree in
-          let ahead : aheadIn (getD (drop j marks) 0 0) ≡ aheadIn (getD (drop j marks′) 0 0) =
-          ap aheadIn (getD-drop j marks 0 0 ∙ sym (mark-other (j + 0) (omega arith) (λ e. omega arith)) ∙ sym (getD-drop j marks′ 0 0)) in
-          subst (λ (z : List ℕ). HeldFront s z (drop j marks′)) (sym (drop-append-le j w (encode g) (omega (arith, long))))
-          (held-more s (drop j w) (encode g) (drop j marks) (drop j marks′) a (omega (arith, long)) ahead (turn .reached .held j k is))
-
-      -- the one at i
-      held-here : HeldFront s (drop i (w ++ encode g)) (drop i marks′)
-      held-here =
-          let d = length-drop i w in
-          let mark : getD (drop i marks′) 0 0 ≡ marked = getD-drop i marks′ 0 0 ∙ ap (λ (n : ℕ). getD marks′ n 0) (omega arith) ∙ mark-here in
-          let ahead : aheadIn (getD (drop i marks′) 0 0) ≡ end - i = ap aheadIn mark ∙ (omega arith) in
-          let byte : getD (drop i w ++ encode g) 0 0 ≡ getD u i 0 =
-          List·getD-append (drop i w) (encode g) 0 0 (omega (arith, long)) ∙ getD-drop i w 0 0 ∙ ap (λ (n : ℕ). getD w n 0) (omega arith) ∙ byte-is turn l in
-          let to : i + (end - i) ≡ end = omega arith in
-          let behind : drop (end - i) (drop i marks′) ≡ y = drop-drop (end - i) i marks′ ∙ ap (λ (n : ℕ). drop n marks′) to ∙ handed-back end marks₁ y (inside-marks marked) in
-          let last = stands-last s (drop i w) x (drop i marks′) y (end - i) m (omega (arith, long)) behind (h .stands) in
-          subst (λ (z : List ℕ). HeldFront s z (drop i marks′)) (sym (drop-append-le i w (encode g) (omega (arith, long))))
-          (record {
-            ahead = omega arith;
-            there = subst (λ (b : ℕ). b - 128 < slotsIn s) (sym byte) holder-there;
-            stands =
-                subst (λ (a : ℕ). StandsIn s (drop i w ++ encode g) (drop i marks′) a (getD (drop i w ++ encode g) 0 0 - 128)) (sym ahead)
-                (subst (λ (b : ℕ). StandsIn s (drop i w ++ encode g) (drop i marks′) (end - i) (b - 128)) (sym byte) last);
-          })
-
-      held-next : (j : ℕ) → j < i + 1 → 128 ≤ getD (w ++ encode g) j 0 → HeldFront s (drop j (w ++ encode g)) (drop j marks′)
-      held-next j k is = go (eqb j i) refl
-        where
-          go : (t : Bool) → eqb j i ≡ t → HeldFront s (drop j (w ++ encode g)) (drop j marks′)
-          go true e = subst (λ (n : ℕ). HeldFront s (drop n (w ++ encode g)) (drop n marks′)) (sym (eqb-true j i e)) held-here
-          go false e =
-              let other = eqb-false j i e in
-              let same = List·getD-append w (encode g) 0 j (omega (arith, long)) in
-              held-before j (omega arith) (omega arith)
-
-      pub turn-put : Turn s u′ marks′ (i + 1) (end + n)
-      turn-put =
-          let f = fits in
-          let k = h .writes in
-          let lw = long in
-          let d = drop-append-le (i + 1) w (encode g) (omega arith) in
-          record {
-            u-long = handed-length end u x inside-u lx ∙ turn .u-long;
-            marks-long = handed-length end marks₁ y (inside-marks marked) ly ∙ length-set marks i marked ∙ turn .marks-long;
-            inside = omega arith;
-            reached =
-                subst (λ (z : List ℕ). Reached s z marks′ (i + 1)) (sym written)
-                (record {
-                  order = omega (arith, length-append w (encode g));
-                  root = stands-more s w (encode g) marks marks′ (subst (λ (n : ℕ). Agree n marks marks′) (sym lw) agree) 0 0 (turn .reached .root);
-                  held = held-next;
-                  holds = holds-append (slotsIn s) w (encode g) (turn .reached .holds) (slot-hold s (known .passes) m holder-there);
-                  room =
-                      let e = ap (heldOver (nodesOfSlot s)) d ∙ over-append (nodesOfSlot s) (drop (i + 1) w) (encode g) in
-                      omega (arith, length-append w (encode g), length-encode g);
-                });
-          }
+        let k = h .writes in
+        let lw = long in
+        let d = drop-append-le (i + 1) w (encode g) (omega arith) in
+        record {
+          u-long = handed-length end u x inside-u lx ∙ turn .u-long;
+          marks-long = handed-length end marks₁ y (inside-marks marked) ly ∙ length-set marks i marked ∙ turn .marks-long;
+          inside = omega arith;
+          reached =
+              subst (λ (z : List ℕ). Reached s z marks′ (i + 1)) (sym written)
+              (record {
+                order = omega (arith, length-append w (encode g));
+                root = stands-more s w (encode g) marks marks′ (subst (λ (n : ℕ). Agree n marks marks′) (sym lw) agree) 0 0 (turn .reached .root);
+                held = held-next;
+                holds = holds-append (slotsIn s) w (encode g) (turn .reached .holds) (slot-hold s (holder .known .passes) m there);
+                room =
+                    let e = ap (heldOver (nodesOfSlot s)) d ∙ over-append (nodesOfSlot s) (drop (i + 1) w) (encode g) in
+                    omega (arith, length-append w (encode g), length-encode g);
+              });
+        }

@@ -27,7 +27,7 @@ use Rattle.spreading.proofs.Room.{slot-within}
 
 module _ {s : List ℕ} {boards slots nodes m : ℕ} {owner u marks : List ℕ} (ask : SlotAsk s boards slots nodes m owner u marks) where
   there : m < slotsIn s
-  there = let e = ask .known .header .slots-are in let l = ask .there in omega arith
+  there = let e = ask .known .header .slots-are in omega arith
 
   -- the slot's bytes, as they are lent
   module _ {from to : ℕ} (x : Spans s m from to) where
@@ -53,9 +53,6 @@ module _ {s : List ℕ} {boards slots nodes m : ℕ} {owner u marks : List ℕ} 
       pub mark-ask : length u′ ≡ length u → Begins (take (w .written) u′) × Table owner × (length (take (w .written) u′) ≤ length marks) × (length (take (w .written) u′) ≤ 4096)
       mark-ask k =
           let e = front-length (take (w .written) u′) (unfoldedAt s m) [] unfolded-front in
-          let r = ask .room in
-          let f = ask .few in
-          let l = ask .long in
           (record { formula = unfoldedAt s m; rest = []; front = unfolded-front }, ask .known .table, omega arith, omega arith)
 
       abbrev board : ℕ

@@ -42,9 +42,6 @@ module _ {s owner u marks : List ℕ} {boards slots nodes : ℕ} (ask : SpreadAs
   pub first-ask : SlotAsk s boards slots nodes 0 owner u marks
   first-ask =
       let r = root-room s (ask .known .passes) in
-      let f = ask .few in
-      let a = ask .u-long in
-      let b = ask .marks-long in
       let z = root-there s (ask .known .passes) in
       let n = ask .known .header .slots-are in
       record { known = ask .known; there = omega arith; room = omega arith; few = omega arith; long = omega arith }
@@ -53,12 +50,8 @@ module _ {s owner u marks : List ℕ} {boards slots nodes : ℕ} (ask : SpreadAs
   first-turn {u′} {marks′} {n} h lu lm =
       let g = unfoldedAt s 0 in
       let r = root-room s (ask .known .passes) in
-      let f = ask .few in
-      let k = h .writes in
-      let a = ask .u-long in
-      let b = ask .marks-long in
       let e = length-encode g in
-      let is : take n u′ ≡ encode g = ap₂ take k (h .leaves) ∙ take-at (encode g) (drop (size g) u) (size g) e in
+      let is : take n u′ ≡ encode g = ap₂ take (h .writes) (h .leaves) ∙ take-at (encode g) (drop (size g) u) (size g) e in
       record {
         u-long = omega arith;
         marks-long = omega arith;
@@ -80,7 +73,7 @@ module _ {s u marks : List ℕ} {i end : ℕ} (turn : Turn s u marks i end) (l :
   w = take end u
 
   pub w-long : length w ≡ end
-  w-long = length-take-le end u (let a = turn .u-long in let b = turn .inside in omega arith)
+  w-long = length-take-le end u (omega arith)
 
   pub byte-is : getD w i 0 ≡ getD u i 0
   byte-is = getD-take end u i 0 l
@@ -115,5 +108,4 @@ module _ {s u marks : List ℕ} {i end : ℕ} (turn : Turn s u marks i end) (l :
 
 -- a turn by equal buffers
 pub turn-as : {s u u′ marks marks′ : List ℕ} {i end end′ : ℕ} → Turn s u marks i end → u′ ≡ u → marks′ ≡ marks → end′ ≡ end → Turn s u′ marks′ i end′
-turn-as {s} {u} {u′} {marks} {marks′} {i} {end} {end′} turn eu em ee =
-    subst (λ (x : List ℕ). Turn s x marks′ i end′) (sym eu) (subst (λ (x : List ℕ). Turn s u x i end′) (sym em) (subst (Turn s u marks i) (sym ee) turn))
+turn-as turn eu em ee = rw (eu, em, ee) turn

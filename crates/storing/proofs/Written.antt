@@ -15,31 +15,30 @@ use Rattle.state.proofs.Reading.{records-length, header-length, boards-length}
 use Rattle.state.proofs.Fresh.{nodes-length}
 
 -- ---- the network
-module _ (network : List Slot) (out records : List ℕ) (room : 6 * length network + nodesOf network ≤ length out) where
-  abbrev rows : ℕ
-  rows = 6 * length network
-
-  pub rows-are : (r : List ℕ) → r ≡ slotRecords 0 network ++ records → take rows r ≡ slotRecords 0 network
-  rows-are r e = ap (take rows) e ∙ take-at (slotRecords 0 network) records rows (records-length 0 network)
-
-  pub network-put : (q z : List ℕ) → q ≡ nodeBytes network ++ drop (nodesOf network) (tail rows out)
-      → (o : List ℕ) → o ≡ slotRecords 0 network ++ drop rows (tailAs rows out q)
-      → z ≡ replicate (length (tail (rows + nodesOf network) o)) 0
-      → tailAs (rows + nodesOf network) o z ≡ slotRecords 0 network ++ (nodeBytes network ++ replicate (length out - (rows + nodesOf network)) 0)
-  network-put q z e o f g =
-      let D = drop (nodesOf network) (tail rows out) in
-      let A = take rows out in
-      let split-out : out ≡ A ++ tail rows out = sym (take-append-drop rows out) ∙ ap (A ++_) (sym (tail-is rows out)) in
-      let long-A : length A ≡ rows = length-take-le rows out (omega arith) in
-      let first : tailAs rows out q ≡ A ++ (nodeBytes network ++ D) = handed-tail out A (tail rows out) rows split-out long-A q ∙ ap (A ++_) e in
-      let second : o ≡ (slotRecords 0 network ++ nodeBytes network) ++ D =
-      f ∙ ap (slotRecords 0 network ++_) (ap (drop rows) first ∙ drop-at A (nodeBytes network ++ D) rows long-A) ∙ sym (append-assoc (slotRecords 0 network) (nodeBytes network) D) in
-      let long : length (slotRecords 0 network ++ nodeBytes network) ≡ rows + nodesOf network =
-      length-append (slotRecords 0 network) (nodeBytes network) ∙ ap₂ _+_ (records-length 0 network) (nodes-length network) in
-      let left : length D ≡ length out - (rows + nodesOf network) = let i = length-drop (nodesOf network) (tail rows out) in let j = tail-length rows out in omega arith in
-      tail-clear o (slotRecords 0 network ++ nodeBytes network) D (rows + nodesOf network) second long z g
-      ∙ append-assoc (slotRecords 0 network) (nodeBytes network) (replicate (length D) 0)
-      ∙ ap (λ (i : ℕ). slotRecords 0 network ++ (nodeBytes network ++ replicate {A = ℕ} i 0)) left
+pub network-put : (network : List Slot) (slots nodes : ℕ) → slots ≡ length network → nodes ≡ nodesOf network → (out records q r o z : List ℕ) → 6 * slots + nodes ≤ length out
+    → q ≡ nodeBytes network ++ drop (nodesOf network) (tail (6 * slots) out)
+    → r ≡ slotRecords 0 network ++ records
+    → o ≡ take (6 * slots) r ++ drop (length (take (6 * slots) r)) (tailAs (6 * slots) out q)
+    → z ≡ replicate (length (tail (6 * slots + nodes) o)) 0
+    → tailAs (6 * slots + nodes) o z ≡ slotRecords 0 network ++ (nodeBytes network ++ replicate (length out - (6 * slots + nodes)) 0)
+network-put network slots nodes i j out records q r o z room e k f g =
+    let S = slotRecords 0 network in
+    let N = nodeBytes network in
+    let D = drop (nodesOf network) (tail (6 * slots) out) in
+    let A = take (6 * slots) out in
+    let long-S : length S ≡ 6 * slots = let l = records-length 0 network in omega arith in
+    let long-A : length A ≡ 6 * slots = length-take-le (6 * slots) out (omega arith) in
+    let rows : take (6 * slots) r ≡ S = ap (take (6 * slots)) k ∙ take-at S records (6 * slots) long-S in
+    let split-out : out ≡ A ++ tail (6 * slots) out = sym (take-append-drop (6 * slots) out) ∙ ap (A ++_) (sym (tail-is (6 * slots) out)) in
+    let first : tailAs (6 * slots) out q ≡ A ++ (N ++ D) = handed-tail out A (tail (6 * slots) out) (6 * slots) split-out long-A q ∙ ap (A ++_) e in
+    let second : o ≡ (S ++ N) ++ D =
+    f
+    ∙ ap (λ (y : List ℕ). y ++ drop (length y) (tailAs (6 * slots) out q)) rows
+    ∙ ap (S ++_) (ap₂ drop long-S first ∙ drop-at A (N ++ D) (6 * slots) long-A)
+    ∙ sym (append-assoc S N D) in
+    let long : length (S ++ N) ≡ 6 * slots + nodes = length-append S N ∙ (let l = nodes-length network in omega arith) in
+    let left : length D ≡ length out - (6 * slots + nodes) = let a = length-drop (nodesOf network) (tail (6 * slots) out) in let b = tail-length (6 * slots) out in omega arith in
+    tail-clear o (S ++ N) D (6 * slots + nodes) second long z g ∙ append-assoc S N (replicate (length D) 0) ∙ ap (λ (i : ℕ). S ++ (N ++ replicate {A = ℕ} i 0)) left
 
 -- ---- the whole state
 pub state-put : (masks : List ℕ) (network : List Slot) (ticks : ℕ) (state s x y : List ℕ) → length state ≡ stateLength

@@ -1,14 +1,16 @@
 -- The new layout's counts decide; within the limits it is put. Assumes nothing.
 use mathlib.Core.Path.{_≡_, refl, sym}
-use Prim.Native.Nat.{ℕ, _+_, _*_, _≤_}
+use Prim.Native.Nat.{_≤_}
 use lib.ListN.{length, take, length-take}
 use lib.Seq.{length-take-le}
 use Rattle.state.specs.Fields.{masksIn}
+use Rattle.state.specs.Calls.{nextIn}
 use Rattle.scores.proofs.Added.{zeros-few}
 use Rattle.checking.proofs.Assembled.{passed-length}
 use Rattle.checking.proofs.Masked.{masks-front}
+use Rattle.storing.specs.Stores.{Counts}
 use Rattle.counting.specs.Known.{Known}
-use Rattle.closing.proofs.Advancing.{few-boards, known, advanced-slots, advanced-nodes, next-ask, advanced-done}
+use Rattle.closing.proofs.Advancing.{few-boards, known, advanced-slots, advanced-nodes, counts-are, next-ask, advanced-done}
 use native.Mathlib.Omega.{arith}
 use borrow.Author.Needs.{needs}
 use Rattle.closing.proofs.advance.Statement.{statement}
@@ -28,6 +30,10 @@ owned : (c : tie.After-owners)
     → let a = first (c .before .before .before .before) .args in Known (a .state .now) (a .c .boards) (a .c .slots) (a .c .nodes) (c .owners .last .1 .0)
 owned c = known (first (c .before .before .before .before) .pre) (read (c .before .before .before .before)) (c .owners .ensures)
 
+-- behind both checks the counts are those of a network within the limits
+fits : (c : tie.Else2) → let k = c .before .before .before .before .count-next .result in Counts (nextIn (c .before .before .before .before .before .before .before .before .before .before .before .before .before .before .before .args .state .now)) (k .slots) (k .nodes)
+fits c = let k = c .before .before .before .before .count-next in counts-are (c .before .before .before .before .before .before .before .before .before .before .before .before .before .before .before .pre) (k .result) (k .ensures) (c .before .before .if1 .left) (c .if2 .left)
+
 pub advance-spec : {M : Type 1} → statement M
 advance-spec =
     tie.close
@@ -41,13 +47,13 @@ advance-spec =
     (omega (arith, length-take (a .args .c .boards) (c .before .before .before .column .last .1 .1 .1 .0)), record { long = refl; boards = λ i. (let z = zeros-few 64 i in omega arith) }))
     (λ c. search needs)
     (λ c κs. owned (c .before .before))
-    (λ c. advanced-slots (c .before .before .before .before .before .before .before .before .before .before .before .before .before .pre) (c .before .before .count-next .result) (c .before .before .count-next .ensures) (c .if1 .taken))
-    (λ c. advanced-nodes (c .before .before .before .before .before .before .before .before .before .before .before .before .before .before .before .pre) (c .before .before .before .before .count-next .result) (c .before .before .before .before .count-next .ensures) (c .before .before .if1 .left) (c .if2 .taken))
+    (λ c. let k = c .before .before .count-next in advanced-slots (c .before .before .before .before .before .before .before .before .before .before .before .before .before .pre) (k .result) (k .ensures) (c .if1 .taken))
+    (λ c. let k = c .before .before .before .before .count-next in advanced-nodes (c .before .before .before .before .before .before .before .before .before .before .before .before .before .before .before .pre) (k .result) (k .ensures) (c .before .before .if1 .left) (c .if2 .taken))
     (λ c. room (c .before .before .before .before .before .before .before .before .before .before .before .before))
     (λ c. sym (length-take-le _ _ (room (c .before .before .before .before .before .before .before .before .before .before .before .before .before))))
     (λ c. search needs)
     (λ c. search needs)
     (λ c. search needs)
-    (λ c κs. let k = c .before .before .before .before .before .before .before .before .before .count-next in next-ask (c .before .before .before .before .before .before .before .before .before .before .before .before .before .before .before .before .before .before .before .before .pre) (k .result) (k .ensures) (c .before .before .before .before .before .before .before .if1 .left) (c .before .before .before .before .before .if2 .left) (read (c .before .before .before .before .before .before .before .before .before .before .before .before .before .before .before .before)) (owned (c .before .before .before .before .before .before .before .before .before .before .before .before)) refl refl)
+    (λ c κs. let e = c .before .before .before .before .before in next-ask (e .before .before .before .before .before .before .before .before .before .before .before .before .before .before .before .pre) (fits e) (read (e .before .before .before .before .before .before .before .before .before .before .before)) (owned (e .before .before .before .before .before .before .before)) refl refl)
     (λ c. search needs)
-    (λ c. let k = c .before .before .before .before .before .before .before .before .before .before .before .before .before .before .count-next in advanced-done (c .before .before .before .before .before .before .before .before .before .before .before .before .before .before .before .before .before .before .before .before .before .before .before .before .before .pre) (k .result) (k .ensures) (c .before .before .before .before .before .before .before .before .before .before .before .before .if1 .left) (c .before .before .before .before .before .before .before .before .before .before .if2 .left) (c .before .before .before .before .put-next .ensures)))
+    (λ c. let e = c .before .before .before .before .before .before .before .before .before .before in advanced-done (e .before .before .before .before .before .before .before .before .before .before .before .before .before .before .before .pre) (fits e) (c .before .before .before .before .put-next .ensures)))

@@ -1,74 +1,53 @@
--- One law of proofs/Outcomes.antt for each way out. Assumes nothing.
-use mathlib.Core.Path.{sym, _∙_}
+-- What each check that was passed tells, at the place behind it; one law of proofs/Outcomes.antt for each way out. Assumes nothing.
+use mathlib.Core.Path.{_≡_, sym, _∙_}
+use mathlib.Core.Bool.{true}
+use Prim.Native.Nat.{_+_, _<_, _^_}
 use borrow.Author.Tests.{not-true, not-false}
+use Rattle.state.specs.Fields.{ticksIn}
+use Rattle.state.specs.Clauses.{stateOk}
+use Rattle.checking.specs.Header.{Sized}
 use Rattle.checking.proofs.Assembled.{passed-length, passed-sized}
-use Rattle.closing.proofs.Outcomes.{refused-length, refused-state, refused-finished, refused-boards, refused-slots, refused-ticks, advanced}
+use Rattle.closing.specs.Close.{allSampled, allStepped}
+use Rattle.closing.proofs.Outcomes.{Going, refused-length, refused-state, refused-finished, refused-boards, refused-slots, refused-ticks, advanced}
 use native.Mathlib.Omega.{arith}
 use borrow.Author.Needs.{needs}
 use Rattle.closing.proofs.close.Statement.{statement}
 use Rattle.closing.proofs.close.Tie as tie
 
-returns : tie.Need-returns
-returns c = refused-length (c .before .before .before .args .state .now) (c .before .before .before .args .second .now) (c .if1 .taken)
+passes : (c : tie.Else2) → stateOk (c .before .before .before .before .before .args .state .now) ≡ true
+passes c = sym (c .before .state-ok .ensures) ∙ not-false _ (c .if2 .left)
 
-state-ok-requires : tie.Need-state-ok-requires
-state-ok-requires c κs = search needs
+going : (c : tie.Else3) → Going (c .before .before .before .before .before .before .before .args .state .now) (c .before .before .before .before .before .before .before .args .second .now)
+going c = record { long = c .before .before .before .before .if1 .left; passes = passes (c .before .before); going = sym (c .before .finished .ensures) ∙ c .if3 .left }
 
-returns-2 : tie.Need-returns-2
-returns-2 c = refused-state (c .before .before .before .before .before .args .state .now) (c .before .before .before .before .before .args .second .now) (c .before .before .if1 .left) (sym (c .before .state-ok .ensures) ∙ not-true (c .before .state-ok .result) (c .if2 .taken))
+sized : (c : tie.After-counts-of) → let n = c .counts-of .result in Sized (c .before .before .before .before .before .before .before .before .args .state .now) (n .boards) (n .slots) (n .nodes)
+sized c = passed-sized _ _ _ _ (passes (c .before .before .before)) (c .counts-of .ensures)
 
-finished-requires : tie.Need-finished-requires
-finished-requires c κs = (sym (c .before .state-ok .ensures) ∙ not-false (c .before .state-ok .result) (c .if2 .left))
+sampled : (c : tie.Else4) → allSampled (c .before .before .before .before .before .before .before .before .before .before .args .state .now) ≡ true
+sampled c = sym (c .before .all-sampled .ensures) ∙ not-false _ (c .if4 .left)
 
-returns-3 : tie.Need-returns-3
-returns-3 c = refused-finished (c .before .before .before .before .before .before .before .args .state .now) (c .before .before .before .before .before .before .before .args .second .now) (c .before .before .before .before .if1 .left) (sym (c .before .before .before .state-ok .ensures) ∙ not-false (c .before .before .before .state-ok .result) (c .before .before .if2 .left)) (sym (c .before .finished .ensures) ∙ c .if3 .taken)
+stepped : (c : tie.Else5) → allStepped (c .before .before .before .before .before .before .before .before .before .before .before .before .args .state .now) ≡ true
+stepped c = sym (c .before .all-stepped .ensures) ∙ not-false _ (c .if5 .left)
 
-counts-of-requires : tie.Need-counts-of-requires
-counts-of-requires c κs = passed-length (c .before .before .before .before .before .before .before .args .state .now) (sym (c .before .before .before .state-ok .ensures) ∙ not-false (c .before .before .before .state-ok .result) (c .before .before .if2 .left))
-
-all-sampled-requires : tie.Need-all-sampled-requires
-all-sampled-requires c κs = (passed-sized (c .before .before .before .before .before .before .before .before .args .state .now) (c .counts-of .result .boards) (c .counts-of .result .slots) (c .counts-of .result .nodes) (sym (c .before .before .before .before .state-ok .ensures) ∙ not-false (c .before .before .before .before .state-ok .result) (c .before .before .before .if2 .left)) (c .counts-of .ensures))
-
-returns-4 : tie.Need-returns-4
-returns-4 c = refused-boards (c .before .before .before .before .before .before .before .before .before .before .args .state .now) (c .before .before .before .before .before .before .before .before .before .before .args .second .now) (c .before .before .before .before .before .before .before .if1 .left) (sym (c .before .before .before .before .before .before .state-ok .ensures) ∙ not-false (c .before .before .before .before .before .before .state-ok .result) (c .before .before .before .before .before .if2 .left)) (sym (c .before .before .before .before .finished .ensures) ∙ c .before .before .before .if3 .left) (sym (c .before .all-sampled .ensures) ∙ not-true (c .before .all-sampled .result) (c .if4 .taken))
-
-all-stepped-requires : tie.Need-all-stepped-requires
-all-stepped-requires c κs = (passed-sized (c .before .before .before .before .before .before .before .before .before .before .args .state .now) (c .before .before .counts-of .result .boards) (c .before .before .counts-of .result .slots) (c .before .before .counts-of .result .nodes) (sym (c .before .before .before .before .before .before .state-ok .ensures) ∙ not-false (c .before .before .before .before .before .before .state-ok .result) (c .before .before .before .before .before .if2 .left)) (c .before .before .counts-of .ensures))
-
-returns-5 : tie.Need-returns-5
-returns-5 c = refused-slots (c .before .before .before .before .before .before .before .before .before .before .before .before .args .state .now) (c .before .before .before .before .before .before .before .before .before .before .before .before .args .second .now) (c .before .before .before .before .before .before .before .before .before .if1 .left) (sym (c .before .before .before .before .before .before .before .before .state-ok .ensures) ∙ not-false (c .before .before .before .before .before .before .before .before .state-ok .result) (c .before .before .before .before .before .before .before .if2 .left)) (sym (c .before .before .before .before .before .before .finished .ensures) ∙ c .before .before .before .before .before .if3 .left) (sym (c .before .before .before .all-sampled .ensures) ∙ not-false (c .before .before .before .all-sampled .result) (c .before .before .if4 .left)) (sym (c .before .all-stepped .ensures) ∙ not-true (c .before .all-stepped .result) (c .if5 .taken))
-
-u32-at-requires : tie.Need-u32-at-requires
-u32-at-requires c κs = let l = passed-length (c .before .before .before .before .before .before .before .before .before .before .before .before .args .state .now) (sym (c .before .before .before .before .before .before .before .before .state-ok .ensures) ∙ not-false (c .before .before .before .before .before .before .before .before .state-ok .result) (c .before .before .before .before .before .before .before .if2 .left)) in omega arith
-
-returns-6 : tie.Need-returns-6
-returns-6 c = refused-ticks (c .before .before .before .before .before .before .before .before .before .before .before .before .before .before .args .state .now) (c .before .before .before .before .before .before .before .before .before .before .before .before .before .before .args .second .now) (c .before .before .before .before .before .before .before .before .before .before .before .if1 .left) (sym (c .before .before .before .before .before .before .before .before .before .before .state-ok .ensures) ∙ not-false (c .before .before .before .before .before .before .before .before .before .before .state-ok .result) (c .before .before .before .before .before .before .before .before .before .if2 .left)) (sym (c .before .before .before .before .before .before .before .before .finished .ensures) ∙ c .before .before .before .before .before .before .before .if3 .left) (sym (c .before .before .before .before .before .all-sampled .ensures) ∙ not-false (c .before .before .before .before .before .all-sampled .result) (c .before .before .before .before .if4 .left)) (sym (c .before .before .before .all-stepped .ensures) ∙ not-false (c .before .before .before .all-stepped .result) (c .before .before .if5 .left)) (let e = c .before .u32-at .ensures in let l = c .if6 .taken in omega arith)
-
-advance-requires : tie.Need-advance-requires
-advance-requires c κs = record { passes = (sym (c .before .before .before .before .before .before .before .before .before .before .before .state-ok .ensures) ∙ not-false (c .before .before .before .before .before .before .before .before .before .before .before .state-ok .result) (c .before .before .before .before .before .before .before .before .before .before .if2 .left)); header = c .before .before .before .before .before .before .before .counts-of .ensures; counted = (let e = c .before .before .u32-at .ensures in let d = c .before .if6 .left in omega arith); long = (c .before .before .before .before .before .before .before .before .before .before .before .before .if1 .left) }
-
-same-length : tie.Need-same-length
-same-length c = search needs
-
-returns-7 : tie.Need-returns-7
-returns-7 c = advanced (c .before .before .before .before .before .before .before .before .before .before .before .before .before .before .before .before .before .before .args .state .now) (c .before .before .before .before .before .before .before .before .before .before .before .before .before .before .before .before .before .before .args .second .now) (c .before .before .before .before .before .before .before .before .before .before .before .before .before .before .before .if1 .left) (sym (c .before .before .before .before .before .before .before .before .before .before .before .before .before .before .state-ok .ensures) ∙ not-false (c .before .before .before .before .before .before .before .before .before .before .before .before .before .before .state-ok .result) (c .before .before .before .before .before .before .before .before .before .before .before .before .before .if2 .left)) (sym (c .before .before .before .before .before .before .before .before .before .before .before .before .finished .ensures) ∙ c .before .before .before .before .before .before .before .before .before .before .before .if3 .left) (sym (c .before .before .before .before .before .before .before .before .before .all-sampled .ensures) ∙ not-false (c .before .before .before .before .before .before .before .before .before .all-sampled .result) (c .before .before .before .before .before .before .before .before .if4 .left)) (sym (c .before .before .before .before .before .before .before .all-stepped .ensures) ∙ not-false (c .before .before .before .before .before .before .before .all-stepped .result) (c .before .before .before .before .before .before .if5 .left)) (let e = c .before .before .before .before .before .u32-at .ensures in let d = c .before .before .before .before .if6 .left in omega arith) (c .before .before .advance .ensures)
+one-more : (c : tie.Else6) → ticksIn (c .before .before .before .before .before .before .before .before .before .before .before .before .before .before .args .state .now) + 1 < 2 ^ 32
+one-more c = let e = c .before .u32-at .ensures in let l = c .if6 .left in omega arith
 
 pub close-spec : {M : Type 1} → statement M
 close-spec =
     tie.close
     (tie.spec
-    returns
-    state-ok-requires
-    returns-2
-    finished-requires
-    returns-3
-    counts-of-requires
-    all-sampled-requires
-    returns-4
-    all-stepped-requires
-    returns-5
-    u32-at-requires
-    returns-6
-    advance-requires
-    same-length
-    returns-7)
+    (λ c. refused-length _ _ (c .if1 .taken))
+    (λ c κs. search needs)
+    (λ c. refused-state _ _ (c .before .before .if1 .left) (sym (c .before .state-ok .ensures) ∙ not-true _ (c .if2 .taken)))
+    (λ c κs. passes c)
+    (λ c. refused-finished _ _ (c .before .before .before .before .if1 .left) (passes (c .before .before)) (sym (c .before .finished .ensures) ∙ c .if3 .taken))
+    (λ c κs. passed-length _ (passes (c .before .before)))
+    (λ c κs. sized c)
+    (λ c. refused-boards (going (c .before .before .before)) (sym (c .before .all-sampled .ensures) ∙ not-true _ (c .if4 .taken)))
+    (λ c κs. sized (c .before .before))
+    (λ c. refused-slots (going (c .before .before .before .before .before)) (sampled (c .before .before)) (sym (c .before .all-stepped .ensures) ∙ not-true _ (c .if5 .taken)))
+    (λ c κs. let l = passed-length _ (passes (c .before .before .before .before .before .before .before)) in omega arith)
+    (λ c. refused-ticks (going (c .before .before .before .before .before .before .before)) (sampled (c .before .before .before .before)) (stepped (c .before .before)) (let e = c .before .u32-at .ensures in let l = c .if6 .taken in omega arith))
+    (λ c κs. let g = going (c .before .before .before .before .before .before .before .before) in record { passes = g .passes; header = c .before .before .before .before .before .before .before .counts-of .ensures; counted = one-more (c .before); long = g .long })
+    (λ c. search needs)
+    (λ c. advanced (going (c .before .before .before .before .before .before .before .before .before .before .before)) (sampled (c .before .before .before .before .before .before .before .before)) (stepped (c .before .before .before .before .before .before)) (one-more (c .before .before .before .before)) (c .before .before .advance .ensures)))

@@ -13,37 +13,16 @@ Inv-loop p slots nodes t₀ i₀ t i = (i ≤ length p) × Added slots nodes p i
 abbrev μ-loop : tie.MeasureT-loop
 μ-loop p slots nodes t₀ i₀ t i = length p - i
 
-loop-holds : tie.Need-loop-holds Inv-loop μ-loop
-loop-holds c = (omega arith, added-none (c .before .before .before .args .slots .now) (c .before .before .before .args .nodes .now) (c .before .before .before .args .p .now))
-
-shared-slice-read-after : tie.Need-shared-slice-read-after Inv-loop μ-loop
-shared-slice-read-after c = search needs
-
-after-requires : tie.Need-after-requires Inv-loop μ-loop
-after-requires c κs = (c .before .before .before .before .before .before .pre .0, c .before .before .before .before .before .before .pre .1 (c .before .before .loop .i), c .before .before .loop .inv .1 .few-slots, c .before .before .loop .inv .1 .few-nodes)
-
-add-i : tie.Need-add-i Inv-loop μ-loop
-add-i c = search needs
-
-loop-less : tie.Need-loop-less Inv-loop μ-loop
-loop-less c = omega arith
-
-loop-again : tie.Need-loop-again Inv-loop μ-loop
-loop-again c = (omega arith, added-more (c .before .before .before .before .before .before .before .args .slots .now) (c .before .before .before .before .before .before .before .args .nodes .now) (c .before .before .before .before .before .before .before .args .p .now) (c .before .before .before .loop .i) (c .before .before .before .loop .t) (c .after .result) (c .before .before .loop-test .taken) (c .before .before .before .loop .inv .1) (c .after .ensures .0) (c .after .ensures .1))
-
-returns : tie.Need-returns Inv-loop μ-loop
-returns c = added-all (c .before .before .before .before .before .args .slots .now) (c .before .before .before .before .before .args .nodes .now) (c .before .before .before .before .before .args .p .now) (c .before .loop .i) (c .before .loop .t) (c .loop-test .left) (c .before .loop .inv .1)
-
 pub held-by-spec : {M : Type 1} → statement M
 held-by-spec =
     tie.close
     (tie.spec
     Inv-loop
     μ-loop
-    loop-holds
-    shared-slice-read-after
-    after-requires
-    add-i
-    loop-less
-    loop-again
-    returns)
+    (λ c. (omega arith, added-none))
+    (λ c. search needs)
+    (λ c κs. let a = c .before .before .before .before .before .before .pre in let k = c .before .before .loop in (a .0, a .1 (k .i), k .inv .1 .few-slots, k .inv .1 .few-nodes))
+    (λ c. search needs)
+    (λ c. search needs)
+    (λ c. (omega arith, added-more (c .before .before .before .loop .inv .1) (c .before .before .loop-test .taken) (c .after .ensures)))
+    (λ c. added-all (c .before .loop .inv .1) (c .loop-test .left)))

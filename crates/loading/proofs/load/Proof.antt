@@ -1,70 +1,40 @@
 -- One law of `Outcomes` for each way out. Assumes nothing.
-use mathlib.Core.Path.{refl, sym, ap, _∙_}
+use mathlib.Core.Path.{refl, sym, ap, subst, _∙_}
+use Prim.Native.Nat.{_≤_}
+use lib.ListN.{length}
 use lib.Seq.{length-take-le}
-use Rattle.rules.specs.Read.{saidRead}
-use Rattle.loading.proofs.Outcomes.{load-length, load-read, read-all, read-begins, read-begun}
+use Rattle.rules.specs.Read.{saidRead, Reads}
+use Rattle.loading.proofs.Outcomes.{Read, load-length, load-read, read-whole, read-begins, read-begun}
 use native.Mathlib.Omega.{arith}
 use borrow.Author.Needs.{needs}
 use Rattle.loading.proofs.load.Statement.{statement}
 use Rattle.loading.proofs.load.Tie as tie
 
-returns : tie.Need-returns
-returns c = load-length (c .before .before .before .args .file .now) (c .before .before .before .args .state .now) (c .if1 .taken)
+-- where a rule was read: what it is, and that its masks and its nodes are inside the outputs
+was-read : (c : tie.After-answer2) → Read (c .before .before .before .before .before .before .before .before .before .before .args .file .now) (c .before .before .before .before .read .last .1 .0) (c .before .before .before .before .read .last .1 .1 .0) (c .answer2 .given .0 .0)
+was-read c = read-whole refl refl (subst (Reads _ _ _ _ _) (c .answer2 .given .1) (c .before .before .before .before .read .ensures))
 
-slice-aggregate-read : tie.Need-slice-aggregate-read
-slice-aggregate-read c = search needs
+masks-inside : (c : tie.After-answer2) → c .answer2 .given .0 .0 .boards ≤ length (c .before .before .before .before .read .last .1 .0)
+masks-inside c = let r = was-read c in let l = c .before .before .before .before .read .kept .1 .0 in omega arith
 
-slice-aggregate-read-2 : tie.Need-slice-aggregate-read-2
-slice-aggregate-read-2 c = search needs
-
-read-requires : tie.Need-read-requires
-read-requires c κs = search needs
-
-enum-known-answer : tie.Need-enum-known-answer
-enum-known-answer c = search needs
-
-enum-known-answer-2 : tie.Need-enum-known-answer-2
-enum-known-answer-2 c = search needs
-
-array-share-prefix-masks : tie.Need-array-share-prefix-masks
-array-share-prefix-masks c = let r = read-all (c .before .before .before .before .before .before .before .before .before .before .before .args .file .now) _ _ _ _ (c .before .answer2 .given .0 .0) _ (c .before .answer2 .given .1) refl refl (c .before .before .before .before .before .read .ensures) in let l = c .before .before .before .before .before .read .kept .1 .0 in let b = r .boards-few in omega arith
-
-slice-aggregate-begin : tie.Need-slice-aggregate-begin
-slice-aggregate-begin c = let r = read-all (c .before .before .before .before .before .before .before .before .before .before .before .before .args .file .now) _ _ _ _ (c .before .before .answer2 .given .0 .0) _ (c .before .before .answer2 .given .1) refl refl (c .before .before .before .before .before .before .read .ensures) in let l = c .before .before .before .before .before .before .read .kept .1 .0 in let b = r .boards-few in sym (length-take-le (c .before .before .answer2 .given .0 .0 .boards) (c .before .before .before .before .before .before .read .last .1 .0) (omega arith))
-
-array-share-prefix-formula : tie.Need-array-share-prefix-formula
-array-share-prefix-formula c = let r = read-all (c .before .before .before .before .before .before .before .before .before .before .before .before .args .file .now) _ _ _ _ (c .before .before .answer2 .given .0 .0) _ (c .before .before .answer2 .given .1) refl refl (c .before .before .before .before .before .before .read .ensures) in let l = c .before .before .before .before .before .before .read .kept .1 .1 .0 in let b = r .nodes-few in omega arith
-
-slice-aggregate-begin-2 : tie.Need-slice-aggregate-begin-2
-slice-aggregate-begin-2 c = let r = read-all (c .before .before .before .before .before .before .before .before .before .before .before .before .before .args .file .now) _ _ _ _ (c .before .before .before .answer2 .given .0 .0) _ (c .before .before .before .answer2 .given .1) refl refl (c .before .before .before .before .before .before .before .read .ensures) in let l = c .before .before .before .before .before .before .before .read .kept .1 .1 .0 in let b = r .nodes-few in sym (length-take-le (c .before .before .before .answer2 .given .0 .0 .nodes) (c .before .before .before .before .before .before .before .read .last .1 .1 .0) (omega arith))
-
-begin-requires : tie.Need-begin-requires
-begin-requires c κs = let r = read-all (c .before .before .before .before .before .before .before .before .before .before .before .before .before .before .args .file .now) _ _ _ _ (c .before .before .before .before .answer2 .given .0 .0) _ (c .before .before .before .before .answer2 .given .1) refl refl (c .before .before .before .before .before .before .before .before .read .ensures) in read-begins (c .before .before .before .before .before .before .before .before .before .before .before .before .before .before .args .state .now) (c .before .before .before .before .before .before .before .before .before .before .before .if1 .left) r
-
-returns-2 : tie.Need-returns-2
-returns-2 c = load-read (c .before .before .before .before .before .before .before .before .before .before .before .args .file .now) (c .before .before .before .before .before .before .before .before .before .before .before .args .state .now) (c .before .before .before .before .before .before .before .before .if1 .left) (c .before .answer .given .0 .0) (ap saidRead (sym (c .before .answer .given .1)) ∙ c .before .before .before .before .before .read .ensures .says)
-
-same-length : tie.Need-same-length
-same-length c = search needs
-
-returns-3 : tie.Need-returns-3
-returns-3 c = let r = read-all (c .before .before .before .before .before .before .before .before .before .before .before .before .before .before .before .before .before .args .file .now) _ _ _ _ (c .before .before .before .before .before .before .before .answer2 .given .0 .0) _ (c .before .before .before .before .before .before .before .answer2 .given .1) refl refl (c .before .before .before .before .before .before .before .before .before .before .before .read .ensures) in read-begun (c .before .before .before .before .before .before .before .before .before .before .before .before .before .before .before .before .before .args .state .now) (c .before .before .begin .last .1 .1 .0) (c .before .before .begin .result) (c .before .before .before .before .before .before .before .before .before .before .before .before .before .before .if1 .left) r (c .before .before .begin .ensures)
+formula-inside : (c : tie.After-answer2) → c .answer2 .given .0 .0 .nodes ≤ length (c .before .before .before .before .read .last .1 .1 .0)
+formula-inside c = let r = was-read c in let l = c .before .before .before .before .read .kept .1 .1 .0 in omega arith
 
 pub load-spec : {M : Type 1} → statement M
 load-spec =
     tie.close
     (tie.spec
-    returns
-    slice-aggregate-read
-    slice-aggregate-read-2
-    read-requires
-    enum-known-answer
-    enum-known-answer-2
-    array-share-prefix-masks
-    slice-aggregate-begin
-    array-share-prefix-formula
-    slice-aggregate-begin-2
-    begin-requires
-    returns-2
-    same-length
-    returns-3)
+    (λ c. load-length _ _ (c .if1 .taken))
+    (λ c. search needs)
+    (λ c. search needs)
+    (λ c κs. search needs)
+    (λ c. search needs)
+    (λ c. search needs)
+    (λ c. masks-inside (c .before))
+    (λ c. sym (length-take-le _ _ (masks-inside (c .before .before))))
+    (λ c. formula-inside (c .before .before))
+    (λ c. sym (length-take-le _ _ (formula-inside (c .before .before .before))))
+    (λ c κs. read-begins (c .before .before .before .before .before .before .before .before .before .before .before .if1 .left) (was-read (c .before .before .before .before)))
+    (λ c. load-read _ _ (c .before .before .before .before .before .before .before .before .if1 .left) (c .before .answer .given .0 .0) (ap saidRead (sym (c .before .answer .given .1)) ∙ c .before .before .before .before .before .read .ensures .says))
+    (λ c. search needs)
+    (λ c. read-begun (c .before .before .before .before .before .before .before .before .before .before .before .before .before .before .if1 .left) (was-read (c .before .before .before .before .before .before .before)) (c .before .before .begin .ensures)))

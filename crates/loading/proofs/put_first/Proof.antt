@@ -1,6 +1,8 @@
 -- The rule unfolded, marked and laid out. Assumes nothing.
 use mathlib.Core.Path.{sym}
 use mathlib.Core.List.{[]}
+use Prim.Native.Nat.{_≤_}
+use lib.ListN.{length}
 use lib.Seq.{length-take-le}
 use Rattle.loading.proofs.Firsts.{first-size, unfold-ask, mark-ask, state-ask, first-put}
 use native.Mathlib.Omega.{arith}
@@ -8,51 +10,25 @@ use borrow.Author.Needs.{needs}
 use Rattle.loading.proofs.put_first.Statement.{statement}
 use Rattle.loading.proofs.put_first.Tie as tie
 
-unfold-into-requires : tie.Need-unfold-into-requires
-unfold-into-requires c κs = unfold-ask (c .before .before .before .before .before .before .before .pre)
+abbrev first : tie.After-unfold-into → tie.Start
+first c = c .before .before .before .before .before .before .before .before
 
-slice-reshare-prefix-mark : tie.Need-slice-reshare-prefix-mark
-slice-reshare-prefix-mark c = let x = c .before .before .unfold-into .ensures (c .before .before .before .before .before .before .before .before .before .before .pre .rule) [] (c .before .before .before .before .before .before .before .before .before .before .pre .ruled .front) in let w = x .writes in let s = first-size (c .before .before .before .before .before .before .before .before .before .before .pre) in let l = c .before .before .before .before .before .before .before .before .before .before .pre .u-long in let k = c .before .before .unfold-into .kept .0 in omega arith
-
-slice-aggregate-mark : tie.Need-slice-aggregate-mark
-slice-aggregate-mark c = let x = c .before .before .before .unfold-into .ensures (c .before .before .before .before .before .before .before .before .before .before .before .pre .rule) [] (c .before .before .before .before .before .before .before .before .before .before .before .pre .ruled .front) in let w = x .writes in let s = first-size (c .before .before .before .before .before .before .before .before .before .before .before .pre) in let l = c .before .before .before .before .before .before .before .before .before .before .before .pre .u-long in let k = c .before .before .before .unfold-into .kept .0 in sym (length-take-le (c .before .before .before .unfold-into .result .written) (c .before .before .before .unfold-into .last .0) (omega arith))
-
-mark-requires : tie.Need-mark-requires
-mark-requires c κs = mark-ask (c .before .before .before .before .before .before .before .before .before .before .before .before .pre) (c .before .before .before .before .unfold-into .result) (c .before .before .before .before .unfold-into .ensures)
-
-slice-reshare-prefix-put-state : tie.Need-slice-reshare-prefix-put-state
-slice-reshare-prefix-put-state c = let x = c .before .before .before .before .before .before .before .before .unfold-into .ensures (c .before .before .before .before .before .before .before .before .before .before .before .before .before .before .before .before .pre .rule) [] (c .before .before .before .before .before .before .before .before .before .before .before .before .before .before .before .before .pre .ruled .front) in let w = x .writes in let s = first-size (c .before .before .before .before .before .before .before .before .before .before .before .before .before .before .before .before .pre) in let l = c .before .before .before .before .before .before .before .before .before .before .before .before .before .before .before .before .pre .u-long in let k = c .before .before .before .before .before .before .before .before .unfold-into .kept .0 in omega arith
-
-slice-aggregate-put-state : tie.Need-slice-aggregate-put-state
-slice-aggregate-put-state c = let x = c .before .before .before .before .before .before .before .before .before .unfold-into .ensures (c .before .before .before .before .before .before .before .before .before .before .before .before .before .before .before .before .before .pre .rule) [] (c .before .before .before .before .before .before .before .before .before .before .before .before .before .before .before .before .before .pre .ruled .front) in let w = x .writes in let s = first-size (c .before .before .before .before .before .before .before .before .before .before .before .before .before .before .before .before .before .pre) in let l = c .before .before .before .before .before .before .before .before .before .before .before .before .before .before .before .before .before .pre .u-long in let k = c .before .before .before .before .before .before .before .before .before .unfold-into .kept .0 in sym (length-take-le (c .before .before .before .before .before .before .before .before .before .unfold-into .result .written) (c .before .before .before .before .before .before .before .before .before .unfold-into .last .0) (omega arith))
-
-put-state-requires : tie.Need-put-state-requires
-put-state-requires c κs = state-ask (c .before .before .before .before .before .before .before .before .before .before .before .before .before .before .before .before .before .before .pre) (c .before .before .before .before .before .before .before .before .before .before .unfold-into .result) (c .before .before .before .before .before .before .before .before .before .before .unfold-into .ensures) (c .before .before .before .before .before .mark .result) (c .before .before .before .before .before .mark .ensures) (c .before .before .before .before .before .mark .kept .1 .0)
-
-same-length : tie.Need-same-length
-same-length c = search needs
-
-same-length-2 : tie.Need-same-length-2
-same-length-2 c = search needs
-
-same-length-3 : tie.Need-same-length-3
-same-length-3 c = search needs
-
-returns : tie.Need-returns
-returns c = first-put (c .before .before .before .before .before .before .before .before .before .before .before .before .before .before .before .before .before .before .before .before .before .pre) (c .before .before .before .before .before .before .before .before .before .before .before .before .before .unfold-into .result) (c .before .before .before .before .before .before .before .before .before .before .before .before .before .unfold-into .ensures) (c .before .before .before .before .before .before .before .before .mark .result) (c .before .before .before .before .before .before .before .before .mark .ensures) (c .before .before .before .before .before .before .before .before .mark .kept .1 .0) (c .before .before .put-state .ensures)
+-- what was unfolded is inside its list
+inside : (c : tie.After-unfold-into) → c .unfold-into .result .written ≤ length (c .unfold-into .last .0)
+inside c = let a = first c .pre in let w = c .unfold-into .ensures (a .rule) [] (a .ruled .front) .writes in let s = first-size a in let k = c .unfold-into .kept .0 in omega arith
 
 pub put-first-spec : {M : Type 1} → statement M
 put-first-spec =
     tie.close
     (tie.spec
-    unfold-into-requires
-    slice-reshare-prefix-mark
-    slice-aggregate-mark
-    mark-requires
-    slice-reshare-prefix-put-state
-    slice-aggregate-put-state
-    put-state-requires
-    same-length
-    same-length-2
-    same-length-3
-    returns)
+    (λ c κs. unfold-ask (c .before .before .before .before .before .before .before .pre))
+    (λ c. inside (c .before .before))
+    (λ c. sym (length-take-le _ _ (inside (c .before .before .before))))
+    (λ c κs. let k = c .before .before .before .before in let u = k .unfold-into in mark-ask (first k .pre) (u .result) (u .ensures))
+    (λ c. inside (c .before .before .before .before .before .before .before .before))
+    (λ c. sym (length-take-le _ _ (inside (c .before .before .before .before .before .before .before .before .before))))
+    (λ c κs. let k = c .before .before .before .before .before .before .before .before .before .before in let u = k .unfold-into in let m = c .before .before .before .before .before .mark in state-ask (first k .pre) (u .result) (u .ensures) (m .result) (m .ensures) (m .kept .1 .0))
+    (λ c. search needs)
+    (λ c. search needs)
+    (λ c. search needs)
+    (λ c. let k = c .before .before .before .before .before .before .before .before .before .before .before .before .before in let u = k .unfold-into in let m = c .before .before .before .before .before .before .before .before .mark in first-put (first k .pre) (u .result) (u .ensures) (m .result) (m .ensures) (m .kept .1 .0) (c .before .before .put-state .ensures)))

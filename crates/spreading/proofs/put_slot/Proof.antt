@@ -1,6 +1,9 @@
 -- Where the slot lies, and what unfolding and marking gave. Assumes nothing.
 use mathlib.Core.Path.{sym}
+use Prim.Native.Nat.{_≤_}
+use lib.ListN.{length}
 use lib.Seq.{length-take-le}
+use Rattle.passing.proofs.Lying.{Lying}
 use Rattle.counting.proofs.Slots.{slot-placed, slot-numbers}
 use Rattle.spreading.proofs.Slots.{unfold-ask, written-is, mark-ask, slot-put}
 use native.Mathlib.Omega.{arith}
@@ -8,71 +11,33 @@ use borrow.Author.Needs.{needs}
 use Rattle.spreading.proofs.put_slot.Statement.{statement}
 use Rattle.spreading.proofs.put_slot.Tie as tie
 
-span-of-requires : tie.Need-span-of-requires
-span-of-requires c κs = slot-placed (c .before .before .before .before .pre .known) (c .before .before .before .before .pre .there)
+-- where the slot is unfolded: its record is there, and what was written is inside the list
+abbrev first : tie.After-unfold-into → tie.Start
+first c = c .before .before .before .before .before .before .before .before
 
-sub-unfold-into : tie.Need-sub-unfold-into
-sub-unfold-into c = let x = c .before .span-of .ensures in omega arith
+numbers : (c : tie.After-unfold-into) → let a = first c .args in Lying (a .state .now) (a .c .boards) (a .c .slots) (a .m)
+numbers c = slot-numbers (first c .pre .known) (first c .pre .there)
 
-part-unfold-into-start : tie.Need-part-unfold-into-start
-part-unfold-into-start c = let x = c .before .span-of .ensures in omega arith
-
-part-unfold-into-end : tie.Need-part-unfold-into-end
-part-unfold-into-end c = let x = c .before .span-of .ensures in omega arith
-
-unfold-into-requires : tie.Need-unfold-into-requires
-unfold-into-requires c κs = unfold-ask (c .before .before .before .before .before .before .before .pre) (c .before .before .span-of .ensures)
-
-mul-board : tie.Need-mul-board
-mul-board c = let x = slot-numbers (c .before .before .before .before .before .before .before .before .before .before .before .pre .known) (c .before .before .before .before .before .before .before .before .before .before .before .pre .there) in omega arith
-
-add-board : tie.Need-add-board
-add-board c = let x = slot-numbers (c .before .before .before .before .before .before .before .before .before .before .before .pre .known) (c .before .before .before .before .before .before .before .before .before .before .before .pre .there) in omega arith
-
-mul-board-2 : tie.Need-mul-board-2
-mul-board-2 c = let x = slot-numbers (c .before .before .before .before .before .before .before .before .before .before .before .pre .known) (c .before .before .before .before .before .before .before .before .before .before .before .pre .there) in omega arith
-
-add-board-2 : tie.Need-add-board-2
-add-board-2 c = let x = slot-numbers (c .before .before .before .before .before .before .before .before .before .before .before .pre .known) (c .before .before .before .before .before .before .before .before .before .before .before .pre .there) in omega arith
-
-shared-slice-read-board : tie.Need-shared-slice-read-board
-shared-slice-read-board c = let x = slot-numbers (c .before .before .before .before .before .before .before .before .before .before .before .before .pre .known) (c .before .before .before .before .before .before .before .before .before .before .before .before .pre .there) in omega arith
-
-slice-reshare-prefix-mark : tie.Need-slice-reshare-prefix-mark
-slice-reshare-prefix-mark c = let w = written-is (c .before .before .before .before .before .before .before .before .before .before .before .before .pre) (c .before .before .before .before .before .before .before .span-of .ensures) (c .before .before .before .before .unfold-into .result) (c .before .before .before .before .unfold-into .ensures) in let r = c .before .before .before .before .before .before .before .before .before .before .before .before .pre .room in let k = c .before .before .before .before .unfold-into .kept .0 in omega arith
-
-slice-aggregate-mark : tie.Need-slice-aggregate-mark
-slice-aggregate-mark c = let w = written-is (c .before .before .before .before .before .before .before .before .before .before .before .before .before .pre) (c .before .before .before .before .before .before .before .before .span-of .ensures) (c .before .before .before .before .before .unfold-into .result) (c .before .before .before .before .before .unfold-into .ensures) in let r = c .before .before .before .before .before .before .before .before .before .before .before .before .before .pre .room in let k = c .before .before .before .before .before .unfold-into .kept .0 in sym (length-take-le (c .before .before .before .before .before .unfold-into .result .written) (c .before .before .before .before .before .unfold-into .last .0) (omega arith))
-
-mark-requires : tie.Need-mark-requires
-mark-requires c κs = mark-ask (c .before .before .before .before .before .before .before .before .before .before .before .before .before .before .pre) (c .before .before .before .before .before .before .before .before .before .span-of .ensures) (c .before .before .before .before .before .before .unfold-into .result) (c .before .before .before .before .before .before .unfold-into .ensures) (c .before .before .before .before .before .before .unfold-into .kept .0)
-
-same-length : tie.Need-same-length
-same-length c = search needs
-
-same-length-2 : tie.Need-same-length-2
-same-length-2 c = search needs
-
-returns : tie.Need-returns
-returns c = slot-put (c .before .before .before .before .before .before .before .before .before .before .before .before .before .before .before .before .before .pre) (c .before .before .before .before .before .before .before .before .before .before .before .before .span-of .ensures) (c .before .before .before .before .before .before .before .before .before .unfold-into .result) (c .before .before .before .before .before .before .before .before .before .unfold-into .ensures) (c .before .before .mark .result) (c .before .before .mark .ensures)
+inside : (c : tie.After-unfold-into) → c .unfold-into .result .written ≤ length (c .unfold-into .last .0)
+inside c = let a = first c .pre in let w = written-is a (c .before .before .before .span-of .ensures) (c .unfold-into .result) (c .unfold-into .ensures) in let k = c .unfold-into .kept .0 in omega arith
 
 pub put-slot-spec : {M : Type 1} → statement M
 put-slot-spec =
     tie.close
     (tie.spec
-    span-of-requires
-    sub-unfold-into
-    part-unfold-into-start
-    part-unfold-into-end
-    unfold-into-requires
-    mul-board
-    add-board
-    mul-board-2
-    add-board-2
-    shared-slice-read-board
-    slice-reshare-prefix-mark
-    slice-aggregate-mark
-    mark-requires
-    same-length
-    same-length-2
-    returns)
+    (λ c κs. slot-placed (c .before .before .before .before .pre .known) (c .before .before .before .before .pre .there))
+    (λ c. search needs)
+    (λ c. search needs)
+    (λ c. search needs)
+    (λ c κs. unfold-ask (c .before .before .before .before .before .before .before .pre) (c .before .before .span-of .ensures))
+    (λ c. let x = numbers (c .before .before .before) in omega arith)
+    (λ c. let x = numbers (c .before .before .before) in omega arith)
+    (λ c. let x = numbers (c .before .before .before) in omega arith)
+    (λ c. let x = numbers (c .before .before .before) in omega arith)
+    (λ c. let x = numbers (c .before .before .before .before) in omega arith)
+    (λ c. inside (c .before .before .before .before))
+    (λ c. sym (length-take-le _ _ (inside (c .before .before .before .before .before))))
+    (λ c κs. let k = c .before .before .before .before .before .before in let u = k .unfold-into in mark-ask (first k .pre) (k .before .before .before .span-of .ensures) (u .result) (u .ensures) (u .kept .0))
+    (λ c. search needs)
+    (λ c. search needs)
+    (λ c. let k = c .before .before .before .before .before .before .before .before .before in let u = k .unfold-into in slot-put (first k .pre) (k .before .before .before .span-of .ensures) (u .result) (u .ensures) (c .before .before .mark .result) (c .before .before .mark .ensures)))

@@ -1,16 +1,12 @@
 -- The invariant: the list has the records of the first i boards in front, then what it had before. Each turn puts the next one, so what
 -- is left of the masks falls. Assumes nothing.
-use mathlib.Core.Path.{_≡_, refl, sym, ap₂, _∙_}
-use mathlib.Core.List.{List, _++_}
-use Prim.Native.Nat.{ℕ, _+_, _-_, _*_, _≤_}
-use lib.ListN.{length, getD, take, drop, replicate}
-use lib.Seq.{take-all, length-take-le}
+use mathlib.Core.Path.{_≡_, refl, _∙_}
+use mathlib.Core.List.{_++_}
+use Prim.Native.Nat.{_+_, _-_, _*_, _≤_}
+use lib.ListN.{length, take, drop}
 use Rattle.lists.proofs.Parts.{tail-length, handed-length}
-use Rattle.lists.proofs.Stretches.{put-more}
-use Rattle.le.specs.Le.{le}
 use Rattle.state.specs.Bytes.{boardRecords}
-use Rattle.state.proofs.Reading.{boards-length}
-use Rattle.storing.proofs.Boards.{boards-more}
+use Rattle.storing.proofs.Boards.{boards-more, boards-all}
 use native.Mathlib.Omega.{arith}
 use borrow.Author.Needs.{needs}
 use Rattle.storing.proofs.put_boards.Statement.{statement}
@@ -23,62 +19,9 @@ Inv-loop out₀ masks i₀ out i =
 abbrev μ-loop : tie.MeasureT-loop
 μ-loop out₀ masks i₀ out i = length masks - i
 
-loop-holds : tie.Need-loop-holds Inv-loop μ-loop
-loop-holds c = (omega arith, refl, refl)
-
-mul-at : tie.Need-mul-at Inv-loop μ-loop
-mul-at c = let k = c .before .loop .inv in let i = c .loop-test .taken in let p = c .before .before .before .before .pre in omega arith
-
-sub-put-board : tie.Need-sub-put-board Inv-loop μ-loop
-sub-put-board c = let k = c .before .loop .inv in let i = c .loop-test .taken in let p = c .before .before .before .before .pre in omega arith
-
-part-put-board-start : tie.Need-part-put-board-start Inv-loop μ-loop
-part-put-board-start c = let k = c .before .loop .inv in let i = c .loop-test .taken in let p = c .before .before .before .before .pre in omega arith
-
-part-put-board-end : tie.Need-part-put-board-end Inv-loop μ-loop
-part-put-board-end c = let k = c .before .loop .inv in let i = c .loop-test .taken in let p = c .before .before .before .before .pre in omega arith
-
-mul-put-board : tie.Need-mul-put-board Inv-loop μ-loop
-mul-put-board c = let k = c .before .before .loop .inv in let i = c .before .loop-test .taken in let p = c .before .before .before .before .before .pre in omega arith
-
-shared-slice-read-put-board : tie.Need-shared-slice-read-put-board Inv-loop μ-loop
-shared-slice-read-put-board c = let k = c .before .before .before .loop .inv in let i = c .before .before .loop-test .taken in let p = c .before .before .before .before .before .before .pre in omega arith
-
-put-board-requires : tie.Need-put-board-requires Inv-loop μ-loop
-put-board-requires c κs = let k = c .before .before .before .loop .inv in let i = c .before .before .loop-test .taken in let p = c .before .before .before .before .before .before .pre in let t = tail-length (17 * c .before .before .before .loop .i) (c .before .before .before .loop .out) in omega arith
-
-add-i : tie.Need-add-i Inv-loop μ-loop
-add-i c = search needs
-
-loop-less : tie.Need-loop-less Inv-loop μ-loop
-loop-less c = search needs
-
-loop-again : tie.Need-loop-again Inv-loop μ-loop
-loop-again c = let k = c .before .before .before .before .before .before .loop .inv in
-    let i = c .before .before .before .before .before .before .loop .i in
-    let ms = c .before .before .before .before .before .before .before .before .before .args .masks .now in
-    let out = c .before .before .before .before .before .before .before .before .before .args .out .now in
-    let taken = c .before .before .before .before .before .loop-test .taken in
-    let p = c .before .before .before .before .before .before .before .before .before .pre in
-    let l = boards-length (take i ms) in
-    let m = length-take-le i ms (k .0) in
-    let e : 17 * i + 17 ≡ 17 * (i + 1) = omega arith in (
-      omega arith,
-      put-more out (c .before .before .before .before .before .before .loop .out) (boardRecords (take i ms)) (le 8 (getD ms i 0) ++ replicate 9 0) (c .before .before .put-board .last .0) (17 * i) 17 (omega arith) (k .1) (c .before .before .put-board .ensures)
-          ∙ ap₂ (λ (u : List ℕ) (j : ℕ). u ++ drop j out) (sym (boards-more ms i taken)) e,
-      handed-length (17 * i) (c .before .before .before .before .before .before .loop .out) (c .before .before .put-board .last .0) (omega arith) (c .before .before .put-board .kept .0) ∙ k .2,
-    )
-
-same-length : tie.Need-same-length Inv-loop μ-loop
-same-length c = c .before .loop .inv .2
-
-returns : tie.Need-returns Inv-loop μ-loop
-returns c = let k = c .before .loop .inv in
-    let i = c .before .loop .i in
-    let ms = c .before .before .before .before .args .masks .now in
-    let left = c .loop-test .left in
-    let e : i ≡ length ms = omega arith in
-    k .1 ∙ ap₂ (λ (u : List ℕ) (j : ℕ). boardRecords u ++ drop (17 * j) (c .before .before .before .before .args .out .now)) (take-all i ms (omega arith)) e
+-- in a turn there is room for the next record
+room : (c : tie.In-loop Inv-loop μ-loop) → 17 * c .before .loop .i + 17 ≤ length (c .before .loop .out)
+room c = let k = c .before .loop .inv in let i = c .loop-test .taken in let p = c .before .before .before .before .pre in omega arith
 
 pub put-boards-spec : {M : Type 1} → statement M
 put-boards-spec =
@@ -86,16 +29,20 @@ put-boards-spec =
     (tie.spec
     Inv-loop
     μ-loop
-    loop-holds
-    mul-at
-    sub-put-board
-    part-put-board-start
-    part-put-board-end
-    mul-put-board
-    shared-slice-read-put-board
-    put-board-requires
-    add-i
-    loop-less
-    loop-again
-    same-length
-    returns)
+    (λ c. (omega arith, refl, refl))
+    (λ c. search needs)
+    (λ c. let r = room c in omega arith)
+    (λ c. let r = room c in omega arith)
+    (λ c. let r = room c in omega arith)
+    (λ c. let r = room (c .before) in omega arith)
+    (λ c. search needs)
+    (λ c κs. let r = room (c .before .before) in let t = tail-length (17 * c .before .before .before .loop .i) (c .before .before .before .loop .out) in omega arith)
+    (λ c. search needs)
+    (λ c. search needs)
+    (λ c. let k = c .before .before .before .before .before .before .loop in let a = c .before .before .before .before .before .before .before .before .before .args in let p = c .before .before .put-board in let t = c .before .before .before .before .before .loop-test .taken in let r = room (c .before .before .before .before .before) in (
+      omega arith,
+      boards-more (a .masks .now) (a .out .now) (k .out) (k .i) (k .inv .1) t (p .last .0) (p .ensures),
+      handed-length (17 * k .i) (k .out) (p .last .0) (omega arith) (p .kept .0) ∙ k .inv .2,
+    ))
+    (λ c. c .before .loop .inv .2)
+    (λ c. let k = c .before .loop in let a = c .before .before .before .before .args in let l = c .loop-test .left in boards-all (a .masks .now) (a .out .now) (k .out) (k .i) (k .inv .1) (omega arith)))
