@@ -5,12 +5,11 @@ use borrow.Author.Needs.{needs}
 use mathlib.Core.Path.{ap}
 use mathlib.Core.List.{List}
 use lib.ListN.{length}
-use Rattle.lists.proofs.Parts.{tail-length}
 use Rattle.ltl.specs.Formula.{Formula, size}
 use Rattle.nodes.specs.Begins.{Front}
 use Rattle.nodes.proofs.Fronts.{Single, Double, parts-as, zero-size, no-code, begins-some, front-begins}
-use Rattle.nodes.proofs.Operands.{one-of, two-of, LeftEnded, left-ended}
-use Prim.Native.Nat.{ℕ, _+_, _<_}
+use Rattle.nodes.proofs.Operands.{one-of, two-of, LeftRead, left-read}
+use Prim.Native.Nat.{ℕ, _<_}
 use borrow.Fn.Kinds.{In}
 use borrow.Fn.PlainCycle.{Measures, is, falls, and}
 use Rattle.nodes.proofs.operand_end.Reads as operand-end
@@ -41,8 +40,8 @@ module _ (t : ℕ) where
   double c y = two-of y (c .before .before .of .ensures) (c .enum-told3 .given .1)
 
   left : (c : lts.After-operand-end2 calls here operand-end.Post) {f : Formula} {rest : List ℕ}
-      → let s = c .before .before .before .before .before .before .before .args .s .now in Front s f rest → LeftEnded s rest f (c .before .before .enum-told3 .given .0 .0) (c .operand-end2 .result)
-  left c y = left-ended (double (c .before .before) y) (c .operand-end2 .ensures)
+      (y : Front (c .before .before .before .before .before .before .before .args .s .now) f rest) → LeftRead (double (c .before .before) y) (c .operand-end2 .result)
+  left c y = left-read (double (c .before .before) y) (c .operand-end2 .ensures _ _ (double (c .before .before) y .front))
 
 pub +operand-end-spec : {M : Type 1} → statement M
 +operand-end-spec = close μ-operand-end λ t. lts.spec (calls t) (here t) operand-end.Post
@@ -53,24 +52,24 @@ pub +operand-end-spec : {M : Type 1} → statement M
     (λ c. let x = single t c (c .before .before .before .before .before .pre .1 .front) in omega arith)
     (λ c. let x = single t c (c .before .before .before .before .before .pre .1 .front) in omega arith)
     (λ c. let x = single t c (c .before .before .before .before .before .pre .1 .front) in omega arith)
-    (λ c κs. let a = c .before .before .before .before .before .before in let x = single t (c .before) (a .pre .1 .front) in let l = tail-length 1 (a .args .s .now) in
+    (λ c κs. let a = c .before .before .before .before .before .before in let x = single t (c .before) (a .pre .1 .front) in
     (omega arith, front-begins (x .front)))
     (λ c. let x = single t (c .before .before) (c .before .before .before .before .before .before .before .pre .1 .front) in let n = c .operand-end .ensures _ _ (x .front) in omega arith)
     (λ c. search needs)
     (λ c. let x = double t c (c .before .before .before .before .before .pre .1 .front) in omega arith)
     (λ c. let x = double t c (c .before .before .before .before .before .pre .1 .front) in omega arith)
     (λ c. let x = double t c (c .before .before .before .before .before .pre .1 .front) in omega arith)
-    (λ c κs. let a = c .before .before .before .before .before .before in let x = double t (c .before) (a .pre .1 .front) in let l = tail-length 1 (a .args .s .now) in
+    (λ c κs. let a = c .before .before .before .before .before .before in let x = double t (c .before) (a .pre .1 .front) in
     (omega arith, front-begins (x .front)))
-    (λ c. let x = left t c (c .before .before .before .before .before .before .before .pre .1 .front) in let d = x .node in omega arith)
-    (λ c. let x = left t c (c .before .before .before .before .before .before .before .pre .1 .front) in let d = x .node in omega arith)
-    (λ c. let x = left t c (c .before .before .before .before .before .before .before .pre .1 .front) in let d = x .node in omega arith)
-    (λ c. let x = left t c (c .before .before .before .before .before .before .before .pre .1 .front) in let d = x .node in omega arith)
-    (λ c κs. let a = c .before .before .before .before .before .before .before .before in let x = left t (c .before) (a .pre .1 .front) in let l = tail-length (1 + c .before .operand-end2 .result) (a .args .s .now) in
+    (λ c. let x = left t c (c .before .before .before .before .before .before .before .pre .1 .front) in omega arith)
+    (λ c. let x = left t c (c .before .before .before .before .before .before .before .pre .1 .front) in omega arith)
+    (λ c. let x = left t c (c .before .before .before .before .before .before .before .pre .1 .front) in omega arith)
+    (λ c. let x = left t c (c .before .before .before .before .before .before .before .pre .1 .front) in omega arith)
+    (λ c κs. let a = c .before .before .before .before .before .before .before .before in let x = left t (c .before) (a .pre .1 .front) in
     (omega arith, front-begins (x .front)))
-    (λ c. let x = left t (c .before .before) (c .before .before .before .before .before .before .before .before .before .pre .1 .front) in let d = x .node in let m = c .operand-end3 .ensures _ _ (x .front) in omega arith)
+    (λ c. let x = left t (c .before .before) (c .before .before .before .before .before .before .before .before .before .pre .1 .front) in let m = c .operand-end3 .ensures _ _ (x .front) in omega arith)
     (λ c. search needs)
     (λ c f rest y. zero-size (parts-as _ f rest y (c .before .before .of .ensures) (c .enum-told .given .1)))
     (λ c f rest y. let x = single t (c .before .before) y in let n = c .operand-end .ensures _ _ (x .front) in let z = ap size (x .same) in omega arith)
-    (λ c f rest y. let x = left t (c .before .before) y in let m = c .operand-end3 .ensures _ _ (x .front) in let z = ap size (x .node .same) in omega arith)
+    (λ c f rest y. let k = c .before .before in let x = left t k y in let m = c .operand-end3 .ensures _ _ (x .front) in let z = ap size (double t (k .before .before) y .same) in omega arith)
     (λ c f rest y. absurd (no-code (parts-as _ f rest y (c .before .before .of .ensures) (c .enum-told4 .given .1))))

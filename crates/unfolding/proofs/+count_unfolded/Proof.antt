@@ -8,14 +8,13 @@ use borrow.Author.Needs.{needs}
 use borrow.Fn.Kinds.{In}
 use borrow.Fn.PlainCycle.{Measures}
 use lib.ListN.{length, getD}
-use Rattle.lists.proofs.Parts.{tail-length}
 use Rattle.kinds.specs.declared.Unary.{Unary}
 use Rattle.kinds.specs.declared.Binary.{Binary}
 use Rattle.kinds.specs.declared.Kind.the-variants.{One, Two}
 use Rattle.kinds.specs.Kinds.{kindOf}
-use Rattle.nodes.proofs.Fronts.{Single, Double, parts-as, no-code, begins-some}
-use Rattle.nodes.proofs.Operands.{one-of, two-of}
-use Rattle.unfolding.proofs.Counts.{Small, counted-leaf, small-one, counted-not, counted-next, counted-ever, LeftCounted, left-counted, small-two, counted-joined, counted-until}
+use Rattle.nodes.proofs.Fronts.{Single, Double, parts-as, no-code, begins-some, front-begins}
+use Rattle.nodes.proofs.Operands.{one-of, two-of, LeftRead, left-read}
+use Rattle.unfolding.proofs.Counts.{Small, counted-leaf, small-one, counted-not, counted-next, counted-ever, small-two, counted-joined, counted-until}
 use Rattle.unfolding.proofs.count_unfolded.Reads as count-unfolded
 use Rattle.unfolding.proofs.count_unfolded.Kinds as count-unfolded-kinds
 use Rattle.unfolding.proofs.+count_unfolded.Lts-count_unfolded as lts
@@ -61,15 +60,15 @@ module _ (t : ℕ) where
       → let a = first (c .before .before .before) in Double (a .args .s .now) (a .pre .1 .0 .rest) (a .pre .1 .0 .formula) (c .before .k2 .given .0 .0)
   double c = two-of (first (c .before .before .before) .pre .1 .0 .front) refl (two-told c refl)
 
-  left-done : (c : lts.After-struct-known5 calls here count-unfolded.Post)
-      → let k = c .before .before .before in let a = first (k .before .before .before) in let r = c .before .count-unfolded2 .result in
-      LeftCounted (a .args .s .now) (a .pre .1 .0 .rest) (a .pre .1 .0 .formula) (k .before .k2 .given .0 .0) (r .read) (r .written)
-  left-done c = left-counted (double (c .before .before .before)) (c .before .count-unfolded2 .ensures)
+  left-done : (c : lts.After-struct-known5 calls here count-unfolded.Post) → LeftRead (double (c .before .before .before)) (c .before .count-unfolded2 .result .read)
+  left-done c = let x = double (c .before .before .before) in left-read x (c .before .count-unfolded2 .ensures _ _ (x .front) .0)
 
   two-small : (c : lts.After-struct-known6 calls here count-unfolded.Post)
       → let r = c .before .before .before .before .count-unfolded2 .result in let q = c .before .count-unfolded3 .result in
       Small (first (c .before .before .before .before .before .before .before .before .before) .args .s .now) (1 + r .read + q .read) (r .written + q .written)
-  two-small c = small-two (left-done (c .before .before .before)) (c .before .count-unfolded3 .ensures)
+  two-small c =
+      let d = c .before .before .before in
+      small-two (double (d .before .before .before)) (d .before .count-unfolded2 .ensures) (c .before .count-unfolded3 .ensures)
 
 pub +count-unfolded-spec : {M : Type 1} → statement M
 +count-unfolded-spec = close μ-count-unfolded λ t. lts.spec (calls t) (here t) count-unfolded.Post
@@ -81,8 +80,7 @@ pub +count-unfolded-spec : {M : Type 1} → statement M
     (λ c. let x = single t c in omega arith)
     (λ c. let x = single t c in omega arith)
     (λ c κs. let x = single t (c .before) in let a = first t (c .before .before .before .before) in
-    let l = tail-length 1 (a .args .s .now) in
-    (omega arith, (record { formula = _; rest = _; front = x .front }, omega arith)))
+    (omega arith, (front-begins (x .front), omega arith)))
     (λ c. let x = one-small t c in omega arith)
     (λ c. search needs)
     (λ c. let x = one-small t (c .before .before .before) in omega arith)
@@ -101,15 +99,13 @@ pub +count-unfolded-spec : {M : Type 1} → statement M
     (λ c. let x = double t c in omega arith)
     (λ c. let x = double t c in omega arith)
     (λ c κs. let x = double t (c .before) in let a = first t (c .before .before .before .before) in
-    let l = tail-length 1 (a .args .s .now) in
-    (omega arith, (record { formula = _; rest = _; front = x .front }, omega arith)))
+    (omega arith, (front-begins (x .front), omega arith)))
     (λ c. let x = left-done t c in omega arith)
     (λ c. let x = left-done t c in omega arith)
     (λ c. let x = left-done t c in omega arith)
     (λ c. let x = left-done t c in omega arith)
     (λ c κs. let x = left-done t (c .before) in let a = first t (c .before .before .before .before .before .before .before) in
-    let l = tail-length (1 + c .before .before .count-unfolded2 .result .read) (a .args .s .now) in
-    (omega arith, (record { formula = _; rest = _; front = x .front }, omega arith)))
+    (omega arith, (front-begins (x .front), omega arith)))
     (λ c. let x = two-small t c in omega arith)
     (λ c. let x = two-small t (c .before .before) in omega arith)
     (λ c. search needs)
@@ -130,9 +126,9 @@ pub +count-unfolded-spec : {M : Type 1} → statement M
     (λ c f rest y. let e = c .before .before .before .before .before in
     counted-ever (λ g. omega arith) (one-of y refl (one-told t (e .before .before) (c .before .before .enum-told5 .given .1))) (e .count-unfolded .ensures) (c .capped3 .ensures))
     (λ c f rest y. let e = c .before .before .before .before .before .before in
-    let x = left-counted (two-of y refl (two-told t (e .before .before .before .before .before) (c .before .enum-told6 .given .1))) (e .before .before .before .count-unfolded2 .ensures) in
-    counted-joined x (e .count-unfolded3 .ensures) (c .capped4 .ensures))
+    counted-joined (two-of y refl (two-told t (e .before .before .before .before .before) (c .before .enum-told6 .given .1))) (e .before .before .before .count-unfolded2 .ensures)
+    (e .count-unfolded3 .ensures) (c .capped4 .ensures))
     (λ c f rest y. let e = c .before .before .before .before .before .before in
-    let x = left-counted (two-of y refl (two-told t (e .before .before .before .before .before) (c .before .enum-told7 .given .1))) (e .before .before .before .count-unfolded2 .ensures) in
-    counted-until x (e .count-unfolded3 .ensures) (c .capped5 .ensures))
+    counted-until (two-of y refl (two-told t (e .before .before .before .before .before) (c .before .enum-told7 .given .1))) (e .before .before .before .count-unfolded2 .ensures)
+    (e .count-unfolded3 .ensures) (c .capped5 .ensures))
     (λ c f rest y. absurd (no-code (parts-as _ f rest y (c .before .before .of .ensures) (c .enum-told8 .given .1))))

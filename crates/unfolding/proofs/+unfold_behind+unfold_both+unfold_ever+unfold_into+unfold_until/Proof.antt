@@ -188,9 +188,8 @@ pub +unfold-behind+unfold-both+unfold-ever+unfold-into+unfold-until-spec : {M : 
     (λ c. let x = both (c .before .before .before .pre .1) in omega arith)
     (λ c. let x = both (c .before .before .before .pre .1) in omega arith)
     (λ c. let x = both (c .before .before .before .pre .1) in omega arith)
-    (λ c κs. let a = c .before .before .before .before in let x = both (a .pre .1) in
-    let l = tail-length 1 (a .args .s .now) in
-    (omega arith, room-both (a .pre .1)))
+    (λ c κs. let p = c .before .before .before .before .pre .1 in let x = both p in
+    (omega arith, room-both p))
     (λ c. let x = left-written t c in omega arith)
     (λ c. let x = left-written t c in omega arith)
     (λ c. let x = left-written t c in omega arith)
@@ -211,9 +210,8 @@ pub +unfold-behind+unfold-both+unfold-ever+unfold-into+unfold-until-spec : {M : 
     (λ c. let x = ever (c .before .before .before .pre .1) in omega arith)
     (λ c. let x = ever (c .before .before .before .pre .1) in omega arith)
     (λ c. let x = ever (c .before .before .before .pre .1) in omega arith)
-    (λ c κs. let a = c .before .before .before .before in let x = ever (a .pre .1) in
-    let l = tail-length 1 (a .args .s .now) in
-    (omega arith, room-ever (a .pre .1)))
+    (λ c κs. let p = c .before .before .before .before .pre .1 in let x = ever p in
+    (omega arith, room-ever p))
     (λ c. let x = operand-written t c in omega arith)
     (λ c. let x = operand-written t c in omega arith)
     (λ c. let x = operand-written t c in omega arith)
@@ -235,9 +233,8 @@ pub +unfold-behind+unfold-both+unfold-ever+unfold-into+unfold-until-spec : {M : 
     (λ c. let x = under-not t (c .before) in omega arith)
     (λ c. let x = under-not t (c .before) in omega arith)
     (λ c. let x = under-not t (c .before) in omega arith)
-    (λ c κs. let x = under-not t (c .before .before) in let a = into-start t (c .before .before .before .before .before .before .before) in
-    let l = tail-length 1 (a .args .s .now) in
-    (omega arith, room-not (a .pre .1) x))
+    (λ c κs. let x = under-not t (c .before .before) in
+    (omega arith, room-not (into-start t (c .before .before .before .before .before .before .before) .pre .1) x))
     (λ c. let x = under-not t (c .before .before .before .before .before .before) in
     let y = c .before .before .before .unfold-behind .ensures _ _ (x .front) in omega arith)
     (λ c. search needs)
