@@ -76,6 +76,7 @@ front-tail a s x = record { coded = x .coded; bytes = tail-is a s ∙ x .bytes }
 pub begins-tail : (a : ℕ) (s : List ℕ) {f : Formula} {rest : List ℕ} → Front (drop a s) f rest → Begins (tail a s)
 begins-tail a s x = front-begins (front-tail a s x)
 
+-- what stands behind the first byte is one shorter
 part-length : {b : ℕ} {s : List ℕ} → s ≡ b ∷ drop 1 s → length s ≡ 1 + length (tail 1 s)
 part-length {s = s} e = let k = ap length e in let t = ap length (tail-is 1 s) in omega arith
 
@@ -87,9 +88,10 @@ pub record Single (s rest : List ℕ) (f : Formula) (o : Unary) : Type 0 where
   pub front : Front (tail 1 s) operand rest
   pub long : length s ≡ 1 + size operand + length rest
   pub part : length s ≡ 1 + length (tail 1 s)
+  pub kind : kindOf (getD s 0 0) ≡ One o
 
 pub single : {s rest : List ℕ} {f : Formula} {o : Unary} → Parts s rest f (One o) → Single s rest f o
-single {s = s} {rest = rest} (isOne {f = g} e y) =
+single {s = s} {rest = rest} (isOne {o = o} {f = g} e y) =
     record {
       operand = g;
       same = refl;
@@ -97,6 +99,7 @@ single {s = s} {rest = rest} (isOne {f = g} e y) =
       front = front-tail 1 s y;
       long = let l = front-length (drop 1 s) g rest y in let k = ap length e in omega arith;
       part = part-length e;
+      kind = ap (λ (l : List ℕ). kindOf (getD l 0 0)) e ∙ kind-unary o;
     }
 
 -- ---- a node with two operands
@@ -109,9 +112,10 @@ pub record Double (s rest : List ℕ) (f : Formula) (o : Binary) : Type 0 where
   pub second : Front (tail (1 + size left) s) right rest
   pub long : length s ≡ 1 + size left + size right + length rest
   pub part : length s ≡ 1 + length (tail 1 s)
+  pub kind : kindOf (getD s 0 0) ≡ Two o
 
 pub double : {s rest : List ℕ} {f : Formula} {o : Binary} → Parts s rest f (Two o) → Double s rest f o
-double {s = s} {rest = rest} (isTwo {f = g} {g = h} e y z) =
+double {s = s} {rest = rest} (isTwo {o = o} {f = g} {g = h} e y z) =
     record {
       left = g;
       right = h;
@@ -126,6 +130,7 @@ double {s = s} {rest = rest} (isTwo {f = g} {g = h} e y z) =
           let n = length-encode h in
           omega arith;
       part = part-length e;
+      kind = ap (λ (l : List ℕ). kindOf (getD l 0 0)) e ∙ kind-binary o;
     }
 
 -- ---- a leaf, and no code

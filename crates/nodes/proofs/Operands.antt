@@ -1,7 +1,7 @@
 -- The operands of the formula in front, at a place of the code: `one-of` and `two-of` take the kind that `Kind::of` gave and the
--- variant that it was matched with; `left-read` is what is known of the right operand once the left one was read.
--- Assumes nothing.
-use mathlib.Core.Path.{_≡_, sym, subst}
+-- variant that it was matched with, `single-as` and `double-as` what the operator in that was matched with; `left-read` is what is
+-- known of the right operand once the left one was read. Assumes nothing.
+use mathlib.Core.Path.{_≡_, refl, sym, ap, _∙_, subst}
 use mathlib.Core.List.{List}
 use Prim.Native.Nat.{ℕ, _+_, _<_}
 use native.Mathlib.Omega.{arith}
@@ -22,6 +22,13 @@ one-of {s} {rest} {f} y e h = single (parts-as s f rest y e h)
 
 pub two-of : {s rest : List ℕ} {f : Formula} {k : Kind} {o : Binary} → Front s f rest → k ≡ kindOf (getD s 0 0) → k ≡ Two o → Double s rest f o
 two-of {s} {rest} {f} y e h = double (parts-as s f rest y e h)
+
+-- the same of any formula in front, where the operator was matched in turn
+pub single-as : {s rest r : List ℕ} {f g : Formula} {o o′ : Unary} → Single s rest f o → o ≡ o′ → Front s g r → Single s r g o′
+single-as x e y = one-of y refl (x .kind ∙ ap One e)
+
+pub double-as : {s rest r : List ℕ} {f g : Formula} {o o′ : Binary} → Double s rest f o → o ≡ o′ → Front s g r → Double s r g o′
+double-as x e y = two-of y refl (x .kind ∙ ap Two e)
 
 -- ---- a node with two operands, of which the left one was read: it has n bytes
 pub record LeftRead {s rest : List ℕ} {f : Formula} {o : Binary} (x : Double s rest f o) (n : ℕ) : Type 0 where

@@ -14,7 +14,6 @@ use Rattle.kinds.specs.declared.Unary.{Unary}
 use Rattle.kinds.specs.declared.Unary.the-variants.{Not, Next}
 use Rattle.kinds.specs.declared.Join.{Join}
 use Rattle.kinds.specs.declared.Binary.the-variants.{Joined, Until}
-use Rattle.kinds.specs.declared.Kind.{Kind}
 use Rattle.kinds.specs.declared.Kind.the-variants.{Zero, Two}
 use Rattle.kinds.specs.Kinds.{kindOf, leafCode, joinCode}
 use Rattle.ltl.specs.Formula.{Formula, one, two, join, size, encode}
@@ -148,10 +147,8 @@ module _ {out s : List ℕ} {b : ℕ} (p : Room out s × Ever s b) where
         (unfolded-to f (A ++ (5 ∷ encode f)) (w + (1 + size f)) (omega arith) (omega arith) (omega arith) (e ∙ cc (x .node .same, p .1 .code)) m)
 
 -- ---- and and or
-pub both-of : {s rest : List ℕ} {f : Formula} {k : Kind} {j : Join} → Front s f rest → k ≡ kindOf (getD s 0 0) → k ≡ Two (Joined j) → Both s (getD s 0 0)
-both-of {s} {j = j} y e h =
-    let x = two-of y e h in
-    record { by = j; kind = sym e ∙ h; code = first-byte s (drop 1 s) (joinCode j) (x .first) }
+pub both-of : {s rest : List ℕ} {f : Formula} {j : Join} → Double s rest f (Joined j) → Both s (getD s 0 0)
+both-of {s} {j = j} x = record { by = j; kind = x .kind; code = first-byte s (drop 1 s) (joinCode j) (x .first) }
 
 pub record BothParts (s rest : List ℕ) (f : Formula) (j : Join) : Type 0 where
   pub node : Double s rest f (Joined j)

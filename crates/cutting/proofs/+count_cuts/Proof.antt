@@ -1,9 +1,9 @@
 -- The bytes begin with a formula, and its first byte's kind says which operands stand behind it: so each part lent is there, begins
 -- with an operand, and is shorter. The node on top of its operands is a function of its own. Assumes nothing.
-use mathlib.Core.Path.{_≡_}
+use mathlib.Core.Path.{_≡_, refl}
 use lib.ListN.{length}
 use Rattle.nodes.proofs.Fronts.{Single, Double, parts-as, begins-some, front-begins, no-code, leaf-within}
-use Rattle.nodes.proofs.Operands.{one-of, two-of, LeftRead, left-read}
+use Rattle.nodes.proofs.Operands.{one-of, two-of, single-as, double-as, LeftRead, left-read}
 use Rattle.cutting.proofs.Walks.{walked-leaf, walked-over-one, walked-over-two}
 use native.Mathlib.Omega.{arith}
 use borrow.Author.Needs.{needs}
@@ -85,8 +85,7 @@ pub +count-cuts-spec : {M : Type 1} → statement M
     (λ c. search needs)
     (λ c κs. omega arith)
     (λ c f rest y. walked-leaf (parts-as _ f rest y (c .before .before .before .before .before .of .ensures) (c .before .before .before .k .given .1)) (c .before .owner-of .ensures .0) (c .over-none .ensures))
-    (λ c f rest y. walked-over-one (one-of y (c .before .before .before .before .before .before .of .ensures) (c .before .before .before .before .k2 .given .1)) (c .before .count-cuts .ensures) (c .over-one .ensures))
+    (λ c f rest y. walked-over-one (single-as (single t (c .before .before .before .before)) refl y) (c .before .count-cuts .ensures) (c .over-one .ensures))
     (λ c f rest y. let e = c .before .before .before .before in
-    let x = two-of y (e .before .before .before .before .before .of .ensures) (e .before .before .before .k3 .given .1) in
-    walked-over-two x (e .count-cuts2 .ensures) (c .before .count-cuts3 .ensures) (c .over-two .ensures))
+    walked-over-two (double-as (double t (e .before .before .before)) refl y) (e .count-cuts2 .ensures) (c .before .count-cuts3 .ensures) (c .over-two .ensures))
     (λ c f rest y. absurd (no-code (parts-as _ f rest y (c .before .before .before .of .ensures) (c .before .enum-told .given .1))))

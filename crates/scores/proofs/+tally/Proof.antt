@@ -1,11 +1,11 @@
 -- The bytes begin with a formula, and its first byte's kind says which operands stand behind it: so each part lent is there, begins
 -- with an operand, and is shorter. No sum wraps, since no count is larger than its operand and both operands are in the bytes. Each
 -- return is a law of `Counting`. Assumes nothing.
-use mathlib.Core.Path.{_≡_}
+use mathlib.Core.Path.{_≡_, refl}
 use Prim.Native.Nat.{ℕ, _<_}
 use lib.ListN.{length}
 use Rattle.nodes.proofs.Fronts.{Single, Double, parts-as, no-code, begins-some, front-begins, leaf-within}
-use Rattle.nodes.proofs.Operands.{one-of, two-of, LeftRead, left-read}
+use Rattle.nodes.proofs.Operands.{one-of, two-of, single-as, double-as, LeftRead, left-read}
 use Rattle.scores.proofs.Counting.{counted-leaf, tallied-leaf, tallied-one, tallied-two}
 use native.Mathlib.Omega.{arith}
 use borrow.Author.Needs.{needs}
@@ -84,8 +84,7 @@ pub +tally-spec : {M : Type 1} → statement M
     (λ c. search needs)
     (λ c κs. omega arith)
     (λ c f rest y. tallied-leaf (parts-as _ f rest y (c .before .before .before .before .before .of .ensures) (c .before .before .before .k .given .1)) (counted-leaf (c .before .owner-of .ensures .0) (c .one .ensures)))
-    (λ c f rest y. tallied-one (one-of y (c .before .before .before .before .before .before .of .ensures) (c .before .before .before .before .enum-told .given .1)) (c .before .before .tally .ensures))
+    (λ c f rest y. tallied-one (single-as (single t (c .before .before .before .before)) refl y) (c .before .before .tally .ensures))
     (λ c f rest y. let k = c .before .before .before .before .before .before .before in
-    let x = two-of y (k .before .before .before .before .of .ensures) (k .before .before .enum-told2 .given .1) in
-    rw (c .plus .ensures) (tallied-two x (k .tally2 .ensures) (c .before .before .before .before .tally3 .ensures)))
+    rw (c .plus .ensures) (tallied-two (double-as (double t (k .before .before)) refl y) (k .tally2 .ensures) (c .before .before .before .before .tally3 .ensures)))
     (λ c f rest y. absurd (no-code (parts-as _ f rest y (c .before .before .before .of .ensures) (c .before .enum-told3 .given .1))))
