@@ -17,9 +17,8 @@ use Rattle.kinds.specs.declared.Kind.the-variants.{Zero}
 use Rattle.ltl.specs.Limits.{boardsMost}
 use Rattle.ltl.specs.Formula.{Formula, one, two, join, size}
 use Rattle.ltl.specs.Progression.{unfolded}
-use Rattle.nodes.specs.Begins.{Front}
 use Rattle.nodes.proofs.Fronts.{Parts, isZero, Single, Double}
-use Rattle.nodes.proofs.Operands.{right-at}
+use Rattle.nodes.proofs.Operands.{left-read}
 use Rattle.scores.specs.Scored.{added, countsBelow, Few}
 use Rattle.scores.specs.Owned.{ownerOf}
 use Rattle.scores.specs.Tallies as tallies
@@ -114,17 +113,8 @@ pub walked-over-one : {owner s rest : List ℕ} {f : Formula} {o : Unary} {a : C
     → Walked owner f on r
 walked-over-one x h k = rw (x .same) (k _ _ (h _ _ (x .front)))
 
--- a node with two operands, of which the left one was walked over
-pub record LeftWalked (owner s rest : List ℕ) (f : Formula) (o : Binary) (a : Counted) : Type 0 where
-  pub node : Double s rest f o
-  pub walked : Walked owner (node .left) boardsMost a
-  pub front : Front (tail (1 + a .read) s) (node .right) rest
-
-pub left-walked : {owner s rest : List ℕ} {f : Formula} {o : Binary} {a : Counted} → Double s rest f o → Cutting owner (tail 1 s) boardsMost a → LeftWalked owner s rest f o a
-left-walked {a = a} x u =
-    let w = u _ _ (x .front) in
-    record { node = x; walked = w; front = right-at x (a .read) (w .reads) }
-
-pub walked-over-two : {owner s rest : List ℕ} {f : Formula} {o : Binary} {a c : Counted} {on : ℕ} {r : Counted} → LeftWalked owner s rest f o a
+pub walked-over-two : {owner s rest : List ℕ} {f : Formula} {o : Binary} {a c : Counted} {on : ℕ} {r : Counted} → Double s rest f o → Cutting owner (tail 1 s) boardsMost a
     → Cutting owner (tail (1 + a .read) s) boardsMost c → OverTwo o a c on r → Walked owner f on r
-walked-over-two x h k = rw (x .node .same) (k _ _ _ (x .walked) (h _ _ (x .front)))
+walked-over-two x u h k =
+    let w = u _ _ (x .front) in
+    rw (x .same) (k _ _ _ w (h _ _ (left-read x (w .reads) .front)))

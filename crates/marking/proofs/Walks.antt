@@ -16,10 +16,9 @@ use Rattle.kinds.specs.declared.Binary.the-variants.{Joined, Until}
 use Rattle.kinds.specs.declared.Kind.the-variants.{Zero}
 use Rattle.ltl.specs.Limits.{boardsMost}
 use Rattle.ltl.specs.Formula.{Formula, one, size}
-use Rattle.ltl.proofs.Texts.{size-some}
 use Rattle.nodes.specs.Begins.{Front, Begins}
-use Rattle.nodes.proofs.Fronts.{front-length, begins-some, Parts, isZero, Single, Double}
-use Rattle.nodes.proofs.Operands.{right-at}
+use Rattle.nodes.proofs.Fronts.{front-length, front-begins, begins-some, Parts, isZero, Single, Double}
+use Rattle.nodes.proofs.Operands.{LeftRead, left-read}
 use Rattle.marking.specs.declared.Placed.{Placed}
 use Rattle.scores.specs.Owned.{Table}
 use Rattle.scores.specs.Tallies.{Counted}
@@ -35,44 +34,17 @@ Asks owner u marks = Begins u × Table owner × (length u ≤ length marks) × (
 pub asks-some : {owner u : List ℕ} (marks : List ℕ) → Asks owner u marks → 0 < length marks
 asks-some {u = u} marks p = let s = begins-some u (p .0) in omega arith
 
--- a node with two operands, of which the left one was marked
-pub record LeftMarked (owner u rest : List ℕ) (f : Formula) (o : Binary) (marks : List ℕ) (a : Placed) : Type 0 where
-  pub node : Double u rest f o
-  pub marked : MarkedAs owner (node .left) boardsMost marks a
-  pub front : Front (tail (1 + a .read) u) (node .right) rest
-
-pub left-marked : {owner u rest : List ℕ} {f : Formula} {o : Binary} {marks : List ℕ} {a : Placed} → Double u rest f o → Marking owner (tail 1 u) boardsMost marks a
-    → LeftMarked owner u rest f o marks a
-left-marked {a = a} x h =
-    let w = h _ _ (x .front) in
-    record { node = x; marked = w; front = right-at x (a .read) (w .reads) }
-
--- something stands behind it
-pub left-within : {owner u rest : List ℕ} {f : Formula} {o : Binary} {marks : List ℕ} {a : Placed} → LeftMarked owner u rest f o marks a → 1 + a .read < length u
-left-within x = let d = x .node in let m = x .marked .reads in let z = size-some (d .right) in omega arith
-
 -- ---- it holds of an operand, and of the marks behind the node's own
-module _ {owner u rest : List ℕ} {f : Formula} (marks : List ℕ) (p : Asks owner u marks) where
-  pub asks-one : {o : Unary} → Single u rest f o → Asks owner (tail 1 u) (tail 1 marks)
-  asks-one x =
-      let l = tail-length 1 u in
-      let m = tail-length 1 marks in
-      (record { formula = _; rest = _; front = x .front }, p .1, omega arith, omega arith)
+module _ {owner u : List ℕ} (marks : List ℕ) (p : Asks owner u marks) where
+  asks-part : (k : ℕ) (m : List ℕ) → length m ≡ length marks → {g : Formula} {rest : List ℕ} → Front (tail k u) g rest → length u ≡ k + length (tail k u) → Asks owner (tail k u) (tail k m)
+  asks-part k m e y l = let n = tail-length k m in (front-begins y, p .1, omega arith, omega arith)
 
-  pub asks-left : {o : Binary} → Double u rest f o → Asks owner (tail 1 u) (tail 1 marks)
-  asks-left x =
-      let l = tail-length 1 u in
-      let m = tail-length 1 marks in
-      (record { formula = _; rest = _; front = x .front }, p .1, omega arith, omega arith)
+  pub asks-operand : {g : Formula} {rest : List ℕ} → Front (tail 1 u) g rest → length u ≡ 1 + length (tail 1 u) → Asks owner (tail 1 u) (tail 1 marks)
+  asks-operand = asks-part 1 marks refl
 
-  pub asks-right : {o : Binary} {left : List ℕ} {a : Placed} → length left ≡ length (tail 1 marks) → LeftMarked owner u rest f o left a
-      → Asks owner (tail (1 + a .read) u) (tail (1 + a .read) (tailAs 1 marks left))
-  asks-right {left = left} {a = a} k x =
-      let w = left-within x in
-      let h = handed-length 1 marks left (omega arith) k in
-      let l = tail-length (1 + a .read) u in
-      let m = tail-length (1 + a .read) (tailAs 1 marks left) in
-      (record { formula = _; rest = _; front = x .front }, p .1, omega arith, omega arith)
+  pub asks-right : {rest : List ℕ} {f : Formula} {o : Binary} {x : Double u rest f o} {n : ℕ} (left : List ℕ) → length left ≡ length (tail 1 marks) → LeftRead x n
+      → Asks owner (tail (1 + n) u) (tail (1 + n) (tailAs 1 marks left))
+  asks-right {n = n} left k x = asks-part (1 + n) (tailAs 1 marks left) (handed-length 1 marks left (omega arith) k) (x .front) (x .part)
 
 -- ---- parts that stay whole
 module _ {owner u rest : List ℕ} {f : Formula} {on : ℕ} {marks marks′ : List ℕ} {r : Placed} (p : Asks owner u marks) (y : Front u f rest)
@@ -122,12 +94,13 @@ module _ {owner u rest : List ℕ} {f : Formula} {on : ℕ} (marks : List ℕ) {
       rw (x .same)
       (marked-not (tailAs 1 marks left) (omega arith) (rw back m) v (omega arith))
 
-  pub pair-done : {a c : Placed} {left right : List ℕ} {j : Join} → length left ≡ length (tail 1 marks) → LeftMarked owner u rest f (Joined j) left a
-      → Marking owner (tail (1 + a .read) u) boardsMost right c → length right ≡ length (tail (1 + a .read) (tailAs 1 marks left))
+  pub pair-done : {a c : Placed} {left right : List ℕ} {j : Join} → length left ≡ length (tail 1 marks) → Double u rest f (Joined j)
+      → Marking owner (tail 1 u) boardsMost left a → Marking owner (tail (1 + a .read) u) boardsMost right c → length right ≡ length (tail (1 + a .read) (tailAs 1 marks left))
       → OverPair a c on (tailAs (1 + a .read) (tailAs 1 marks left) right) marks′ r → MarkedAs owner f on marks′ r
-  pair-done {a} {c} {left} {right} {j} k x h n v =
-      let d = x .node in
-      let s = x .marked .reads in
+  pair-done {a} {c} {left} {right} {j} k d w h n v =
+      let y = w _ _ (d .front) in
+      let s = y .reads in
+      let x = left-read d s in
       let whole = tailAs (1 + a .read) (tailAs 1 marks left) right in
       let first = handed-length 1 marks left (omega arith) k in
       let second = handed-length (1 + a .read) (tailAs 1 marks left) right (omega arith) n in
@@ -135,4 +108,4 @@ module _ {owner u rest : List ℕ} {f : Formula} {on : ℕ} (marks : List ℕ) {
       let agree : Agree (size (d .left)) left (drop 1 whole) =
       subst (λ (i : ℕ). Agree (size (d .left)) left (drop 1 (tailAs (1 + i) (tailAs 1 marks left) right))) (sym s) (left-stays (size (d .left)) marks left right (omega arith) k) in
       let behind : drop (1 + size (d .left)) whole ≡ right = ap (λ (i : ℕ). drop (1 + i) whole) (sym s) ∙ handed-back (1 + a .read) (tailAs 1 marks left) right (omega arith) in
-      rw (d .same) (marked-pair whole (omega arith) j (x .marked) m agree behind v (omega arith))
+      rw (d .same) (marked-pair whole (omega arith) j y m agree behind v (omega arith))

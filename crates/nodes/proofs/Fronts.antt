@@ -38,7 +38,7 @@ front-own s f rest x = ap (take (size f)) (x .bytes) ∙ take-at (encode f) rest
 pub front-one-way : (s : List ℕ) (f g : Formula) (k l : List ℕ) → Front s f k → Front s g l → (f ≡ g) × (k ≡ l)
 front-one-way s f g k l x y = one-way f g k l (x .coded) (y .coded) (sym (x .bytes) ∙ y .bytes)
 
-pub front-begins : {s : List ℕ} {f : Formula} {rest : List ℕ} → Front s f rest → Begins s
+abbrev pub front-begins : {s : List ℕ} {f : Formula} {rest : List ℕ} → Front s f rest → Begins s
 front-begins {f = f} {rest = rest} x = record { formula = f; rest = rest; front = x }
 
 -- ---- a formula in front, by the kind of its first byte
@@ -76,6 +76,10 @@ front-tail a s x = record { coded = x .coded; bytes = tail-is a s ∙ x .bytes }
 pub begins-tail : (a : ℕ) (s : List ℕ) {f : Formula} {rest : List ℕ} → Front (drop a s) f rest → Begins (tail a s)
 begins-tail a s x = front-begins (front-tail a s x)
 
+-- what stands behind the first byte is one shorter
+part-length : {b : ℕ} {s : List ℕ} → s ≡ b ∷ drop 1 s → length s ≡ 1 + length (tail 1 s)
+part-length {s = s} e = let k = ap length e in let t = ap length (tail-is 1 s) in omega arith
+
 -- ---- a node with one operand
 pub record Single (s rest : List ℕ) (f : Formula) (o : Unary) : Type 0 where
   pub operand : Formula
@@ -83,15 +87,19 @@ pub record Single (s rest : List ℕ) (f : Formula) (o : Unary) : Type 0 where
   pub first : s ≡ unaryCode o ∷ drop 1 s
   pub front : Front (tail 1 s) operand rest
   pub long : length s ≡ 1 + size operand + length rest
+  pub part : length s ≡ 1 + length (tail 1 s)
+  pub kind : kindOf (getD s 0 0) ≡ One o
 
 pub single : {s rest : List ℕ} {f : Formula} {o : Unary} → Parts s rest f (One o) → Single s rest f o
-single {s = s} {rest = rest} (isOne {f = g} e y) =
+single {s = s} {rest = rest} (isOne {o = o} {f = g} e y) =
     record {
       operand = g;
       same = refl;
       first = e;
       front = front-tail 1 s y;
       long = let l = front-length (drop 1 s) g rest y in let k = ap length e in omega arith;
+      part = part-length e;
+      kind = ap (λ (l : List ℕ). kindOf (getD l 0 0)) e ∙ kind-unary o;
     }
 
 -- ---- a node with two operands
@@ -103,9 +111,11 @@ pub record Double (s rest : List ℕ) (f : Formula) (o : Binary) : Type 0 where
   pub front : Front (tail 1 s) left (encode right ++ rest)
   pub second : Front (tail (1 + size left) s) right rest
   pub long : length s ≡ 1 + size left + size right + length rest
+  pub part : length s ≡ 1 + length (tail 1 s)
+  pub kind : kindOf (getD s 0 0) ≡ Two o
 
 pub double : {s rest : List ℕ} {f : Formula} {o : Binary} → Parts s rest f (Two o) → Double s rest f o
-double {s = s} {rest = rest} (isTwo {f = g} {g = h} e y z) =
+double {s = s} {rest = rest} (isTwo {o = o} {f = g} {g = h} e y z) =
     record {
       left = g;
       right = h;
@@ -119,6 +129,8 @@ double {s = s} {rest = rest} (isTwo {f = g} {g = h} e y z) =
           let m = length-append (encode h) rest in
           let n = length-encode h in
           omega arith;
+      part = part-length e;
+      kind = ap (λ (l : List ℕ). kindOf (getD l 0 0)) e ∙ kind-binary o;
     }
 
 -- ---- a leaf, and no code

@@ -1,6 +1,5 @@
 -- A formula's scores by its top node (`counted-..`), and one law for each way in which the walk that takes them returns
--- (`tallied-..`); `left-tallied` says what is known once the left one of two operands was scored. `counted-chosen`: the highest of
--- the counts is the formula's choice. Assumes nothing.
+-- (`tallied-..`). `counted-chosen`: the highest of the counts is the formula's choice. Assumes nothing.
 use mathlib.Core.Path.{_≡_, refl, ap, ap₂, _∙_}
 use mathlib.Core.Bool.{Bool}
 use mathlib.Core.Option.{none}
@@ -19,9 +18,8 @@ use Rattle.ltl.specs.Limits.{boardsMost}
 use Rattle.ltl.specs.Formula.{Formula, leaf, one, two, size, Within}
 use Rattle.ltl.proofs.Texts.{size-some}
 use Rattle.network.specs.Scores.{occurrences, highest, chosen}
-use Rattle.nodes.specs.Begins.{Front}
 use Rattle.nodes.proofs.Fronts.{Parts, isZero, Single, Double}
-use Rattle.nodes.proofs.Operands.{right-at}
+use Rattle.nodes.proofs.Operands.{left-read}
 use Rattle.scores.specs.Scored.{noneScored, oneScored, added}
 use Rattle.scores.specs.Owned.{Owned, ownerOf}
 use Rattle.scores.specs.Tallies.{Counted, Tallies}
@@ -74,26 +72,14 @@ pub tallied-leaf : {s rest : List ℕ} {f : Formula} {a : Leaf} {owner counts : 
     → (1 ≡ size f) × Counted owner f counts
 tallied-leaf (isZero w e) c = (refl, c)
 
--- a node with one operand
 pub tallied-one : {s rest : List ℕ} {f : Formula} {o : Unary} {r : ℕ} {owner counts : List ℕ} → Single s rest f o → Tallies owner (tail 1 s) r counts
     → (1 + r ≡ size f) × Counted owner f counts
 tallied-one {o = o} x h = let a = h _ _ (x .front) in rw (x .same) (let e = a .0 in omega arith, counted-one o (a .1))
 
--- a node with two operands, of which the left one was scored
-pub record LeftTallied (owner s rest : List ℕ) (f : Formula) (o : Binary) (r : ℕ) (counts : List ℕ) : Type 0 where
-  pub node : Double s rest f o
-  pub reads : r ≡ size (node .left)
-  pub counted : Counted owner (node .left) counts
-  pub front : Front (tail (1 + r) s) (node .right) rest
-
-pub left-tallied : {owner s rest : List ℕ} {f : Formula} {o : Binary} {r : ℕ} {counts : List ℕ} → Double s rest f o → Tallies owner (tail 1 s) r counts
-    → LeftTallied owner s rest f o r counts
-left-tallied {r = r} x u =
-    let a = u _ _ (x .front) in
-    record { node = x; reads = a .0; counted = a .1; front = right-at x r (a .0) }
-
-pub tallied-two : {owner s rest : List ℕ} {f : Formula} {o : Binary} {r q : ℕ} {xs ys : List ℕ} → LeftTallied owner s rest f o r xs → Tallies owner (tail (1 + r) s) q ys
+pub tallied-two : {owner s rest : List ℕ} {f : Formula} {o : Binary} {r q : ℕ} {xs ys : List ℕ} → Double s rest f o → Tallies owner (tail 1 s) r xs → Tallies owner (tail (1 + r) s) q ys
     → (1 + r + q ≡ size f) × Counted owner f (added xs ys)
-tallied-two {o = o} x h =
-    let a = h _ _ (x .front) in
-    rw (x .node .same) (let e = a .0 in let d = x .reads in omega arith, counted-two o (x .counted) (a .1))
+tallied-two {o = o} x u h =
+    let a = u _ _ (x .front) in
+    let l = left-read x (a .0) in
+    let b = h _ _ (l .front) in
+    rw (x .same) (let e = b .0 in omega arith, counted-two o (a .1) (b .1))

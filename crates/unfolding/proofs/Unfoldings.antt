@@ -14,16 +14,15 @@ use Rattle.kinds.specs.declared.Unary.{Unary}
 use Rattle.kinds.specs.declared.Unary.the-variants.{Not, Next}
 use Rattle.kinds.specs.declared.Join.{Join}
 use Rattle.kinds.specs.declared.Binary.the-variants.{Joined, Until}
-use Rattle.kinds.specs.declared.Kind.{Kind}
 use Rattle.kinds.specs.declared.Kind.the-variants.{Zero, Two}
 use Rattle.kinds.specs.Kinds.{kindOf, leafCode, joinCode}
 use Rattle.ltl.specs.Formula.{Formula, one, two, join, size, encode}
 use Rattle.ltl.specs.Progression.{unfolded}
 use Rattle.ltl.proofs.Texts.{size-some, length-encode}
 use Rattle.nodes.specs.Begins.{Front, Begins, Ends}
-use Rattle.nodes.proofs.Fronts.{front-length, front-own, front-one-way, Parts, isZero, Single, Double}
+use Rattle.nodes.proofs.Fronts.{front-length, front-own, front-one-way, front-begins, Parts, isZero, Single, Double}
 use Rattle.unfolding.specs.Unfolds.{Room, UnfoldedTo, Unfolds, RoomBehind, UnfoldedBehind, UnfoldsBehind, Ever, Both}
-use Rattle.nodes.proofs.Operands.{one-of, two-of, right-at}
+use Rattle.nodes.proofs.Operands.{one-of, two-of, LeftRead, left-read}
 use Rattle.lists.proofs.Stretches.{set-first, put-first, put-more}
 
 -- not more is read than there is, nor written than there is room for
@@ -64,7 +63,7 @@ leaf-done {s} {rest} (isZero {a = a} w e) {out} h =
 pub room-not : {out s : List ℕ} (p : Room out s) → Single s (p .begins .rest) (p .begins .formula) Not → RoomBehind out (tail 1 s)
 room-not {out} p x =
     let r = subst (λ (f : Formula). size (unfolded f) ≤ length out) (x .same) (p .room) in
-    record { begins = record { formula = _; rest = _; front = x .front }; room = r }
+    record { begins = front-begins (x .front); room = r }
 
 pub not-done : {s rest : List ℕ} {f : Formula} → Single s rest f Not → {out last : List ℕ} {r w : ℕ} → UnfoldsBehind (getD s 0 0) out (tail 1 s) last r w
     → UnfoldedTo f out last (1 + r) w
@@ -121,7 +120,7 @@ module _ {out s : List ℕ} {b : ℕ} (p : Room out s × Ever s b) where
   pub room-ever : RoomBehind out (tail 1 s)
   room-ever =
       let x = ever in
-      record { begins = record { formula = _; rest = _; front = x .node .front }; room = omega arith }
+      record { begins = front-begins (x .node .front); room = omega arith }
 
   module _ {out₁ : List ℕ} {r w : ℕ} (u : UnfoldsBehind b out (tail 1 s) out₁ r w) where
     operand-done : UnfoldedBehind b (ever .node .operand) out out₁ r w
@@ -148,10 +147,8 @@ module _ {out s : List ℕ} {b : ℕ} (p : Room out s × Ever s b) where
         (unfolded-to f (A ++ (5 ∷ encode f)) (w + (1 + size f)) (omega arith) (omega arith) (omega arith) (e ∙ cc (x .node .same, p .1 .code)) m)
 
 -- ---- and and or
-pub both-of : {s rest : List ℕ} {f : Formula} {k : Kind} {j : Join} → Front s f rest → k ≡ kindOf (getD s 0 0) → k ≡ Two (Joined j) → Both s (getD s 0 0)
-both-of {s} {j = j} y e h =
-    let x = two-of y e h in
-    record { by = j; kind = sym e ∙ h; code = first-byte s (drop 1 s) (joinCode j) (x .first) }
+pub both-of : {s rest : List ℕ} {f : Formula} {j : Join} → Double s rest f (Joined j) → Both s (getD s 0 0)
+both-of {s} {j = j} x = record { by = j; kind = x .kind; code = first-byte s (drop 1 s) (joinCode j) (x .first) }
 
 pub record BothParts (s rest : List ℕ) (f : Formula) (j : Join) : Type 0 where
   pub node : Double s rest f (Joined j)
@@ -166,14 +163,14 @@ module _ {out s : List ℕ} {b : ℕ} (p : Room out s × Both s b) where
   pub room-both : RoomBehind out (tail 1 s)
   room-both =
       let x = both in
-      record { begins = record { formula = _; rest = _; front = x .node .front }; room = omega arith }
+      record { begins = front-begins (x .node .front); room = omega arith }
 
   module _ {out₁ : List ℕ} {r w : ℕ} (u : UnfoldsBehind b out (tail 1 s) out₁ r w) where
     first-done : UnfoldedBehind b (both .node .left) out out₁ r w
     first-done = u _ _ (both .node .front)
 
-    second : Front (tail (1 + r) s) (both .node .right) (p .0 .begins .rest)
-    second = right-at (both .node) r (first-done .reads)
+    second : LeftRead (both .node) r
+    second = left-read (both .node) (first-done .reads)
 
     pub first-made : Bounded out s (1 + r) w
     first-made = let x = both in let y = first-done in record { reads = omega arith; writes = omega arith }
@@ -183,12 +180,12 @@ module _ {out s : List ℕ} {b : ℕ} (p : Room out s × Both s b) where
         let x = both in
         let y = first-done in
         let l = tail-length w out₁ in
-        record { begins = record { formula = _; rest = _; front = second }; room = omega arith }
+        record { begins = front-begins (second .front); room = omega arith }
 
     -- and the right one behind it
     module _ {last : List ℕ} {q v : ℕ} (h : Unfolds (tail w out₁) (tail (1 + r) s) last q v) where
       second-done : UnfoldedTo (both .node .right) (tail w out₁) last q v
-      second-done = h _ _ second
+      second-done = h _ _ (second .front)
 
       pub both-made : Bounded out s (1 + r + q) (w + v)
       both-made = let x = both in let y = first-done in let z = second-done in record { reads = omega arith; writes = omega arith }
@@ -220,25 +217,25 @@ module _ {out s : List ℕ} (p : Room out s × (kindOf (getD s 0 0) ≡ Two Unti
       record { node = x; grown = omega arith }
 
   pub left-begins : Begins (tail 1 s)
-  left-begins = let x = until in record { formula = _; rest = _; front = x .node .front }
+  left-begins = let x = until in front-begins (x .node .front)
 
   -- the left operand's end was found
   module _ {i : ℕ} (n : Ends (tail 1 s) i) where
-    left-end : i ≡ size (until .node .left)
-    left-end = n _ _ (until .node .front)
+    left-end : LeftRead (until .node) i
+    left-end = left-read (until .node) (n _ _ (until .node .front))
 
     pub until-end : 1 + i < length s
-    until-end = let x = until in let e = left-end in let z = size-some (x .node .right) in omega arith
+    until-end = left-end .within
 
     pub room-right : RoomBehind out (tail (1 + i) s)
     room-right =
         let x = until in
-        record { begins = record { formula = _; rest = _; front = right-at (x .node) i left-end }; room = omega arith }
+        record { begins = front-begins (left-end .front); room = omega arith }
 
     -- the right operand was unfolded
     module _ {out₁ : List ℕ} {r w : ℕ} (u : UnfoldsBehind 4 out (tail (1 + i) s) out₁ r w) where
       right-done : UnfoldedBehind 4 (until .node .right) out out₁ r w
-      right-done = u _ _ (right-at (until .node) i left-end)
+      right-done = u _ _ (left-end .front)
 
       pub right-made : Bounded out s (1 + i + r) w
       right-made = let x = until in let e = left-end in let y = right-done in record { reads = omega arith; writes = omega arith }
@@ -249,7 +246,7 @@ module _ {out s : List ℕ} (p : Room out s × (kindOf (getD s 0 0) ≡ Two Unti
           let e = left-end in
           let y = right-done in
           let l = tail-length w out₁ in
-          record { begins = record { formula = _; rest = _; front = x .node .front }; room = omega arith }
+          record { begins = front-begins (x .node .front); room = omega arith }
 
       -- and the left one behind it
       module _ {last₁ : List ℕ} {q v : ℕ} (h : UnfoldsBehind 3 (tail w out₁) (tail 1 s) last₁ q v) where

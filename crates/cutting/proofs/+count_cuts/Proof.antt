@@ -1,14 +1,13 @@
 -- The bytes begin with a formula, and its first byte's kind says which operands stand behind it: so each part lent is there, begins
 -- with an operand, and is shorter. The node on top of its operands is a function of its own. Assumes nothing.
-use mathlib.Core.Path.{_≡_}
+use mathlib.Core.Path.{_≡_, refl}
 use lib.ListN.{length}
-use Rattle.lists.proofs.Parts.{tail-length}
-use Rattle.nodes.proofs.Fronts.{Single, Double, parts-as, begins-some, no-code, leaf-within}
-use Rattle.nodes.proofs.Operands.{one-of, two-of}
-use Rattle.cutting.proofs.Walks.{LeftWalked, left-walked, walked-leaf, walked-over-one, walked-over-two}
+use Rattle.nodes.proofs.Fronts.{Single, Double, parts-as, begins-some, front-begins, no-code, leaf-within}
+use Rattle.nodes.proofs.Operands.{one-of, two-of, single-as, double-as, LeftRead, left-read}
+use Rattle.cutting.proofs.Walks.{walked-leaf, walked-over-one, walked-over-two}
 use native.Mathlib.Omega.{arith}
 use borrow.Author.Needs.{needs}
-use Prim.Native.Nat.{ℕ, _+_, _<_}
+use Prim.Native.Nat.{ℕ, _<_}
 use borrow.Fn.Kinds.{In}
 use borrow.Fn.PlainCycle.{Measures}
 use Rattle.cutting.proofs.count_cuts.Reads as count-cuts
@@ -49,9 +48,8 @@ module _ (t : ℕ) where
   double : (c : lts.After-k3 calls here count-cuts.Post) → let a = first (c .before .before) in Double (a .args .s .now) (a .pre .1 .0 .rest) (a .pre .1 .0 .formula) (c .k3 .given .0 .0)
   double c = two-of (first (c .before .before) .pre .1 .0 .front) (c .before .before .of .ensures) (c .k3 .given .1)
 
-  left-done : (c : lts.After-count-cuts2 calls here count-cuts.Post)
-      → let k = c .before .before .before in let a = first (k .before .before) in LeftWalked (a .args .owner .now) (a .args .s .now) (a .pre .1 .0 .rest) (a .pre .1 .0 .formula) (k .k3 .given .0 .0) (c .count-cuts2 .result)
-  left-done c = left-walked (double (c .before .before .before)) (c .count-cuts2 .ensures)
+  left-done : (c : lts.After-count-cuts2 calls here count-cuts.Post) → LeftRead (double (c .before .before .before)) (c .count-cuts2 .result .read)
+  left-done c = let x = double (c .before .before .before) in left-read x (c .count-cuts2 .ensures _ _ (x .front) .reads)
 
 pub +count-cuts-spec : {M : Type 1} → statement M
 +count-cuts-spec = close μ-count-cuts λ t. lts.spec (calls t) (here t) count-cuts.Post
@@ -66,9 +64,7 @@ pub +count-cuts-spec : {M : Type 1} → statement M
     (λ c. let x = single t (c .before) in omega arith)
     (λ c. let x = single t (c .before) in omega arith)
     (λ c κs. let x = single t (c .before .before) in
-    let a = first t (c .before .before .before .before) .pre in
-    let l = tail-length 1 (first t (c .before .before .before .before) .args .s .now) in
-    (omega arith, (record { formula = _; rest = _; front = x .front }, a .1 .1, omega arith)))
+    (omega arith, (front-begins (x .front), first t (c .before .before .before .before) .pre .1 .1, omega arith)))
     (λ c κs. let x = single t (c .before .before .before) in
     record { owner = _; formula = _; walked = c .count-cuts .ensures _ _ (x .front); small = omega arith })
     (λ c. search needs)
@@ -76,25 +72,20 @@ pub +count-cuts-spec : {M : Type 1} → statement M
     (λ c. let x = double t (c .before) in omega arith)
     (λ c. let x = double t (c .before) in omega arith)
     (λ c κs. let x = double t (c .before .before) in
-    let a = first t (c .before .before .before .before) .pre in
-    let l = tail-length 1 (first t (c .before .before .before .before) .args .s .now) in
-    (omega arith, (record { formula = _; rest = _; front = x .front }, a .1 .1, omega arith)))
-    (λ c. let x = left-done t (c .before) in let d = x .node in omega arith)
-    (λ c. let x = left-done t (c .before) in let d = x .node in omega arith)
-    (λ c. let x = left-done t (c .before) in let d = x .node in omega arith)
-    (λ c. let x = left-done t (c .before) in let d = x .node in omega arith)
-    (λ c κs. let x = left-done t (c .before .before) in let d = x .node in
-    let a = first t (c .before .before .before .before .before .before .before) in
-    let l = tail-length (1 + c .before .before .count-cuts2 .result .read) (a .args .s .now) in
-    (omega arith, (record { formula = _; rest = _; front = x .front }, a .pre .1 .1, omega arith)))
-    (λ c κs. let x = left-done t (c .before .before .before) in let d = x .node in
-    let p = first t (c .before .before .before .before .before .before .before .before) .pre in
-    record { owner = _; left = _; right = _; walked-left = x .walked; walked-right = c .count-cuts3 .ensures _ _ (x .front); small = omega arith })
+    (omega arith, (front-begins (x .front), first t (c .before .before .before .before) .pre .1 .1, omega arith)))
+    (λ c. let x = left-done t (c .before) in omega arith)
+    (λ c. let x = left-done t (c .before) in omega arith)
+    (λ c. let x = left-done t (c .before) in omega arith)
+    (λ c. let x = left-done t (c .before) in omega arith)
+    (λ c κs. let x = left-done t (c .before .before) in
+    (omega arith, (front-begins (x .front), first t (c .before .before .before .before .before .before .before) .pre .1 .1, omega arith)))
+    (λ c κs. let k = c .before .before .before in let d = double t (k .before .before .before) in let x = left-done t k in
+    let p = first t (k .before .before .before .before .before) .pre in
+    record { owner = _; left = _; right = _; walked-left = k .count-cuts2 .ensures _ _ (d .front); walked-right = c .count-cuts3 .ensures _ _ (x .front); small = omega arith })
     (λ c. search needs)
     (λ c κs. omega arith)
     (λ c f rest y. walked-leaf (parts-as _ f rest y (c .before .before .before .before .before .of .ensures) (c .before .before .before .k .given .1)) (c .before .owner-of .ensures .0) (c .over-none .ensures))
-    (λ c f rest y. walked-over-one (one-of y (c .before .before .before .before .before .before .of .ensures) (c .before .before .before .before .k2 .given .1)) (c .before .count-cuts .ensures) (c .over-one .ensures))
+    (λ c f rest y. walked-over-one (single-as (single t (c .before .before .before .before)) refl y) (c .before .count-cuts .ensures) (c .over-one .ensures))
     (λ c f rest y. let e = c .before .before .before .before in
-    let x = left-walked (two-of y (e .before .before .before .before .before .of .ensures) (e .before .before .before .k3 .given .1)) (e .count-cuts2 .ensures) in
-    walked-over-two x (c .before .count-cuts3 .ensures) (c .over-two .ensures))
+    walked-over-two (double-as (double t (e .before .before .before)) refl y) (e .count-cuts2 .ensures) (c .before .count-cuts3 .ensures) (c .over-two .ensures))
     (λ c f rest y. absurd (no-code (parts-as _ f rest y (c .before .before .before .of .ensures) (c .before .enum-told .given .1))))

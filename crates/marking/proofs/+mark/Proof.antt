@@ -1,21 +1,16 @@
 -- The bytes begin with a formula, and its first byte's kind says which operands stand behind it; each part lent is there, begins
 -- with an operand, and is shorter. The mark on top of the operands' is a function of its own. Assumes nothing.
-use mathlib.Core.Path.{_≡_, refl, sym, ap, _∙_}
-use Prim.Native.Nat.{ℕ, _+_, _<_}
+use mathlib.Core.Path.{_≡_, _∙_}
+use Prim.Native.Nat.{ℕ, _<_}
 use native.Mathlib.Omega.{arith}
 use borrow.Author.Needs.{needs}
 use borrow.Fn.Kinds.{In}
 use borrow.Fn.PlainCycle.{Measures}
-use lib.ListN.{length, getD}
-use Rattle.lists.proofs.Parts.{tail-length}
-use Rattle.kinds.specs.declared.Unary.{Unary}
-use Rattle.kinds.specs.declared.Binary.{Binary}
-use Rattle.kinds.specs.declared.Kind.the-variants.{One, Two}
-use Rattle.kinds.specs.Kinds.{kindOf}
+use lib.ListN.{length}
 use Rattle.nodes.proofs.Fronts.{Single, Double, parts-as, begins-some, no-code, leaf-within}
-use Rattle.nodes.proofs.Operands.{one-of, two-of}
+use Rattle.nodes.proofs.Operands.{one-of, two-of, single-as, double-as, LeftRead, left-read}
 use Rattle.marking.proofs.Tops.{leaf-over, not-small, pair-small}
-use Rattle.marking.proofs.Walks.{asks-some, asks-one, asks-left, LeftMarked, left-marked, left-within, asks-right, leaf-done, next-done, eventually-done, always-done, until-done, not-done, pair-done}
+use Rattle.marking.proofs.Walks.{asks-some, asks-operand, asks-right, leaf-done, next-done, eventually-done, always-done, until-done, not-done, pair-done}
 use Rattle.marking.proofs.mark.Reads as mark
 use Rattle.marking.proofs.mark.Kinds as mark-kinds
 use Rattle.marking.proofs.+mark.Lts-mark as lts
@@ -49,30 +44,17 @@ module _ (t : ℕ) where
   some : (a : lts.Start calls here mark.Post) → 0 < length (a .args .marks .now)
   some a = asks-some (a .args .marks .now) (a .pre .1)
 
-  -- ---- one operand: its operator, and what stands behind that
-  one-told : (c : lts.After-known-told2 calls here mark.Post) {o : Unary} → c .before .k2 .given .0 .0 ≡ o → kindOf (getD (first (c .before .before .before) .args .u .now) 0 0) ≡ One o
-  one-told c e = sym (c .before .before .before .of .ensures) ∙ c .before .k2 .given .1 ∙ ap One e
-
+  -- behind a node with one operand, behind one with two, and where the left of two was marked
   single : (c : lts.After-known-told2 calls here mark.Post)
       → let a = first (c .before .before .before) in Single (a .args .u .now) (a .pre .1 .0 .rest) (a .pre .1 .0 .formula) (c .before .k2 .given .0 .0)
-  single c = one-of (first (c .before .before .before) .pre .1 .0 .front) refl (one-told c refl)
-
-  -- ---- two operands: the same
-  two-told : (c : lts.After-known-told3 calls here mark.Post) {o : Binary} → c .before .k3 .given .0 .0 ≡ o → kindOf (getD (first (c .before .before .before) .args .u .now) 0 0) ≡ Two o
-  two-told c e = sym (c .before .before .before .of .ensures) ∙ c .before .k3 .given .1 ∙ ap Two e
+  single c = one-of (first (c .before .before .before) .pre .1 .0 .front) (c .before .before .before .of .ensures) (c .before .k2 .given .1)
 
   double : (c : lts.After-known-told3 calls here mark.Post)
       → let a = first (c .before .before .before) in Double (a .args .u .now) (a .pre .1 .0 .rest) (a .pre .1 .0 .formula) (c .before .k3 .given .0 .0)
-  double c = two-of (first (c .before .before .before) .pre .1 .0 .front) refl (two-told c refl)
+  double c = two-of (first (c .before .before .before) .pre .1 .0 .front) (c .before .before .before .of .ensures) (c .before .k3 .given .1)
 
-  -- where the left one was marked
-  left-done : (c : lts.After-mark2 calls here mark.Post)
-      → let k = c .before .before .before .before .before in let a = first (k .before .before .before) in
-      LeftMarked (a .args .owner .now) (a .args .u .now) (a .pre .1 .0 .rest) (a .pre .1 .0 .formula) (k .before .k3 .given .0 .0) (c .mark2 .last .1 .0) (c .mark2 .result)
-  left-done c = left-marked (double (c .before .before .before .before .before)) (c .mark2 .ensures)
-
-  left-read : (c : lts.After-mark2 calls here mark.Post) → 1 + c .mark2 .result .read < length (first (c .before .before .before .before .before .before .before .before) .args .u .now)
-  left-read c = left-within (left-done c)
+  left-done : (c : lts.After-mark2 calls here mark.Post) → LeftRead (double (c .before .before .before .before .before)) (c .mark2 .result .read)
+  left-done c = let x = double (c .before .before .before .before .before) in left-read x (c .mark2 .ensures _ _ (x .front) .reads)
 
 pub +mark-spec : {M : Type 1} → statement M
 +mark-spec = close μ-mark λ t. lts.spec (calls t) (here t) mark.Post
@@ -91,8 +73,7 @@ pub +mark-spec : {M : Type 1} → statement M
     (λ c. let x = single t (c .before .before .before) in omega arith)
     (λ c. let x = single t (c .before .before .before) in omega arith)
     (λ c κs. let k = c .before .before .before .before in let x = single t k in let a = first t (k .before .before .before) in
-    let l = tail-length 1 (a .args .u .now) in
-    (omega arith, asks-one (a .args .marks .now) (a .pre .1) x))
+    (omega arith, asks-operand (a .args .marks .now) (a .pre .1) (x .front) (x .part)))
     (λ c κs. let k = c .before .before .before .before .before .before .before .before in let x = single t k in let a = first t (k .before .before .before) in
     let s = some t a in
     (omega arith, not-small (c .before .before .before .mark .ensures _ _ (x .front)) (omega arith)))
@@ -111,26 +92,24 @@ pub +mark-spec : {M : Type 1} → statement M
     (λ c. let x = double t (c .before .before .before) in omega arith)
     (λ c. let x = double t (c .before .before .before) in omega arith)
     (λ c κs. let k = c .before .before .before .before in let x = double t k in let a = first t (k .before .before .before) in
-    let l = tail-length 1 (a .args .u .now) in
-    (omega arith, asks-left (a .args .marks .now) (a .pre .1) x))
-    (λ c. let x = left-read t (c .before .before .before) in omega arith)
-    (λ c. let x = left-read t (c .before .before .before) in omega arith)
-    (λ c. let x = left-read t (c .before .before .before) in omega arith)
-    (λ c. let x = left-read t (c .before .before .before) in omega arith)
-    (λ c. let x = left-read t (c .before .before .before .before) in omega arith)
-    (λ c. let x = left-read t (c .before .before .before .before) in omega arith)
-    (λ c. let x = left-read t (c .before .before .before .before) in omega arith)
-    (λ c. let x = left-read t (c .before .before .before .before) in omega arith)
+    (omega arith, asks-operand (a .args .marks .now) (a .pre .1) (x .front) (x .part)))
+    (λ c. let x = left-done t (c .before .before .before) in omega arith)
+    (λ c. let x = left-done t (c .before .before .before) in omega arith)
+    (λ c. let x = left-done t (c .before .before .before) in omega arith)
+    (λ c. let x = left-done t (c .before .before .before) in omega arith)
+    (λ c. let x = left-done t (c .before .before .before .before) in omega arith)
+    (λ c. let x = left-done t (c .before .before .before .before) in omega arith)
+    (λ c. let x = left-done t (c .before .before .before .before) in omega arith)
+    (λ c. let x = left-done t (c .before .before .before .before) in omega arith)
     (λ c κs. let d = c .before .before .before .before .before in let a = first t (d .before .before .before .before .before .before .before .before) in
-    let x = left-read t d in
-    let l = tail-length (1 + d .mark2 .result .read) (a .args .u .now) in
-    (omega arith, asks-right (a .args .marks .now) (a .pre .1) (d .mark2 .kept .1 .0) (left-done t d)))
-    (λ c κs. let d = c .before .before .before .before .before .before .before .before .before in let a = first t (d .before .before .before .before .before .before .before .before) in
     let x = left-done t d in
-    let n = x .node in
+    (omega arith, asks-right (a .args .marks .now) (a .pre .1) (d .mark2 .last .1 .0) (d .mark2 .kept .1 .0) x))
+    (λ c κs. let d = c .before .before .before .before .before .before .before .before .before in let a = first t (d .before .before .before .before .before .before .before .before) in
+    let n = double t (d .before .before .before .before .before) in
+    let x = left-done t d in
     let s = some t a in
     let k = c .before .before .marks8 .given .1 ∙ c .before .before .before .before .before .before .before .before .marks7 .given .1 in
-    (omega arith, pair-small (x .marked) (c .before .before .before .mark3 .ensures _ _ (x .front)) (omega arith)))
+    (omega arith, pair-small (d .mark2 .ensures _ _ (n .front)) (c .before .before .before .mark3 .ensures _ _ (x .front)) (omega arith)))
     (λ c. search needs)
     (λ c κs. first t (c .before .before .before .before .before .before) .pre .1)
     (λ c. search needs)
@@ -141,23 +120,23 @@ pub +mark-spec : {M : Type 1} → statement M
     leaf-done (first t (k .before .before) .pre .1) y (leaf-over x (c .before .before .before .owner-of .ensures .0) (c .before .before .mark-leaf .ensures)) x)
     (λ c. search needs)
     (λ c f rest y. let e = c .before .before .before .before .before .before in let a = first t (e .before .before .before .before .before .before .before .before) in
-    let x = one-of y refl (one-told t (e .before .before .before .before .before) (e .before .before .before .enum-told .given .1)) in
+    let x = single-as (single t (e .before .before .before .before .before)) (e .before .before .before .enum-told .given .1) y in
     not-done (a .args .marks .now) (a .pre .1) (e .mark .kept .1 .0) x (e .mark .ensures) (c .before .before .over-not .ensures))
     (λ c. search needs)
     (λ c f rest y. let k = c .before .before .before .before in
-    next-done (first t (k .before .before .before .before .before) .pre .1) y (c .before .before .mark-whole .ensures f rest y) (one-of y refl (one-told t (k .before .before) (k .enum-told2 .given .1))))
+    next-done (first t (k .before .before .before .before .before) .pre .1) y (c .before .before .mark-whole .ensures f rest y) (single-as (single t (k .before .before)) (k .enum-told2 .given .1) y))
     (λ c. search needs)
     (λ c f rest y. let k = c .before .before .before .before in
-    eventually-done (first t (k .before .before .before .before .before) .pre .1) y (c .before .before .mark-whole2 .ensures f rest y) (one-of y refl (one-told t (k .before .before) (k .enum-told3 .given .1))))
+    eventually-done (first t (k .before .before .before .before .before) .pre .1) y (c .before .before .mark-whole2 .ensures f rest y) (single-as (single t (k .before .before)) (k .enum-told3 .given .1) y))
     (λ c. search needs)
     (λ c f rest y. let k = c .before .before .before .before in
-    always-done (first t (k .before .before .before .before .before) .pre .1) y (c .before .before .mark-whole3 .ensures f rest y) (one-of y refl (one-told t (k .before .before) (k .enum-told4 .given .1))))
+    always-done (first t (k .before .before .before .before .before) .pre .1) y (c .before .before .mark-whole3 .ensures f rest y) (single-as (single t (k .before .before)) (k .enum-told4 .given .1) y))
     (λ c. search needs)
     (λ c f rest y. let e = c .before .before .before .before .before .before in let d = e .before .before .before .before .before .before in let a = first t (d .before .before .before .before .before .before .before .before) in
-    let x = left-marked (two-of y refl (two-told t (d .before .before .before .before .before) (d .before .before .before .enum-told5 .given .1))) (d .mark2 .ensures) in
-    pair-done (a .args .marks .now) (a .pre .1) (d .mark2 .kept .1 .0) x (e .mark3 .ensures) (e .mark3 .kept .1 .0) (c .before .before .over-pair .ensures))
+    let x = double-as (double t (d .before .before .before .before .before)) (d .before .before .before .enum-told5 .given .1) y in
+    pair-done (a .args .marks .now) (a .pre .1) (d .mark2 .kept .1 .0) x (d .mark2 .ensures) (e .mark3 .ensures) (e .mark3 .kept .1 .0) (c .before .before .over-pair .ensures))
     (λ c. search needs)
     (λ c f rest y. let k = c .before .before .before .before in
-    until-done (first t (k .before .before .before .before .before) .pre .1) y (c .before .before .mark-whole4 .ensures f rest y) (two-of y refl (two-told t (k .before .before) (k .enum-told6 .given .1))))
+    until-done (first t (k .before .before .before .before .before) .pre .1) y (c .before .before .mark-whole4 .ensures f rest y) (double-as (double t (k .before .before)) (k .enum-told6 .given .1) y))
     (λ c. search needs)
     (λ c f rest y. absurd (no-code (parts-as _ f rest y (c .before .before .before .before .before .before .of .ensures) (c .before .before .before .before .enum-told7 .given .1))))

@@ -2,15 +2,12 @@
 -- Assumes nothing.
 use native.Mathlib.Omega.{arith}
 use borrow.Author.Needs.{needs}
-use mathlib.Core.Path.{ap}
-use mathlib.Core.List.{List}
+use mathlib.Core.Path.{refl, ap}
 use lib.ListN.{length}
-use Rattle.lists.proofs.Parts.{tail-length}
-use Rattle.ltl.specs.Formula.{Formula, size}
-use Rattle.nodes.specs.Begins.{Front}
+use Rattle.ltl.specs.Formula.{size}
 use Rattle.nodes.proofs.Fronts.{Single, Double, parts-as, zero-size, no-code, begins-some, front-begins}
-use Rattle.nodes.proofs.Operands.{one-of, two-of, LeftEnded, left-ended}
-use Prim.Native.Nat.{ℕ, _+_, _<_}
+use Rattle.nodes.proofs.Operands.{one-of, two-of, single-as, double-as, LeftRead, left-read}
+use Prim.Native.Nat.{ℕ, _<_}
 use borrow.Fn.Kinds.{In}
 use borrow.Fn.PlainCycle.{Measures, is, falls, and}
 use Rattle.nodes.proofs.operand_end.Reads as operand-end
@@ -33,16 +30,21 @@ module _ (t : ℕ) where
   abbrev calls : lts.Claims
   calls = (of-reads.Asked, of-reads.Learnt, below, operand-end.Post)
 
-  -- a formula in front: behind a node with one operand, behind one with two, and where the end of the left of two was found
-  single : (c : lts.After-enum-told2 calls here operand-end.Post) {f : Formula} {rest : List ℕ} → let s = c .before .before .before .before .before .args .s .now in Front s f rest → Single s rest f (c .enum-told2 .given .0 .0)
-  single c y = one-of y (c .before .before .of .ensures) (c .enum-told2 .given .1)
+  -- from where the first byte's kind is known
+  abbrev first : lts.After-of calls here operand-end.Post → lts.Start calls here operand-end.Post
+  first c = c .before .before .before
 
-  double : (c : lts.After-enum-told3 calls here operand-end.Post) {f : Formula} {rest : List ℕ} → let s = c .before .before .before .before .before .args .s .now in Front s f rest → Double s rest f (c .enum-told3 .given .0 .0)
-  double c y = two-of y (c .before .before .of .ensures) (c .enum-told3 .given .1)
+  -- behind a node with one operand, behind one with two, and where the end of the left of two was found
+  single : (c : lts.After-enum-told2 calls here operand-end.Post)
+      → let a = first (c .before .before) in Single (a .args .s .now) (a .pre .1 .rest) (a .pre .1 .formula) (c .enum-told2 .given .0 .0)
+  single c = one-of (first (c .before .before) .pre .1 .front) (c .before .before .of .ensures) (c .enum-told2 .given .1)
 
-  left : (c : lts.After-operand-end2 calls here operand-end.Post) {f : Formula} {rest : List ℕ}
-      → let s = c .before .before .before .before .before .before .before .args .s .now in Front s f rest → LeftEnded s rest f (c .before .before .enum-told3 .given .0 .0) (c .operand-end2 .result)
-  left c y = left-ended (double (c .before .before) y) (c .operand-end2 .ensures)
+  double : (c : lts.After-enum-told3 calls here operand-end.Post)
+      → let a = first (c .before .before) in Double (a .args .s .now) (a .pre .1 .rest) (a .pre .1 .formula) (c .enum-told3 .given .0 .0)
+  double c = two-of (first (c .before .before) .pre .1 .front) (c .before .before .of .ensures) (c .enum-told3 .given .1)
+
+  left-done : (c : lts.After-operand-end2 calls here operand-end.Post) → LeftRead (double (c .before .before)) (c .operand-end2 .result)
+  left-done c = let x = double (c .before .before) in left-read x (c .operand-end2 .ensures _ _ (x .front))
 
 pub +operand-end-spec : {M : Type 1} → statement M
 +operand-end-spec = close μ-operand-end λ t. lts.spec (calls t) (here t) operand-end.Post
@@ -50,27 +52,25 @@ pub +operand-end-spec : {M : Type 1} → statement M
     (λ c κs. tt)
     (λ c. search needs)
     (λ c. search needs)
-    (λ c. let x = single t c (c .before .before .before .before .before .pre .1 .front) in omega arith)
-    (λ c. let x = single t c (c .before .before .before .before .before .pre .1 .front) in omega arith)
-    (λ c. let x = single t c (c .before .before .before .before .before .pre .1 .front) in omega arith)
-    (λ c κs. let a = c .before .before .before .before .before .before in let x = single t (c .before) (a .pre .1 .front) in let l = tail-length 1 (a .args .s .now) in
-    (omega arith, front-begins (x .front)))
-    (λ c. let x = single t (c .before .before) (c .before .before .before .before .before .before .before .pre .1 .front) in let n = c .operand-end .ensures _ _ (x .front) in omega arith)
+    (λ c. let x = single t c in omega arith)
+    (λ c. let x = single t c in omega arith)
+    (λ c. let x = single t c in omega arith)
+    (λ c κs. let x = single t (c .before) in (omega arith, front-begins (x .front)))
+    (λ c. let x = single t (c .before .before) in let n = c .operand-end .ensures _ _ (x .front) in omega arith)
     (λ c. search needs)
-    (λ c. let x = double t c (c .before .before .before .before .before .pre .1 .front) in omega arith)
-    (λ c. let x = double t c (c .before .before .before .before .before .pre .1 .front) in omega arith)
-    (λ c. let x = double t c (c .before .before .before .before .before .pre .1 .front) in omega arith)
-    (λ c κs. let a = c .before .before .before .before .before .before in let x = double t (c .before) (a .pre .1 .front) in let l = tail-length 1 (a .args .s .now) in
-    (omega arith, front-begins (x .front)))
-    (λ c. let x = left t c (c .before .before .before .before .before .before .before .pre .1 .front) in let d = x .node in omega arith)
-    (λ c. let x = left t c (c .before .before .before .before .before .before .before .pre .1 .front) in let d = x .node in omega arith)
-    (λ c. let x = left t c (c .before .before .before .before .before .before .before .pre .1 .front) in let d = x .node in omega arith)
-    (λ c. let x = left t c (c .before .before .before .before .before .before .before .pre .1 .front) in let d = x .node in omega arith)
-    (λ c κs. let a = c .before .before .before .before .before .before .before .before in let x = left t (c .before) (a .pre .1 .front) in let l = tail-length (1 + c .before .operand-end2 .result) (a .args .s .now) in
-    (omega arith, front-begins (x .front)))
-    (λ c. let x = left t (c .before .before) (c .before .before .before .before .before .before .before .before .before .pre .1 .front) in let d = x .node in let m = c .operand-end3 .ensures _ _ (x .front) in omega arith)
+    (λ c. let x = double t c in omega arith)
+    (λ c. let x = double t c in omega arith)
+    (λ c. let x = double t c in omega arith)
+    (λ c κs. let x = double t (c .before) in (omega arith, front-begins (x .front)))
+    (λ c. let x = left-done t c in omega arith)
+    (λ c. let x = left-done t c in omega arith)
+    (λ c. let x = left-done t c in omega arith)
+    (λ c. let x = left-done t c in omega arith)
+    (λ c κs. let x = left-done t (c .before) in (omega arith, front-begins (x .front)))
+    (λ c. let x = left-done t (c .before .before) in let m = c .operand-end3 .ensures _ _ (x .front) in omega arith)
     (λ c. search needs)
     (λ c f rest y. zero-size (parts-as _ f rest y (c .before .before .of .ensures) (c .enum-told .given .1)))
-    (λ c f rest y. let x = single t (c .before .before) y in let n = c .operand-end .ensures _ _ (x .front) in let z = ap size (x .same) in omega arith)
-    (λ c f rest y. let x = left t (c .before .before) y in let m = c .operand-end3 .ensures _ _ (x .front) in let z = ap size (x .node .same) in omega arith)
+    (λ c f rest y. let x = single-as (single t (c .before .before)) refl y in let n = c .operand-end .ensures _ _ (x .front) in let z = ap size (x .same) in omega arith)
+    (λ c f rest y. let k = c .before .before in let d = double-as (double t (k .before .before)) refl y in
+    let x = left-read d (k .operand-end2 .ensures _ _ (d .front)) in let m = c .operand-end3 .ensures _ _ (x .front) in let z = ap size (d .same) in omega arith)
     (λ c f rest y. absurd (no-code (parts-as _ f rest y (c .before .before .of .ensures) (c .enum-told4 .given .1))))

@@ -1,13 +1,12 @@
 -- The bytes begin with a formula, and its first byte's kind says which operands stand behind it: so each part lent is there, begins
 -- with an operand, and is shorter. No sum wraps, since no count is larger than its operand and both operands are in the bytes. Each
 -- return is a law of `Counting`. Assumes nothing.
-use mathlib.Core.Path.{_≡_}
-use Prim.Native.Nat.{ℕ, _+_, _<_}
+use mathlib.Core.Path.{_≡_, refl}
+use Prim.Native.Nat.{ℕ, _<_}
 use lib.ListN.{length}
-use Rattle.lists.proofs.Parts.{tail-length}
-use Rattle.nodes.proofs.Fronts.{Single, Double, parts-as, no-code, begins-some, leaf-within}
-use Rattle.nodes.proofs.Operands.{one-of, two-of}
-use Rattle.scores.proofs.Counting.{LeftTallied, counted-leaf, left-tallied, tallied-leaf, tallied-one, tallied-two}
+use Rattle.nodes.proofs.Fronts.{Single, Double, parts-as, no-code, begins-some, front-begins, leaf-within}
+use Rattle.nodes.proofs.Operands.{one-of, two-of, single-as, double-as, LeftRead, left-read}
+use Rattle.scores.proofs.Counting.{counted-leaf, tallied-leaf, tallied-one, tallied-two}
 use native.Mathlib.Omega.{arith}
 use borrow.Author.Needs.{needs}
 use borrow.Fn.Kinds.{In}
@@ -48,10 +47,8 @@ module _ (t : ℕ) where
       → let a = first (c .before .before) in Double (a .args .s .now) (a .pre .1 .0 .rest) (a .pre .1 .0 .formula) (c .enum-told2 .given .0 .0)
   double c = two-of (first (c .before .before) .pre .1 .0 .front) (c .before .before .of .ensures) (c .enum-told2 .given .1)
 
-  left-done : (c : lts.After-tally2 calls here tally.Post)
-      → let k = c .before .before in let a = first (k .before .before) in
-      LeftTallied (a .args .owner .now) (a .args .s .now) (a .pre .1 .0 .rest) (a .pre .1 .0 .formula) (k .enum-told2 .given .0 .0) (c .tally2 .result .read) (c .tally2 .result .scores .counts)
-  left-done c = left-tallied (double (c .before .before)) (c .tally2 .ensures)
+  left-done : (c : lts.After-tally2 calls here tally.Post) → LeftRead (double (c .before .before)) (c .tally2 .result .read)
+  left-done c = left-read (double (c .before .before)) (c .tally2 .ensures _ _ (double (c .before .before) .front) .0)
 
 pub +tally-spec : {M : Type 1} → statement M
 +tally-spec = close μ-tally λ t. lts.spec (calls t) (here t) tally.Post
@@ -65,36 +62,29 @@ pub +tally-spec : {M : Type 1} → statement M
     (λ c. let x = single t c in omega arith)
     (λ c. let x = single t c in omega arith)
     (λ c. let x = single t c in omega arith)
-    (λ c κs. let x = single t (c .before) in let a = first t (c .before .before .before) in
-    let l = tail-length 1 (a .args .s .now) in
-    (omega arith, (record { formula = _; rest = _; front = x .front }, a .pre .1 .1, omega arith)))
+    (λ c κs. let x = single t (c .before) in (omega arith, (front-begins (x .front), first t (c .before .before .before) .pre .1 .1, omega arith)))
     (λ c. let x = single t (c .before .before .before .before) in
     let r = c .before .before .tally .ensures _ _ (x .front) .0 in omega arith)
     (λ c. search needs)
     (λ c. let x = double t c in omega arith)
     (λ c. let x = double t c in omega arith)
     (λ c. let x = double t c in omega arith)
-    (λ c κs. let x = double t (c .before) in let a = first t (c .before .before .before) in
-    let l = tail-length 1 (a .args .s .now) in
-    (omega arith, (record { formula = _; rest = _; front = x .front }, a .pre .1 .1, omega arith)))
-    (λ c. let x = left-done t (c .before) in let d = x .node in omega arith)
-    (λ c. let x = left-done t (c .before) in let d = x .node in omega arith)
-    (λ c. let x = left-done t (c .before) in let d = x .node in omega arith)
-    (λ c. let x = left-done t (c .before) in let d = x .node in omega arith)
-    (λ c κs. let k = c .before .before in let x = left-done t k in let d = x .node in
-    let a = first t (k .before .before .before .before) in
-    let l = tail-length (1 + k .tally2 .result .read) (a .args .s .now) in
-    (omega arith, (record { formula = _; rest = _; front = x .front }, a .pre .1 .1, omega arith)))
-    (λ c. let x = left-done t (c .before .before .before .before .before .before) in let d = x .node in
+    (λ c κs. let x = double t (c .before) in (omega arith, (front-begins (x .front), first t (c .before .before .before) .pre .1 .1, omega arith)))
+    (λ c. let x = left-done t (c .before) in omega arith)
+    (λ c. let x = left-done t (c .before) in omega arith)
+    (λ c. let x = left-done t (c .before) in omega arith)
+    (λ c. let x = left-done t (c .before) in omega arith)
+    (λ c κs. let k = c .before .before in let x = left-done t k in
+    (omega arith, (front-begins (x .front), first t (k .before .before .before .before) .pre .1 .1, omega arith)))
+    (λ c. let x = left-done t (c .before .before .before .before .before .before) in
     let r = c .before .before .before .tally3 .ensures _ _ (x .front) .0 in omega arith)
-    (λ c κs b. let x = left-done t (c .before .before .before .before .before .before) in let d = x .node in
-    let r = c .before .before .before .tally3 .ensures _ _ (x .front) .1 .few b in
-    let l = x .counted .few b in omega arith)
+    (λ c κs b. let k = c .before .before .before .before .before .before in let x = left-done t k in
+    let l = k .tally2 .ensures _ _ (double t (k .before .before) .front) .1 .few b in
+    let r = c .before .before .before .tally3 .ensures _ _ (x .front) .1 .few b in omega arith)
     (λ c. search needs)
     (λ c κs. omega arith)
     (λ c f rest y. tallied-leaf (parts-as _ f rest y (c .before .before .before .before .before .of .ensures) (c .before .before .before .k .given .1)) (counted-leaf (c .before .owner-of .ensures .0) (c .one .ensures)))
-    (λ c f rest y. tallied-one (one-of y (c .before .before .before .before .before .before .of .ensures) (c .before .before .before .before .enum-told .given .1)) (c .before .before .tally .ensures))
+    (λ c f rest y. tallied-one (single-as (single t (c .before .before .before .before)) refl y) (c .before .before .tally .ensures))
     (λ c f rest y. let k = c .before .before .before .before .before .before .before in
-    let x = left-tallied (two-of y (k .before .before .before .before .of .ensures) (k .before .before .enum-told2 .given .1)) (k .tally2 .ensures) in
-    rw (c .plus .ensures) (tallied-two x (c .before .before .before .before .tally3 .ensures)))
+    rw (c .plus .ensures) (tallied-two (double-as (double t (k .before .before)) refl y) (k .tally2 .ensures) (c .before .before .before .before .tally3 .ensures)))
     (λ c f rest y. absurd (no-code (parts-as _ f rest y (c .before .before .before .of .ensures) (c .before .enum-told3 .given .1))))

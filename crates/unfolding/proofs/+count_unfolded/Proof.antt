@@ -1,21 +1,16 @@
 -- The bytes begin with a formula, and its first byte's kind says which operands stand behind it: so each part lent is there, begins
 -- with an operand, and is shorter. No sum is large, since counts are capped and there are at most 4,096 bytes. Each return is a law
 -- of `Counts`. Assumes nothing.
-use mathlib.Core.Path.{_≡_, refl, sym, ap, _∙_}
+use mathlib.Core.Path.{_≡_}
 use Prim.Native.Nat.{ℕ, _+_, _<_}
 use native.Mathlib.Omega.{arith}
 use borrow.Author.Needs.{needs}
 use borrow.Fn.Kinds.{In}
 use borrow.Fn.PlainCycle.{Measures}
-use lib.ListN.{length, getD}
-use Rattle.lists.proofs.Parts.{tail-length}
-use Rattle.kinds.specs.declared.Unary.{Unary}
-use Rattle.kinds.specs.declared.Binary.{Binary}
-use Rattle.kinds.specs.declared.Kind.the-variants.{One, Two}
-use Rattle.kinds.specs.Kinds.{kindOf}
-use Rattle.nodes.proofs.Fronts.{Single, Double, parts-as, no-code, begins-some}
-use Rattle.nodes.proofs.Operands.{one-of, two-of}
-use Rattle.unfolding.proofs.Counts.{Small, counted-leaf, small-one, counted-not, counted-next, counted-ever, LeftCounted, left-counted, small-two, counted-joined, counted-until}
+use lib.ListN.{length}
+use Rattle.nodes.proofs.Fronts.{Single, Double, parts-as, no-code, begins-some, front-begins}
+use Rattle.nodes.proofs.Operands.{one-of, two-of, single-as, double-as, LeftRead, left-read}
+use Rattle.unfolding.proofs.Counts.{Small, counted-leaf, small-one, counted-not, counted-next, counted-ever, small-two, counted-joined, counted-until}
 use Rattle.unfolding.proofs.count_unfolded.Reads as count-unfolded
 use Rattle.unfolding.proofs.count_unfolded.Kinds as count-unfolded-kinds
 use Rattle.unfolding.proofs.+count_unfolded.Lts-count_unfolded as lts
@@ -41,35 +36,29 @@ module _ (t : ℕ) where
   abbrev first : lts.After-of calls here count-unfolded.Post → lts.Start calls here count-unfolded.Post
   first c = c .before .before .before
 
-  -- ---- one operand: which operator it stands under, and what is known where it was counted
-  one-told : (c : lts.After-known-told calls here count-unfolded.Post) {o : Unary} → c .before .k .given .0 .0 ≡ o → kindOf (getD (first (c .before .before .before) .args .s .now) 0 0) ≡ One o
-  one-told c e = sym (c .before .before .before .of .ensures) ∙ c .before .k .given .1 ∙ ap One e
-
+  -- ---- one operand: what stands behind the node, and what is known where it was counted
   single : (c : lts.After-known-told calls here count-unfolded.Post)
       → let a = first (c .before .before .before) in Single (a .args .s .now) (a .pre .1 .0 .rest) (a .pre .1 .0 .formula) (c .before .k .given .0 .0)
-  single c = one-of (first (c .before .before .before) .pre .1 .0 .front) refl (one-told c refl)
+  single c = one-of (first (c .before .before .before) .pre .1 .0 .front) (c .before .before .before .of .ensures) (c .before .k .given .1)
 
   one-small : (c : lts.After-struct-known calls here count-unfolded.Post)
       → let r = c .before .count-unfolded .result in Small (first (c .before .before .before .before .before .before) .args .s .now) (1 + r .read) (r .written)
   one-small c = small-one (single (c .before .before .before)) (c .before .count-unfolded .ensures)
 
   -- ---- two operands: the same, and where the left one was counted
-  two-told : (c : lts.After-known-told2 calls here count-unfolded.Post) {o : Binary} → c .before .k2 .given .0 .0 ≡ o → kindOf (getD (first (c .before .before .before) .args .s .now) 0 0) ≡ Two o
-  two-told c e = sym (c .before .before .before .of .ensures) ∙ c .before .k2 .given .1 ∙ ap Two e
-
   double : (c : lts.After-known-told2 calls here count-unfolded.Post)
       → let a = first (c .before .before .before) in Double (a .args .s .now) (a .pre .1 .0 .rest) (a .pre .1 .0 .formula) (c .before .k2 .given .0 .0)
-  double c = two-of (first (c .before .before .before) .pre .1 .0 .front) refl (two-told c refl)
+  double c = two-of (first (c .before .before .before) .pre .1 .0 .front) (c .before .before .before .of .ensures) (c .before .k2 .given .1)
 
-  left-done : (c : lts.After-struct-known5 calls here count-unfolded.Post)
-      → let k = c .before .before .before in let a = first (k .before .before .before) in let r = c .before .count-unfolded2 .result in
-      LeftCounted (a .args .s .now) (a .pre .1 .0 .rest) (a .pre .1 .0 .formula) (k .before .k2 .given .0 .0) (r .read) (r .written)
-  left-done c = left-counted (double (c .before .before .before)) (c .before .count-unfolded2 .ensures)
+  left-done : (c : lts.After-struct-known5 calls here count-unfolded.Post) → LeftRead (double (c .before .before .before)) (c .before .count-unfolded2 .result .read)
+  left-done c = let x = double (c .before .before .before) in left-read x (c .before .count-unfolded2 .ensures _ _ (x .front) .0)
 
   two-small : (c : lts.After-struct-known6 calls here count-unfolded.Post)
       → let r = c .before .before .before .before .count-unfolded2 .result in let q = c .before .count-unfolded3 .result in
       Small (first (c .before .before .before .before .before .before .before .before .before) .args .s .now) (1 + r .read + q .read) (r .written + q .written)
-  two-small c = small-two (left-done (c .before .before .before)) (c .before .count-unfolded3 .ensures)
+  two-small c =
+      let d = c .before .before .before in
+      small-two (double (d .before .before .before)) (d .before .count-unfolded2 .ensures) (c .before .count-unfolded3 .ensures)
 
 pub +count-unfolded-spec : {M : Type 1} → statement M
 +count-unfolded-spec = close μ-count-unfolded λ t. lts.spec (calls t) (here t) count-unfolded.Post
@@ -80,9 +69,7 @@ pub +count-unfolded-spec : {M : Type 1} → statement M
     (λ c. let x = single t c in omega arith)
     (λ c. let x = single t c in omega arith)
     (λ c. let x = single t c in omega arith)
-    (λ c κs. let x = single t (c .before) in let a = first t (c .before .before .before .before) in
-    let l = tail-length 1 (a .args .s .now) in
-    (omega arith, (record { formula = _; rest = _; front = x .front }, omega arith)))
+    (λ c κs. let x = single t (c .before) in (omega arith, (front-begins (x .front), omega arith)))
     (λ c. let x = one-small t c in omega arith)
     (λ c. search needs)
     (λ c. let x = one-small t (c .before .before .before) in omega arith)
@@ -100,16 +87,12 @@ pub +count-unfolded-spec : {M : Type 1} → statement M
     (λ c. let x = double t c in omega arith)
     (λ c. let x = double t c in omega arith)
     (λ c. let x = double t c in omega arith)
-    (λ c κs. let x = double t (c .before) in let a = first t (c .before .before .before .before) in
-    let l = tail-length 1 (a .args .s .now) in
-    (omega arith, (record { formula = _; rest = _; front = x .front }, omega arith)))
+    (λ c κs. let x = double t (c .before) in (omega arith, (front-begins (x .front), omega arith)))
     (λ c. let x = left-done t c in omega arith)
     (λ c. let x = left-done t c in omega arith)
     (λ c. let x = left-done t c in omega arith)
     (λ c. let x = left-done t c in omega arith)
-    (λ c κs. let x = left-done t (c .before) in let a = first t (c .before .before .before .before .before .before .before) in
-    let l = tail-length (1 + c .before .before .count-unfolded2 .result .read) (a .args .s .now) in
-    (omega arith, (record { formula = _; rest = _; front = x .front }, omega arith)))
+    (λ c κs. let x = left-done t (c .before) in (omega arith, (front-begins (x .front), omega arith)))
     (λ c. let x = two-small t c in omega arith)
     (λ c. let x = two-small t (c .before .before) in omega arith)
     (λ c. search needs)
@@ -122,17 +105,17 @@ pub +count-unfolded-spec : {M : Type 1} → statement M
     (λ c. search needs)
     (λ c f rest y. counted-leaf (parts-as _ f rest y (c .before .before .of .ensures) (c .enum-told .given .1)))
     (λ c f rest y. let e = c .before .before .before .before .before in
-    counted-not (one-of y refl (one-told t (e .before .before) (c .before .before .enum-told2 .given .1))) (e .count-unfolded .ensures) (c .capped .ensures))
+    counted-not (single-as (single t (e .before .before)) (c .before .before .enum-told2 .given .1) y) (e .count-unfolded .ensures) (c .capped .ensures))
     (λ c f rest y. let e = c .before .before .before in
-    counted-next (one-of y refl (one-told t (e .before .before) (c .enum-told3 .given .1))) (e .count-unfolded .ensures) (first t (e .before .before .before .before .before) .pre .1 .1))
+    counted-next (single-as (single t (e .before .before)) (c .enum-told3 .given .1) y) (e .count-unfolded .ensures) (first t (e .before .before .before .before .before) .pre .1 .1))
     (λ c f rest y. let e = c .before .before .before .before .before in
-    counted-ever (λ g. omega arith) (one-of y refl (one-told t (e .before .before) (c .before .before .enum-told4 .given .1))) (e .count-unfolded .ensures) (c .capped2 .ensures))
+    counted-ever (λ g. omega arith) (single-as (single t (e .before .before)) (c .before .before .enum-told4 .given .1) y) (e .count-unfolded .ensures) (c .capped2 .ensures))
     (λ c f rest y. let e = c .before .before .before .before .before in
-    counted-ever (λ g. omega arith) (one-of y refl (one-told t (e .before .before) (c .before .before .enum-told5 .given .1))) (e .count-unfolded .ensures) (c .capped3 .ensures))
+    counted-ever (λ g. omega arith) (single-as (single t (e .before .before)) (c .before .before .enum-told5 .given .1) y) (e .count-unfolded .ensures) (c .capped3 .ensures))
     (λ c f rest y. let e = c .before .before .before .before .before .before in
-    let x = left-counted (two-of y refl (two-told t (e .before .before .before .before .before) (c .before .enum-told6 .given .1))) (e .before .before .before .count-unfolded2 .ensures) in
-    counted-joined x (e .count-unfolded3 .ensures) (c .capped4 .ensures))
+    counted-joined (double-as (double t (e .before .before .before .before .before)) (c .before .enum-told6 .given .1) y) (e .before .before .before .count-unfolded2 .ensures)
+    (e .count-unfolded3 .ensures) (c .capped4 .ensures))
     (λ c f rest y. let e = c .before .before .before .before .before .before in
-    let x = left-counted (two-of y refl (two-told t (e .before .before .before .before .before) (c .before .enum-told7 .given .1))) (e .before .before .before .count-unfolded2 .ensures) in
-    counted-until x (e .count-unfolded3 .ensures) (c .capped5 .ensures))
+    counted-until (double-as (double t (e .before .before .before .before .before)) (c .before .enum-told7 .given .1) y) (e .before .before .before .count-unfolded2 .ensures)
+    (e .count-unfolded3 .ensures) (c .capped5 .ensures))
     (λ c f rest y. absurd (no-code (parts-as _ f rest y (c .before .before .of .ensures) (c .enum-told8 .given .1))))

@@ -7,17 +7,14 @@ use native.Mathlib.Omega.{arith}
 use borrow.Author.Needs.{needs}
 use borrow.Fn.Kinds.{In}
 use borrow.Fn.PlainCycle.{Measures}
-use lib.ListN.{length, getD, length-set, length-take, length-drop}
+use lib.ListN.{length, length-set, length-take, length-drop}
 use lib.Seq.{length-take-le}
 use Rattle.lists.proofs.Parts.{tail-length}
-use Rattle.kinds.specs.declared.Unary.{Unary}
 use Rattle.kinds.specs.declared.Unary.the-variants.{Not, Eventually, Always}
-use Rattle.kinds.specs.declared.Binary.{Binary}
 use Rattle.kinds.specs.declared.Join.the-variants.{And, Or}
 use Rattle.kinds.specs.declared.Kind.the-variants.{One, Two}
-use Rattle.kinds.specs.Kinds.{kindOf}
-use Rattle.nodes.proofs.Fronts.{Single, parts-as, no-code, begins-some}
-use Rattle.nodes.proofs.Operands.{one-of}
+use Rattle.nodes.proofs.Fronts.{Single, Double, parts-as, no-code, begins-some}
+use Rattle.nodes.proofs.Operands.{one-of, two-of, single-as, double-as}
 use Rattle.unfolding.proofs.Unfoldings.{Bounded, behind-done, room-some, leaf-done, room-not, not-done, ends-within, next-fits, next-done, ever, room-ever, ever-made, ever-done, both-of, both, room-both, first-made, room-second, both-made, both-done, until, left-begins, until-end, room-right, right-made, room-left, until-made, until-done}
 use Rattle.unfolding.proofs.unfold_behind.Reads as unfold-behind
 use Rattle.unfolding.proofs.unfold_behind.Kinds as behind-kinds
@@ -131,17 +128,17 @@ module _ (t : ℕ) where
   abbrev into-start : into-lts.After-of into-calls into-here unfold-into.Post → into-lts.Start into-calls into-here unfold-into.Post
   into-start c = c .before .before .before .before
 
-  one-told : (c : into-lts.After-known-told into-calls into-here unfold-into.Post) {o : Unary} → c .before .k .given .0 .0 ≡ o
-      → kindOf (getD (into-start (c .before .before .before) .args .s .now) 0 0) ≡ One o
-  one-told c e = sym (c .before .before .before .of .ensures) ∙ c .before .k .given .1 ∙ ap One e
+  under-one : (c : into-lts.After-known-told into-calls into-here unfold-into.Post)
+      → let a = into-start (c .before .before .before) in Single (a .args .s .now) (a .pre .1 .begins .rest) (a .pre .1 .begins .formula) (c .before .k .given .0 .0)
+  under-one c = one-of (into-start (c .before .before .before) .pre .1 .begins .front) (c .before .before .before .of .ensures) (c .before .k .given .1)
 
-  two-told : (c : into-lts.After-known-told2 into-calls into-here unfold-into.Post) {o : Binary} → c .before .k2 .given .0 .0 ≡ o
-      → kindOf (getD (into-start (c .before .before .before) .args .s .now) 0 0) ≡ Two o
-  two-told c e = sym (c .before .before .before .of .ensures) ∙ c .before .k2 .given .1 ∙ ap Two e
+  under-two : (c : into-lts.After-known-told2 into-calls into-here unfold-into.Post)
+      → let a = into-start (c .before .before .before) in Double (a .args .s .now) (a .pre .1 .begins .rest) (a .pre .1 .begins .formula) (c .before .k2 .given .0 .0)
+  under-two c = two-of (into-start (c .before .before .before) .pre .1 .begins .front) (c .before .before .before .of .ensures) (c .before .k2 .given .1)
 
   under-not : (c : into-lts.After-enum-told2 into-calls into-here unfold-into.Post)
       → let a = into-start (c .before .before .before .before .before) in Single (a .args .s .now) (a .pre .1 .begins .rest) (a .pre .1 .begins .formula) Not
-  under-not c = one-of (into-start (c .before .before .before .before .before) .pre .1 .begins .front) refl (one-told (c .before .before) (c .enum-told2 .given .1))
+  under-not c = single-as (under-one (c .before .before)) (c .enum-told2 .given .1) (into-start (c .before .before .before .before .before) .pre .1 .begins .front)
 
   -- ---- until: where the left operand's end was found, where the right one was unfolded, and where both were
   abbrev until-start : until-lts.After-operand-end until-calls until-here unfold-until.Post → until-lts.Start until-calls until-here unfold-until.Post
@@ -188,9 +185,8 @@ pub +unfold-behind+unfold-both+unfold-ever+unfold-into+unfold-until-spec : {M : 
     (λ c. let x = both (c .before .before .before .pre .1) in omega arith)
     (λ c. let x = both (c .before .before .before .pre .1) in omega arith)
     (λ c. let x = both (c .before .before .before .pre .1) in omega arith)
-    (λ c κs. let a = c .before .before .before .before in let x = both (a .pre .1) in
-    let l = tail-length 1 (a .args .s .now) in
-    (omega arith, room-both (a .pre .1)))
+    (λ c κs. let p = c .before .before .before .before .pre .1 in let x = both p in
+    (omega arith, room-both p))
     (λ c. let x = left-written t c in omega arith)
     (λ c. let x = left-written t c in omega arith)
     (λ c. let x = left-written t c in omega arith)
@@ -211,9 +207,8 @@ pub +unfold-behind+unfold-both+unfold-ever+unfold-into+unfold-until-spec : {M : 
     (λ c. let x = ever (c .before .before .before .pre .1) in omega arith)
     (λ c. let x = ever (c .before .before .before .pre .1) in omega arith)
     (λ c. let x = ever (c .before .before .before .pre .1) in omega arith)
-    (λ c κs. let a = c .before .before .before .before in let x = ever (a .pre .1) in
-    let l = tail-length 1 (a .args .s .now) in
-    (omega arith, room-ever (a .pre .1)))
+    (λ c κs. let p = c .before .before .before .before .pre .1 in let x = ever p in
+    (omega arith, room-ever p))
     (λ c. let x = operand-written t c in omega arith)
     (λ c. let x = operand-written t c in omega arith)
     (λ c. let x = operand-written t c in omega arith)
@@ -235,9 +230,8 @@ pub +unfold-behind+unfold-both+unfold-ever+unfold-into+unfold-until-spec : {M : 
     (λ c. let x = under-not t (c .before) in omega arith)
     (λ c. let x = under-not t (c .before) in omega arith)
     (λ c. let x = under-not t (c .before) in omega arith)
-    (λ c κs. let x = under-not t (c .before .before) in let a = into-start t (c .before .before .before .before .before .before .before) in
-    let l = tail-length 1 (a .args .s .now) in
-    (omega arith, room-not (a .pre .1) x))
+    (λ c κs. let x = under-not t (c .before .before) in
+    (omega arith, room-not (into-start t (c .before .before .before .before .before .before .before) .pre .1) x))
     (λ c. let x = under-not t (c .before .before .before .before .before .before) in
     let y = c .before .before .before .unfold-behind .ensures _ _ (x .front) in omega arith)
     (λ c. search needs)
@@ -245,28 +239,28 @@ pub +unfold-behind+unfold-both+unfold-ever+unfold-into+unfold-until-spec : {M : 
     (λ c. let p = into-start t (c .before .before .before .before .before .before .before .before) .pre .1 in
     sym (length-take-le _ _ (ends-within (p .begins) (c .before .before .operand-end .ensures))))
     (λ c κs. let p = into-start t (c .before .before .before .before .before .before .before .before) .pre .1 in
-    next-fits p (one-of (p .begins .front) refl (one-told t (c .before .before .before .before .before) (c .before .before .before .enum-told3 .given .1))) (c .before .before .operand-end .ensures))
+    next-fits p (single-as (under-one t (c .before .before .before .before .before)) (c .before .before .before .enum-told3 .given .1) (p .begins .front)) (c .before .before .operand-end .ensures))
     (λ c. search needs)
     (λ c κs. let p = into-start t (c .before .before .before .before .before .before) .pre .1 in
-    (omega arith, (p, record { operator = Eventually; by = Or; kind = one-told t (c .before .before .before) (c .before .enum-told4 .given .1); code = refl; unfolds = λ f. refl })))
+    (omega arith, (p, record { operator = Eventually; by = Or; kind = under-one t (c .before .before .before) .kind ∙ ap One (c .before .enum-told4 .given .1); code = refl; unfolds = λ f. refl })))
     (λ c. search needs)
     (λ c κs. let p = into-start t (c .before .before .before .before .before .before) .pre .1 in
-    (omega arith, (p, record { operator = Always; by = And; kind = one-told t (c .before .before .before) (c .before .enum-told5 .given .1); code = refl; unfolds = λ f. refl })))
+    (omega arith, (p, record { operator = Always; by = And; kind = under-one t (c .before .before .before) .kind ∙ ap One (c .before .enum-told5 .given .1); code = refl; unfolds = λ f. refl })))
     (λ c. search needs)
     (λ c. search needs)
     (λ c κs. let p = into-start t (c .before .before .before .before .before .before) .pre .1 in
-    (omega arith, (p, both-of (p .begins .front) refl (two-told t (c .before .before .before) (c .before .enum-told6 .given .1)))))
+    (omega arith, (p, both-of (double-as (under-two t (c .before .before .before)) (c .before .enum-told6 .given .1) (p .begins .front)))))
     (λ c. search needs)
-    (λ c κs. (omega arith, (into-start t (c .before .before .before .before .before .before) .pre .1, two-told t (c .before .before .before) (c .before .enum-told7 .given .1))))
+    (λ c κs. (omega arith, (into-start t (c .before .before .before .before .before .before) .pre .1, under-two t (c .before .before .before) .kind ∙ ap Two (c .before .enum-told7 .given .1))))
     (λ c. search needs)
     (λ c. simp length-set)
     (λ c f rest y. leaf-done (parts-as _ f rest y (c .before .before .of .ensures) (c .enum-told .given .1)) (room-some (into-start t (c .before .before) .pre .1)))
     (λ c. omega arith)
     (λ c f rest y. let b = c .before .before .before .before .before .before in
-    not-done (one-of y refl (one-told t (b .before .before) (b .enum-told2 .given .1))) (c .before .before .before .unfold-behind .ensures))
+    not-done (single-as (under-one t (b .before .before)) (b .enum-told2 .given .1) y) (c .before .before .before .unfold-behind .ensures))
     (λ c. omega arith)
     (λ c f rest y. let b = c .before .before .before .before .before .before in
-    next-done y (one-of y refl (one-told t (b .before .before) (b .enum-told3 .given .1))) (c .before .before .before .before .before .operand-end .ensures) (c .before .before .copy .ensures))
+    next-done y (single-as (under-one t (b .before .before)) (b .enum-told3 .given .1) y) (c .before .before .before .before .before .operand-end .ensures) (c .before .before .copy .ensures))
     (λ c. omega arith)
     (λ c. c .before .before .unfold-ever .ensures)
     (λ c. omega arith)
