@@ -2,8 +2,8 @@
 -- state that passes is known to be (`passed-..`). Assumes nothing.
 use mathlib.Core.Path.{_≡_, refl, sym, ap, ap₂, _∙_}
 use mathlib.Core.Bool.{Bool, true, false}
-use mathlib.Core.List.{List, [], _∷_}
-use Prim.Native.Nat.{ℕ, zero, suc}
+use mathlib.Core.List.{List}
+use Prim.Native.Nat.{ℕ}
 use native.Mathlib.Omega.{arith}
 use lib.ListN.{length, getD}
 use borrow.Author.Tests.{eqb-true, eq-eqb}
@@ -15,21 +15,8 @@ use Rattle.state.specs.Calls.{finishedIn}
 use Rattle.state.specs.Clauses.{eachBelow, eachTrue, distinct, holdersIn, isConstantIn, boardOk, recordOk, gapOk, headerOk, masksOk, restOk, clauses, stateOk}
 use Rattle.checking.specs.Header.{Header, Sized}
 use Rattle.checking.specs.Slotted.{formulasOk}
-use Rattle.checking.proofs.Each.{both-false, both-last, range-most}
+use Rattle.checking.proofs.Each.{both-last, one-false, one-true, range-most}
 use Rattle.checking.proofs.Forming.{formulaTest}
-
--- ---- a list of tests
-one-false : (bs : List Bool) (i : ℕ) → getD bs i true ≡ false → eachTrue bs ≡ false
-unfolding eachTrue both
-one-false [] i e = e
-one-false (b ∷ bs) zero e = rw e
-one-false (b ∷ bs) (suc i) e = ap (both b) (one-false bs i e) ∙ both-false b
-
-one-true : (bs : List Bool) (i : ℕ) → eachTrue bs ≡ true → getD bs i true ≡ true
-unfolding eachTrue
-one-true [] i e = refl
-one-true (b ∷ bs) zero e = both-0 b (eachTrue bs) e
-one-true (b ∷ bs) (suc i) e = one-true bs i (both-1 b (eachTrue bs) e)
 
 -- ---- the clauses by their places
 pub clause-fails : (s : List ℕ) (i : ℕ) → getD (clauses s) i true ≡ false → stateOk s ≡ false
