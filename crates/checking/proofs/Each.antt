@@ -1,5 +1,5 @@
 -- A test of every number below another, and of every byte, one turn of a loop at a time; some tests in a list. Assumes nothing.
-use mathlib.Core.Path.{_≡_, refl, sym, ap, _∙_}
+use mathlib.Core.Path.{_≡_, refl, sym, ap, ap₂, _∙_}
 use mathlib.Core.Bool.{Bool, true, false, not}
 use mathlib.Core.List.{List, [], _∷_}
 use Prim.Native.Nat.{ℕ, zero, suc, _+_, _<_, _≤_}
@@ -75,7 +75,7 @@ unfolding both
 both-last true = refl
 both-last false = refl
 
--- ---- a list of tests: one that fails is enough, and the last decides where those before it hold
+-- ---- a list of tests: one that fails is enough, and each holds where all do
 pub one-false : (bs : List Bool) (i : ℕ) → getD bs i true ≡ false → eachTrue bs ≡ false
 unfolding eachTrue both
 one-false [] i e = e
@@ -110,16 +110,32 @@ both-assoc true b c = refl
 both-assoc false b c = refl
 
 -- the bytes before i are 0 where their union is
-module _ (s : List ℕ) (union i : ℕ) where
-  pub zero-turn : i < length s → both (eqb union 0) (allZero (drop i s)) ≡ both (eqb (bitOr union (getD s i 0)) 0) (allZero (drop (i + 1) s))
-  unfolding allZero
-  zero-turn h =
-      rw (add-one, drop-cons s i 0 h)
-      (both-assoc (eqb union 0) (eqb (getD s i 0) 0) (allZero (drop (suc i) s)) ∙ ap (λ (x : Bool). both x (allZero (drop (suc i) s))) (sym (union-zero union (getD s i 0))))
+pub record Zeros (s : List ℕ) (union i : ℕ) : Type 0 where
+  pub inside : i ≤ length s
+  pub so-far : allZero s ≡ both (eqb union 0) (allZero (drop i s))
 
-  pub zero-end : length s ≤ i → both (eqb union 0) (allZero (drop i s)) ≡ eqb union 0
+pub zeros-none : {s : List ℕ} → Zeros s 0 0
+unfolding both
+zeros-none = record { inside = omega arith; so-far = refl }
+
+module _ {s : List ℕ} {union i : ℕ} (z : Zeros s union i) where
+  pub zeros-more : i < length s → Zeros s (bitOr union (getD s i 0)) (i + 1)
   unfolding allZero
-  zero-end h = rw (drop-of-length-le s h) (sym (both-last (eqb union 0)))
+  zeros-more h =
+      record {
+        inside = omega arith;
+        so-far =
+            z .so-far
+            ∙ ap (λ (x : List ℕ). both (eqb union 0) (allZero x)) (drop-cons s i 0 h)
+            ∙ both-assoc (eqb union 0) (eqb (getD s i 0) 0) (allZero (drop (suc i) s))
+            ∙ ap₂ (λ (x : Bool) (j : ℕ). both x (allZero (drop j s))) (sym (union-zero union (getD s i 0))) (sym (add-one i));
+      }
+
+  pub zeros-all : length s ≤ i → eqb union 0 ≡ allZero s
+  unfolding allZero
+  zeros-all h =
+      let e : eqb union 0 ≡ both (eqb union 0) (allZero (drop i s)) = rw (drop-of-length-le s h) (both-last (eqb union 0)) in
+      e ∙ sym (z .so-far)
 
 -- ---- a range
 pub range-most : (most n : ℕ) → inRange most n ≡ true → n ≤ most
