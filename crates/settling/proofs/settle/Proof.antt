@@ -32,8 +32,10 @@ settle-spec =
     (λ c. search needs)
     (λ c. search needs)
     (λ c. search needs)
-    (λ c. settled-sampled _ _ (passes (c .before .before .before .before .before .before .before .before .before .before .before)) _ (c .before .before .before .before .before .before .before .before .before .counts-of .ensures .boards-are) _ (c .before .before .before .before .before .before .before .union .ensures) (c .before .before .before .before .before .before .if2 .left) _ _ _ (c .enum-told2 .given .1) (c .before .before .before .before .sample-all .ensures))
+    (λ c. let d = c .before .before .before .before .before .before in
+    settled-sampled _ _ (passes (d .before .before .before .before .before)) _ (d .before .before .before .counts-of .ensures .boards-are) _ (d .before .union .ensures) (d .if2 .left) _ _ _ (c .enum-told2 .given .1) (c .before .before .before .before .sample-all .ensures))
     (λ c κs. search needs)
     (λ c. search needs)
-    (λ c. let n = c .before .before .before .before .before .before .before .before .before .before .before .before .before .counts-of .ensures in
-    settled-stepped _ _ (passes (c .before .before .before .before .before .before .before .before .before .before .before .before .before .before .before)) _ (n .boards-are) _ (c .before .before .before .before .before .before .before .before .before .before .before .union .ensures) (c .before .before .before .before .before .before .before .before .before .before .if2 .left) _ _ _ _ _ (n .slots-are) (c .before .before .before .before .enum-told .given .1) (c .before .before .before .before .before .before .before .before .sample-all .ensures) (c .before .before .step-all .ensures)))
+    (λ c. let d = c .before .before .before .before .before .before .before .before .before .before in let n = d .before .before .before .counts-of .ensures in
+    settled-stepped _ _ (passes (d .before .before .before .before .before)) _ (n .boards-are) _ (d .before .union .ensures) (d .if2 .left) _ _ _ _ _ (n .slots-are) (c .before .before .before .before .enum-told .given .1) (c .before .before .before .before .before .before .before .before .sample-all .ensures)
+    (c .before .before .step-all .ensures)))
