@@ -29,8 +29,8 @@ put-stepped-spec =
     (λ c. let x = c .before .span-of .ensures in simp length-set (omega arith))
     (λ c κs. lent-begins (c .before .before .before .before .before .pre .0) (c .before .before .before .before .before .pre .1) (c .before .before .span-of .ensures))
     (λ c. let x = lies (c .before .before .before .before .before .before .before .before .before) in omega arith)
-    (λ c. let few = count-few (c .before .before .before .before .before .before .before .before .before .pre .0) (c .before .before .before .before .before .before .before .before .before .pre .1) (c .before .before .before .before .before .before .span-of .ensures) (c .before .before .before .rewrite .ensures) in omega arith)
+    (λ c. let d = c .before .before .before in let p = d .before .before .before .before .before .before .pre in let few = count-few (p .0) (p .1) (d .before .before .before .span-of .ensures) (d .rewrite .ensures) in omega arith)
     (λ c κs. let x = lies (c .before .before .before .before .before .before .before .before .before) in let a = c .before .before .before .before .before .before .before .before .before .args in let g = c .before .before .s .given .1 in
     omega (arith, length-set (a .s .now) (16 + 17 * a .c .boards + 6 * a .k + 1) 1))
     (λ c. c .before .before .put-u16 .kept .0 ∙ c .before .before .before .before .before .s .given .1 ∙ simp length-set)
-    (λ c. c .before .before .put-u16 .ensures ∙ put-done (c .before .before .before .before .before .before .before .before .before .before .before .before .pre .0) (c .before .before .before .before .before .before .before .before .before .before .before .before .pre .1) (c .before .before .before .before .before .before .before .before .before .span-of .ensures) (c .before .before .before .before .before .before .rewrite .ensures) _ refl))
+    (λ c. let d = c .before .before .before .before .before .before in let p = d .before .before .before .before .before .before .pre in c .before .before .put-u16 .ensures ∙ put-done (p .0) (p .1) (d .before .before .before .span-of .ensures) (d .rewrite .ensures) _ refl))
