@@ -2,11 +2,12 @@
 -- state that passes is known to be (`passed-..`). Assumes nothing.
 use mathlib.Core.Path.{_≡_, refl, sym, ap, ap₂, _∙_}
 use mathlib.Core.Bool.{Bool, true, false}
-use mathlib.Core.List.{List, [], _∷_}
-use Prim.Native.Nat.{ℕ, zero, suc}
+use mathlib.Core.List.{List}
+use Prim.Native.Nat.{ℕ}
 use native.Mathlib.Omega.{arith}
 use lib.ListN.{length, getD}
-use borrow.Author.Tests.{eqb-true, eq-eqb}
+use lib.Dec.{eqb}
+use borrow.Author.Tests.{eqb-true, eq-eqb, ne-eqb}
 use Rattle.lists.specs.Tests.{both}
 use Rattle.lists.proofs.Tests.{both-0, both-1}
 use Rattle.masks.specs.Masks.{sumOnes}
@@ -15,21 +16,8 @@ use Rattle.state.specs.Calls.{finishedIn}
 use Rattle.state.specs.Clauses.{eachBelow, eachTrue, distinct, holdersIn, isConstantIn, boardOk, recordOk, gapOk, headerOk, masksOk, restOk, clauses, stateOk}
 use Rattle.checking.specs.Header.{Header, Sized}
 use Rattle.checking.specs.Slotted.{formulasOk}
-use Rattle.checking.proofs.Each.{both-false, both-last, range-most}
+use Rattle.checking.proofs.Each.{both-false, both-last, one-false, one-true, range-most}
 use Rattle.checking.proofs.Forming.{formulaTest}
-
--- ---- a list of tests
-one-false : (bs : List Bool) (i : ℕ) → getD bs i true ≡ false → eachTrue bs ≡ false
-unfolding eachTrue both
-one-false [] i e = e
-one-false (b ∷ bs) zero e = rw e
-one-false (b ∷ bs) (suc i) e = ap (both b) (one-false bs i e) ∙ both-false b
-
-one-true : (bs : List Bool) (i : ℕ) → eachTrue bs ≡ true → getD bs i true ≡ true
-unfolding eachTrue
-one-true [] i e = refl
-one-true (b ∷ bs) zero e = both-0 b (eachTrue bs) e
-one-true (b ∷ bs) (suc i) e = one-true bs i (both-1 b (eachTrue bs) e)
 
 -- ---- the clauses by their places
 pub clause-fails : (s : List ℕ) (i : ℕ) → getD (clauses s) i true ≡ false → stateOk s ≡ false
@@ -108,7 +96,15 @@ passed-length s e = eqb-true (length s) stateLength (clause-holds s 0 e)
 pub passed-start : (s : List ℕ) → stateOk s ≡ true → startIn s 0 ≡ 0
 passed-start s e = eqb-true (startIn s 0) 0 (clause-holds s 4 e)
 
--- ---- one slot that is not stepped is finished where it is a constant
+-- ---- finished: one slot, not stepped, that is a constant
+pub finished-many : (s : List ℕ) → (slotsIn s ≡ 1 → ⊥) → false ≡ finishedIn s
+unfolding finishedIn both
+finished-many s h = rw (ne-eqb (slotsIn s) 1 h)
+
+pub finished-stepped : (s : List ℕ) → (steppedIn s 0 ≡ 0 → ⊥) → false ≡ finishedIn s
+unfolding finishedIn both
+finished-stepped s h = rw (ne-eqb (steppedIn s 0) 0 h) (sym (both-false (eqb (slotsIn s) 1)))
+
 pub finished-is : (s : List ℕ) → slotsIn s ≡ 1 → steppedIn s 0 ≡ 0 → isConstantIn s 0 ≡ finishedIn s
 unfolding finishedIn both
 finished-is s e f = rw (eq-eqb (slotsIn s) 1 e, eq-eqb (steppedIn s 0) 0 f)

@@ -14,7 +14,7 @@ use lib.Dec.{eqb}
 use borrow.Author.Tests.{lt-ltb}
 use Rattle.lists.specs.Tests.{pick, both, either, bit}
 use Rattle.lists.proofs.Tests.{no-true, pick-elim}
-use Rattle.ltl.specs.Formula.{Formula, size, Within, over}
+use Rattle.ltl.specs.Formula.{Formula, size, Within}
 use Rattle.ltl.specs.Text.{textOf}
 use Rattle.ltl.proofs.Texts.{text-is, length-encode, over-within}
 use Rattle.network.specs.Tick.{holdsOnly}
@@ -85,10 +85,10 @@ module _ (s : List ℕ) (p k seen : ℕ) where
         go true e h = clause-stepped e h
         go false e h = clause-unstepped e
 
-  pub held-passed : (settled : ℕ) → Settled s settled → length (slotBytes s k) ≡ lengthIn s k → sampledFor s k ≡ true
-      → pass (allowedIn s p settled k) (slotBytes s k) (at 1 0 seen) ≡ heldIn s p k seen
+  pub held-passed : (settled : ℕ) → Settled s settled → length (slotBytes s k) ≡ lengthIn s k → sampledFor s k ≡ true → {a : Allowed} → a ≡ allowedIn s p settled k
+      → pass a (slotBytes s k) (at 1 0 seen) ≡ heldIn s p k seen
   unfolding heldIn pick
-  held-passed settled are long h = pass-is (allowedIn s p settled k) (slotBytes s k) seen ∙ go (textOf (slotBytes s k)) refl
+  held-passed settled are long h so = ap (λ (x : Allowed). pass x (slotBytes s k) (at 1 0 seen)) so ∙ pass-is (allowedIn s p settled k) (slotBytes s k) seen ∙ go (textOf (slotBytes s k)) refl
     where
       go : (x : Option Formula) → textOf (slotBytes s k) ≡ x → checkedText (allowedIn s p settled k) x seen ≡ pick (formulaOk s p k x) (noted (heldOf x) seen) Wrong
       go none e = refl
@@ -106,9 +106,9 @@ pub record Seen (s : List ℕ) (p k seen : ℕ) : Type 0 where
   pub each : eachBelow k (formulaTest s p) ≡ true
   pub holders : noted (holdersIn s k) 0 ≡ Slots seen
 
-pub seen-none : (s : List ℕ) (p : ℕ) → Seen s p 0 0
+pub seen-none : {s : List ℕ} {p : ℕ} → Seen s p 0 0
 unfolding noted holdersIn
-seen-none s p = record { each = each-none (formulaTest s p); holders = refl }
+seen-none {s} {p} = record { each = each-none (formulaTest s p); holders = refl }
 
 holders-more : (s : List ℕ) (k : ℕ) → noted (holdersIn s (suc k)) 0 ≡ thereafter (noted (holdersIn s k) 0) (λ x. noted (heldOf (formulaIn s k)) x)
 unfolding holdersIn
@@ -122,10 +122,10 @@ holders-wrong s (suc n) k l e =
     (λ q. holders-more s n ∙ ap (λ (h : Held). thereafter h (λ x. noted (heldOf (formulaIn s n)) x)) (holders-wrong s n k (omega arith) e))
     (eq-or-lt-of-le l)
 
-module _ (s : List ℕ) (p k seen : ℕ) (known : Seen s p k seen) where
-  pub seen-more : (x : ℕ) → heldIn s p k seen ≡ Slots x → Seen s p (k + 1) x
+module _ {s : List ℕ} {p k seen : ℕ} (known : Seen s p k seen) where
+  pub seen-more : {x : ℕ} → heldIn s p k seen ≡ Slots x → Seen s p (k + 1) x
   unfolding heldIn pick
-  seen-more x h = go (formulaTest s p k) refl h
+  seen-more {x} h = go (formulaTest s p k) refl h
     where
       go : (b : Bool) → formulaTest s p k ≡ b → pick b (noted (heldOf (formulaIn s k)) seen) Wrong ≡ Slots x → Seen s p (k + 1) x
       go true e q =
@@ -137,9 +137,9 @@ module _ (s : List ℕ) (p k seen : ℕ) (known : Seen s p k seen) where
           }
       go false e q = absurd (wrong-slots x q)
 
-  pub seen-wrong : (n : ℕ) → k < n → heldIn s p k seen ≡ Wrong → formulasOk s p n ≡ false
+  pub seen-wrong : (n : ℕ) → k < n → heldIn s p k seen ≡ Wrong → false ≡ formulasOk s p n
   unfolding heldIn formulasOk pick both isSlots
-  seen-wrong n l h = go (formulaTest s p k) refl h
+  seen-wrong n l h = sym (go (formulaTest s p k) refl h)
     where
       go : (b : Bool) → formulaTest s p k ≡ b → pick b (noted (heldOf (formulaIn s k)) seen) Wrong ≡ Wrong → both (eachBelow n (formulaTest s p)) (distinct (holdersIn s n)) ≡ false
       go true e q =
@@ -148,6 +148,9 @@ module _ (s : List ℕ) (p k seen : ℕ) (known : Seen s p k seen) where
           ap (both (eachBelow n (formulaTest s p))) d ∙ both-false (eachBelow n (formulaTest s p))
       go false e q = ap (λ (b : Bool). both b (distinct (holdersIn s n))) (each-false (formulaTest s p) k n l e)
 
-  pub seen-all : formulasOk s p k ≡ true
+  pub seen-all : (n : ℕ) → k ≤ n → n ≤ k → true ≡ formulasOk s p n
   unfolding formulasOk both isSlots
-  seen-all = rw (known .each) (sym (noted-distinct (holdersIn s k)) ∙ ap isSlots (known .holders))
+  seen-all n l h =
+      let e : k ≡ n = omega arith in
+      let all : formulasOk s p k ≡ true = rw (known .each) (sym (noted-distinct (holdersIn s k)) ∙ ap isSlots (known .holders)) in
+      sym (ap (formulasOk s p) (sym e) ∙ all)

@@ -68,13 +68,10 @@ module _ (s xs ys : List ℕ) (a b : ℕ) (apart : a + length xs ≤ b) (room : 
       (ap₂ drop end whole ∙ drop-append-add low behind (between + length ys) ∙ drop-drop (between + length ys) (a + length xs) s ∙ ap (λ (i : ℕ). drop i s) last))
 
 -- ---- a slot
-module _ {s : List ℕ} {b n m k : ℕ} (c : Counted s b n m) (l : k < n) (seen : Seen) where
+module _ {s : List ℕ} {b n m k : ℕ} (c : Counted s b n m) (l : k < n) where
   -- the state with the slot's mark set
   abbrev marked : List ℕ
   marked = set s (16 + 17 * b + 6 * k + 1) 1
-
-  abbrev result : Formula
-  result = settled seen (formulaAt s k)
 
   there : k < slotsIn s
   there = let e = c .header .slots-are in omega arith
@@ -95,7 +92,10 @@ module _ {s : List ℕ} {b n m k : ℕ} (c : Counted s b n m) (l : k < n) (seen 
     pub lent-begins : Begins lent
     lent-begins = record { formula = formulaAt s k; rest = []; front = lent-front }
 
-    module _ (y : List ℕ) (w : ℕ) (r : Rewritten seen lent y w) where
+    module _ {seen : Seen} {y : List ℕ} {w : ℕ} (r : Rewritten seen lent y w) where
+      abbrev result : Formula
+      result = settled seen (formulaAt s k)
+
       count-is : w ≡ size result
       count-is = r .count (formulaAt s k) [] lent-front
 

@@ -1,4 +1,4 @@
--- The pass over a slot's bytes sees what the slot sees: one turn (`sight-next`, `sight-wait`, `sight-end`), and a whole slot
+-- The pass over a slot's bytes sees what the slot sees: turn by turn (`Going` and its laws), and a whole slot
 -- (`sight-unsampled`, `sight-sampled`). Assumes nothing.
 use mathlib.Core.Path.{_≡_, refl, sym, ap, _∙_}
 use mathlib.Core.Bool.{Bool, true, false}
@@ -43,15 +43,9 @@ module _ (s : List ℕ) where
         ap (λ (l : List ℕ). sightOver s l x) (drop-cons p i 0 h) ∙ over-cons (getD p i 0) (drop (suc i) p) x
         ∙ ap (λ (j : ℕ). goOn (sightAfter s (getD p i 0) x) (λ y. sightOver s (drop j p) y)) (sym (add-one i))
 
-    pub sight-next : i < length p → (y : Seen) → sightAfter s (getD p i 0) x ≡ Sees y → sightOver s (drop i p) x ≡ sightOver s (drop (i + 1) p) y
-    sight-next h y e = turn h ∙ ap (λ (z : Sight). goOn z (λ y. sightOver s (drop (i + 1) p) y)) e
-
-    pub sight-wait : i < length p → sightAfter s (getD p i 0) x ≡ Waits → sightOver s (drop i p) x ≡ Waits
-    sight-wait h e = turn h ∙ ap (λ (z : Sight). goOn z (λ y. sightOver s (drop (i + 1) p) y)) e
-
-    pub sight-end : length p ≤ i → sightOver s (drop i p) x ≡ Sees x
+    end : length p ≤ i → sightOver s (drop i p) x ≡ Sees x
     unfolding sightOver
-    sight-end h = ap (λ (l : List ℕ). sightOver s l x) (drop-of-length-le p h)
+    end h = ap (λ (l : List ℕ). sightOver s l x) (drop-of-length-le p h)
 
   -- ---- behind one node
   pub after-low : (b : ℕ) (x : Seen) → b < 128 → sightAfter s b x ≡ Sees x
@@ -122,3 +116,24 @@ module _ (s : List ℕ) where
         ap (λ (l : List ℕ). sightOver s l x) (q .bytes ∙ sym (append-nil (encode f)))
         ∙ over-formula f [] x (q .coded)
         ∙ ap (λ (b : Bool). pick (both b (holdsOnly stepped f)) (Sees (seenBy s k)) Waits) (sym (eq-eqb (sampledIn s (boardOfIn s k)) 1 e))
+
+-- ---- the loop of the pass: from i on it sees what all of it does
+pub record Going (s p : List ℕ) (all : Sight) (i : ℕ) (x : Seen) : Type 0 where
+  pub inside : i ≤ length p
+  pub same : all ≡ sightOver s (drop i p) x
+
+pub going-begins : {s p : List ℕ} {x : Seen} → Going s p (sightOver s p x) 0 x
+going-begins = record { inside = omega arith; same = refl }
+
+module _ {s p : List ℕ} {all : Sight} {i : ℕ} {x : Seen} (g : Going s p all i x) where
+  go-on : i < length p → (z : Sight) → z ≡ sightAfter s (getD p i 0) x → all ≡ goOn z (λ y. sightOver s (drop (i + 1) p) y)
+  go-on h z e = g .same ∙ turn s p i x h ∙ ap (λ (z : Sight). goOn z (λ y. sightOver s (drop (i + 1) p) y)) (sym e)
+
+  pub going-more : i < length p → {z : Sight} → z ≡ sightAfter s (getD p i 0) x → {y : Seen} → z ≡ Sees y → Going s p all (i + 1) y
+  going-more h e f = record { inside = omega arith; same = go-on h _ (sym f ∙ e) }
+
+  pub going-waits : i < length p → {z : Sight} → z ≡ sightAfter s (getD p i 0) x → z ≡ Waits → Waits ≡ all
+  going-waits h e f = sym (go-on h _ (sym f ∙ e))
+
+  pub going-ends : length p ≤ i → Sees x ≡ all
+  going-ends h = sym (g .same ∙ end s p i x h)

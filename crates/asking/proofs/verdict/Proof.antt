@@ -1,6 +1,9 @@
 -- One law of proofs/Outcomes.antt for each verdict. Assumes nothing.
-use mathlib.Core.Path.{sym, _∙_}
+use mathlib.Core.Path.{_≡_, sym, _∙_}
+use mathlib.Core.Bool.{true}
 use borrow.Author.Tests.{not-true, not-false}
+use Rattle.state.specs.Calls.{finishedIn}
+use Rattle.checking.specs.Header.{Sized}
 use Rattle.checking.proofs.Assembled.{passed-length, passed-sized}
 use Rattle.asking.proofs.Outcomes.{verdict-pending, verdict-true, verdict-false}
 use native.Mathlib.Omega.{arith}
@@ -8,47 +11,24 @@ use borrow.Author.Needs.{needs}
 use Rattle.asking.proofs.verdict.Statement.{statement}
 use Rattle.asking.proofs.verdict.Tie as tie
 
-finished-requires : tie.Need-finished-requires
-finished-requires c κs = search needs
+-- behind the first test the watch is finished; with the counts, the state's numbers are known
+over : (c : tie.Else1) → finishedIn (c .before .before .before .args .s .now) ≡ true
+over c = sym (c .before .finished .ensures) ∙ not-false _ (c .if1 .left)
 
-returns : tie.Need-returns
-returns c = verdict-pending (c .before .before .before .args .s .now) (sym (c .before .finished .ensures) ∙ not-true (c .before .finished .result) (c .if1 .taken))
-
-counts-of-requires : tie.Need-counts-of-requires
-counts-of-requires c κs = passed-length (c .before .before .before .args .s .now) (c .before .before .before .pre)
-
-mul-if2 : tie.Need-mul-if2
-mul-if2 c = let z = passed-sized (c .before .before .before .before .before .args .s .now) (c .before .counts-of .result .boards) (c .before .counts-of .result .slots) (c .before .counts-of .result .nodes) (c .before .before .before .before .before .pre) (c .before .counts-of .ensures) in omega arith
-
-add-if2 : tie.Need-add-if2
-add-if2 c = let z = passed-sized (c .before .before .before .before .before .args .s .now) (c .before .counts-of .result .boards) (c .before .counts-of .result .slots) (c .before .counts-of .result .nodes) (c .before .before .before .before .before .pre) (c .before .counts-of .ensures) in omega arith
-
-mul-if2-2 : tie.Need-mul-if2-2
-mul-if2-2 c = let z = passed-sized (c .before .before .before .before .before .before .args .s .now) (c .before .before .counts-of .result .boards) (c .before .before .counts-of .result .slots) (c .before .before .counts-of .result .nodes) (c .before .before .before .before .before .before .pre) (c .before .before .counts-of .ensures) in omega arith
-
-add-if2-2 : tie.Need-add-if2-2
-add-if2-2 c = let z = passed-sized (c .before .before .before .before .before .before .args .s .now) (c .before .before .counts-of .result .boards) (c .before .before .counts-of .result .slots) (c .before .before .counts-of .result .nodes) (c .before .before .before .before .before .before .pre) (c .before .before .counts-of .ensures) in omega arith
-
-shared-slice-read-if2 : tie.Need-shared-slice-read-if2
-shared-slice-read-if2 c = let z = passed-sized (c .before .before .before .before .before .before .before .args .s .now) (c .before .before .before .counts-of .result .boards) (c .before .before .before .counts-of .result .slots) (c .before .before .before .counts-of .result .nodes) (c .before .before .before .before .before .before .before .pre) (c .before .before .before .counts-of .ensures) in omega arith
-
-returns-2 : tie.Need-returns-2
-returns-2 c = verdict-true (c .before .before .before .before .before .before .before .before .args .s .now) (c .before .before .before .before .counts-of .result .boards) (c .before .before .before .before .counts-of .result .slots) (c .before .before .before .before .counts-of .result .nodes) (c .before .before .before .before .before .before .before .before .pre) (c .before .before .before .before .counts-of .ensures) (sym (c .before .before .before .before .before .before .finished .ensures) ∙ not-false (c .before .before .before .before .before .before .finished .result) (c .before .before .before .before .before .if1 .left)) (c .if2 .taken)
-
-returns-3 : tie.Need-returns-3
-returns-3 c = verdict-false (c .before .before .before .before .before .before .before .before .args .s .now) (c .before .before .before .before .counts-of .result .boards) (c .before .before .before .before .counts-of .result .slots) (c .before .before .before .before .counts-of .result .nodes) (c .before .before .before .before .before .before .before .before .pre) (c .before .before .before .before .counts-of .ensures) (sym (c .before .before .before .before .before .before .finished .ensures) ∙ not-false (c .before .before .before .before .before .before .finished .result) (c .before .before .before .before .before .if1 .left)) (c .if2 .left)
+sized : (c : tie.After-counts-of) → let n = c .counts-of .result in Sized (c .before .before .before .before .args .s .now) (n .boards) (n .slots) (n .nodes)
+sized c = passed-sized _ _ _ _ (c .before .before .before .before .pre) (c .counts-of .ensures)
 
 pub verdict-spec : {M : Type 1} → statement M
 verdict-spec =
     tie.close
     (tie.spec
-    finished-requires
-    returns
-    counts-of-requires
-    mul-if2
-    add-if2
-    mul-if2-2
-    add-if2-2
-    shared-slice-read-if2
-    returns-2
-    returns-3)
+    (λ c κs. search needs)
+    (λ c. verdict-pending _ (sym (c .before .finished .ensures) ∙ not-true _ (c .if1 .taken)))
+    (λ c κs. passed-length _ (c .before .before .before .pre))
+    (λ c. let z = sized (c .before) in omega arith)
+    (λ c. let z = sized (c .before) in omega arith)
+    (λ c. let z = sized (c .before .before) in omega arith)
+    (λ c. let z = sized (c .before .before) in omega arith)
+    (λ c. let z = sized (c .before .before .before) in omega arith)
+    (λ c. verdict-true _ _ _ _ (c .before .before .before .before .before .before .before .before .pre) (c .before .before .before .before .counts-of .ensures) (over (c .before .before .before .before .before)) (c .if2 .taken))
+    (λ c. verdict-false _ _ _ _ (c .before .before .before .before .before .before .before .before .pre) (c .before .before .before .before .counts-of .ensures) (over (c .before .before .before .before .before)) (c .if2 .left)))

@@ -16,62 +16,23 @@ Inv-loop state₀ boards event i₀ state i = (length state ≡ length state₀)
 abbrev μ-loop : tie.MeasureT-loop
 μ-loop state₀ boards event i₀ state i = boards - i
 
-loop-holds : tie.Need-loop-holds Inv-loop μ-loop
-loop-holds c = (refl, ap (λ (n : ℕ). sampledFrom n (c .before .args .event) 0 (c .before .args .state .now)) (sub-zero (c .before .args .boards)))
-
-mask-of-requires : tie.Need-mask-of-requires Inv-loop μ-loop
-mask-of-requires c κs = search needs
-
-sample-requires : tie.Need-sample-requires Inv-loop μ-loop
-sample-requires c κs = search needs
-
-enum-told : tie.Need-enum-told Inv-loop μ-loop
-enum-told c = search needs
-
-enum-told-2 : tie.Need-enum-told-2 Inv-loop μ-loop
-enum-told-2 c = search needs
-
-same-length : tie.Need-same-length Inv-loop μ-loop
-same-length c = search needs
-
-returns : tie.Need-returns Inv-loop μ-loop
-returns c =
-    comes-by _ _ (c .before .before .before .before .sample .last .0) (c .before .before .before .before .sample .result) (c .before .before .before .before .before .before .before .before .before .loop .inv .1)
-    (sampled-ends (c .before .before .before .before .before .before .before .before .before .loop .state) (c .before .before .before .before .sample .last .0) (c .before .before .before .before .before .before .before .before .before .before .before .args .boards) (c .before .before .before .before .before .before .before .before .before .loop .i) (c .before .before .before .before .before .before .before .before .before .before .before .args .event) _ (c .before .before .before .before .before .before .before .before .loop-test .taken) (ap (bitAnd (c .before .before .before .before .before .before .before .before .before .before .before .args .event)) (c .before .before .before .before .before .mask-of .ensures)) (c .before .before .before .before .sample .result) (c .enum-told2 .given .0 .0) (c .enum-told2 .given .1) (c .before .before .before .before .sample .ensures))
-
-add-i : tie.Need-add-i Inv-loop μ-loop
-add-i c = search needs
-
-loop-less : tie.Need-loop-less Inv-loop μ-loop
-loop-less c = search needs
-
-loop-again : tie.Need-loop-again Inv-loop μ-loop
-loop-again c = (
-  c .before .before .before .before .sample .kept .0 ∙ c .before .before .before .before .before .before .before .before .before .loop .inv .0,
-  sym (sampled-more (c .before .before .before .before .before .before .before .before .before .loop .state) (c .before .before .before .before .sample .last .0) (c .before .before .before .before .before .before .before .before .before .before .before .args .boards) (c .before .before .before .before .before .before .before .before .before .loop .i) (c .before .before .before .before .before .before .before .before .before .before .before .args .event) _ (c .before .before .before .before .before .before .before .before .loop-test .taken) (ap (bitAnd (c .before .before .before .before .before .before .before .before .before .before .before .args .event)) (c .before .before .before .before .before .mask-of .ensures)) (c .before .before .before .before .sample .result) (c .enum-told .given .1) (c .before .before .before .before .sample .ensures)) ∙ c .before .before .before .before .before .before .before .before .before .loop .inv .1,
-)
-
-same-length-2 : tie.Need-same-length-2 Inv-loop μ-loop
-same-length-2 c = search needs
-
-returns-2 : tie.Need-returns-2 Inv-loop μ-loop
-returns-2 c = comes-by _ _ (c .before .loop .state) _ (c .before .loop .inv .1) (sampled-all (c .before .loop .state) (c .before .before .before .args .boards) (c .before .loop .i) (c .before .before .before .args .event) (c .loop-test .left))
-
 pub sample-all-spec : {M : Type 1} → statement M
 sample-all-spec =
     tie.close
     (tie.spec
     Inv-loop
     μ-loop
-    loop-holds
-    mask-of-requires
-    sample-requires
-    enum-told
-    enum-told-2
-    same-length
-    returns
-    add-i
-    loop-less
-    loop-again
-    same-length-2
-    returns-2)
+    (λ c. let a = c .before .args in (refl, ap (λ (n : ℕ). sampledFrom n (a .event) 0 (a .state .now)) (sub-zero (a .boards))))
+    (λ c κs. search needs)
+    (λ c κs. search needs)
+    (λ c. search needs)
+    (λ c. search needs)
+    (λ c. search needs)
+    (λ c. let part = ap (bitAnd (c .before .before .before .before .before .before .before .before .before .before .before .args .event)) (c .before .before .before .before .before .mask-of .ensures) in
+    comes-by _ _ _ _ (c .before .before .before .before .before .before .before .before .before .loop .inv .1) (sampled-ends _ _ _ _ _ _ (c .before .before .before .before .before .before .before .before .loop-test .taken) part _ _ (c .enum-told2 .given .1) (c .before .before .before .before .sample .ensures)))
+    (λ c. search needs)
+    (λ c. search needs)
+    (λ c. let part = ap (bitAnd (c .before .before .before .before .before .before .before .before .before .before .before .args .event)) (c .before .before .before .before .before .mask-of .ensures) in let i = c .before .before .before .before .before .before .before .before .before .loop .inv in
+    (c .before .before .before .before .sample .kept .0 ∙ i .0, sym (sampled-more _ _ _ _ _ _ (c .before .before .before .before .before .before .before .before .loop-test .taken) part _ (c .enum-told .given .1) (c .before .before .before .before .sample .ensures)) ∙ i .1))
+    (λ c. search needs)
+    (λ c. comes-by _ _ _ _ (c .before .loop .inv .1) (sampled-all _ _ _ _ (c .loop-test .left))))

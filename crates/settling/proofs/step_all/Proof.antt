@@ -14,58 +14,20 @@ Inv-loop state₀ slots left₀ state left = (length state ≡ length state₀) 
 abbrev μ-loop : tie.MeasureT-loop
 μ-loop state₀ slots left₀ state left = left
 
-loop-holds : tie.Need-loop-holds Inv-loop μ-loop
-loop-holds c = (refl, refl)
-
-sub-left : tie.Need-sub-left Inv-loop μ-loop
-sub-left c = search needs
-
-step-requires : tie.Need-step-requires Inv-loop μ-loop
-step-requires c κs = search needs
-
-enum-told : tie.Need-enum-told Inv-loop μ-loop
-enum-told c = search needs
-
-loop-less : tie.Need-loop-less Inv-loop μ-loop
-loop-less c = search needs
-
-loop-again : tie.Need-loop-again Inv-loop μ-loop
-loop-again c = (
-  c .before .before .before .before .step .kept .0 ∙ c .before .before .before .before .before .before .before .loop .inv .0,
-  sym (stepped-more (c .before .before .before .before .before .before .before .loop .state) (c .before .before .before .before .step .last .0) (c .before .before .before .before .before .before .before .loop .left) _ (omega arith) (c .before .before .before .before .step .result) (c .enum-told .given .1) (c .before .before .before .before .step .ensures)) ∙ c .before .before .before .before .before .before .before .loop .inv .1,
-)
-
-enum-told-2 : tie.Need-enum-told-2 Inv-loop μ-loop
-enum-told-2 c = search needs
-
-same-length : tie.Need-same-length Inv-loop μ-loop
-same-length c = search needs
-
-returns : tie.Need-returns Inv-loop μ-loop
-returns c =
-    comes-by _ _ (c .before .before .before .before .step .last .0) (c .before .before .before .before .step .result) (c .before .before .before .before .before .before .before .loop .inv .1)
-    (stepped-ends (c .before .before .before .before .before .before .before .loop .state) (c .before .before .before .before .step .last .0) (c .before .before .before .before .before .before .before .loop .left) _ (omega arith) (c .before .before .before .before .step .result) (c .enum-told2 .given .0 .0) (c .enum-told2 .given .1) (c .before .before .before .before .step .ensures))
-
-same-length-2 : tie.Need-same-length-2 Inv-loop μ-loop
-same-length-2 c = search needs
-
-returns-2 : tie.Need-returns-2 Inv-loop μ-loop
-returns-2 c = comes-by _ _ (c .before .loop .state) _ (c .before .loop .inv .1) (stepped-all (c .before .loop .state) (c .before .loop .left) (omega arith))
-
 pub step-all-spec : {M : Type 1} → statement M
 step-all-spec =
     tie.close
     (tie.spec
     Inv-loop
     μ-loop
-    loop-holds
-    sub-left
-    step-requires
-    enum-told
-    loop-less
-    loop-again
-    enum-told-2
-    same-length
-    returns
-    same-length-2
-    returns-2)
+    (λ c. (refl, refl))
+    (λ c. search needs)
+    (λ c κs. search needs)
+    (λ c. search needs)
+    (λ c. search needs)
+    (λ c. let l = c .before .before .before .before .before .before .before .loop in (c .before .before .before .before .step .kept .0 ∙ l .inv .0, sym (stepped-more _ _ (l .left) _ (omega arith) _ (c .enum-told .given .1) (c .before .before .before .before .step .ensures)) ∙ l .inv .1))
+    (λ c. search needs)
+    (λ c. search needs)
+    (λ c. let l = c .before .before .before .before .before .before .before .loop in comes-by _ _ _ _ (l .inv .1) (stepped-ends _ _ (l .left) _ (omega arith) _ _ (c .enum-told2 .given .1) (c .before .before .before .before .step .ensures)))
+    (λ c. search needs)
+    (λ c. let l = c .before .loop in comes-by _ _ _ _ (l .inv .1) (stepped-all _ (l .left) (omega arith))))

@@ -6,18 +6,11 @@ use borrow.Author.Needs.{needs}
 use Rattle.stepping.proofs.seeing.answer_of.Statement.{statement}
 use Rattle.stepping.proofs.seeing.answer_of.Tie as tie
 
-span-of-requires : tie.Need-span-of-requires
-span-of-requires c κs = placed (c .before .pre .0) (c .before .pre .1)
-
-shared-slice-read-verdict : tie.Need-shared-slice-read-verdict
-shared-slice-read-verdict c = let x = c .before .span-of .ensures in let y = lying (c .before .before .before .pre .0) (c .before .before .before .pre .1) in omega arith
-
-verdict-requires : tie.Need-verdict-requires
-verdict-requires c κs = search needs
-
-returns : tie.Need-returns
-returns c = c .verdict .ensures ∙ answer-is (c .before .before .before .before .pre .0) (c .before .before .before .before .pre .1) (c .before .before .span-of .ensures)
-
 pub answer-of-spec : {M : Type 1} → statement M
 answer-of-spec =
-    tie.close (tie.spec span-of-requires shared-slice-read-verdict verdict-requires returns)
+    tie.close
+    (tie.spec
+    (λ c κs. placed (c .before .pre .0) (c .before .pre .1))
+    (λ c. let x = c .before .span-of .ensures in let y = lying (c .before .before .before .pre .0) (c .before .before .before .pre .1) in omega arith)
+    (λ c κs. search needs)
+    (λ c. c .verdict .ensures ∙ answer-is (c .before .before .before .before .pre .0) (c .before .before .before .before .pre .1) (c .before .before .span-of .ensures)))
