@@ -50,7 +50,7 @@ header-ok-spec =
     (λ c. search needs)
     (λ c. search needs)
     (λ c. let h = slots-few (c .before .before .before .before .before .before .before .before .before .before) in omega arith)
-    (λ c. let g = boards-few (c .before .before .before .before .before .before .before .before .before .before .before .before) in let h = slots-few (c .before .before .before .before .before .before .before .before .before .before) in omega arith)
-    (λ c. let d = c .before .before .before .before .before .before in
+    (λ c. let d = c .before .before .before .before .before .before .before .before .before .before in let g = boards-few (d .before .before) in let h = slots-few d in omega arith)
+    (λ c. let d = c .before .before .before .before .before .before in let e = d .before .before in let f = e .before .before in let g = f .before .before in
     rw (c .before .before .u16-at3 .ensures)
-    (header-last (c .before .before .before .before .before .before .before .before .before .before .before .before .before .before .before .pre .1) (boards-in (c .before .before .before .before .before .before .before .before .before .before .before .before)) (slots-in (c .before .before .before .before .before .before .before .before .before .before)) (nodes-in (c .before .before .before .before .before .before .before .before)) (sym (d .before .u16-at .ensures) ∙ d .if4 .left) (sym (c .before .before .before .before .before .u16-at2 .ensures) ∙ c .before .before .before .if5 .left))))
+    (header-last (g .before .before .before .pre .1) (boards-in g) (slots-in f) (nodes-in e) (sym (d .before .u16-at .ensures) ∙ d .if4 .left) (sym (c .before .before .before .before .before .u16-at2 .ensures) ∙ c .before .before .before .if5 .left))))
