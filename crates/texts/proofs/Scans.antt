@@ -1,5 +1,5 @@
 -- The pass over the bytes finds exactly a rule's formula: `scan-is`. A formula in front takes one operand off what is owed
--- (`scan-encode`), and where the pass succeeds a formula stands in front (`scan-leading`). Assumes nothing.
+-- (`scan-encode`), and where the pass succeeds a formula stands in front (`scan-leading`). The loop is by `Owing` and its laws. Assumes nothing.
 use mathlib.Core.Path.{_≡_, refl, sym, ap, _∙_}
 use mathlib.Core.Bool.{Bool, true, false}
 use mathlib.Core.List.{List, [], _∷_, _++_, append-assoc, append-nil}
@@ -24,6 +24,7 @@ use Rattle.ltl.specs.Formula.{Formula, leaf, one, two, encode, Within}
 use Rattle.ltl.specs.Text.{textOf, overAlone, textOver}
 use Rattle.lists.proofs.Tests.{no-true, test-eq}
 use Rattle.ltl.proofs.Texts.{text-of, text-is, over-within, within-over}
+use Rattle.texts.specs.declared.Owed.{Owed}
 use Rattle.texts.specs.declared.Owed.the-variants.{Operands, Broken}
 use Rattle.texts.specs.Scan.{owedAfter, goOn, scan}
 
@@ -143,7 +144,7 @@ scan-is p z l = test-eq (scan p z l 1) (textOver p z l) (scan-text p z l) (text-
 
 -- ---- one turn of the loop, over plain lists
 module _ (p z : ℕ) (s : List ℕ) (i owed : ℕ) where
-  pub turn-over : i < length s → owed ≡ 0 → scan p z (drop i s) owed ≡ false
+  turn-over : i < length s → owed ≡ 0 → scan p z (drop i s) owed ≡ false
   unfolding scan
   turn-over h e = rw (drop-cons s i 0 h, e)
 
@@ -156,7 +157,7 @@ module _ (p z : ℕ) (s : List ℕ) (i owed : ℕ) where
     pub turn-on : (n : ℕ) → owedAfter p z (kindOf (getD s i 0)) (owed - 1) ≡ Operands n → scan p z (drop i s) owed ≡ scan p z (drop (i + 1) s) n
     turn-on n e = turn ∙ rw e
 
-    pub turn-broken : owedAfter p z (kindOf (getD s i 0)) (owed - 1) ≡ Broken → scan p z (drop i s) owed ≡ false
+    turn-broken : owedAfter p z (kindOf (getD s i 0)) (owed - 1) ≡ Broken → scan p z (drop i s) owed ≡ false
     turn-broken e = turn ∙ rw e
 
   pub turn-end : length s ≤ i → scan p z (drop i s) owed ≡ eqb owed 0
@@ -180,3 +181,30 @@ owed-bound p z (Zero (Hold k)) n m e = go (ltb k z) e
 owed-bound p z (One o) n m e = let q : n + 1 ≡ m = cc in omega arith
 owed-bound p z (Two o) n m e = let q : n + 2 ≡ m = cc in omega arith
 owed-bound p z NoCode n m e = absurd (let z : _≡_ {A = ℕ} 0 1 = cc in omega arith)
+
+-- ---- the loop: the pass from i on, with what is owed there, answers as the whole does
+pub record Owing (p z : ℕ) (s : List ℕ) (i owed : ℕ) : Type 0 where
+  pub inside : i ≤ length s
+  pub few : owed ≤ i + 1
+  pub same : textOver p z s ≡ scan p z (drop i s) owed
+
+pub owing-begins : {p z : ℕ} {s : List ℕ} → Owing p z s 0 1
+owing-begins {p} {z} {s} = record { inside = omega arith; few = omega arith; same = sym (scan-is p z s) }
+
+module _ {p z : ℕ} {s : List ℕ} {i owed : ℕ} (o : Owing p z s i owed) where
+  pub owing-over : i < length s → owed ≡ 0 → false ≡ textOver p z s
+  owing-over h e = sym (o .same ∙ turn-over p z s i owed h e)
+
+  pub owing-ends : length s ≤ i → eqb owed 0 ≡ textOver p z s
+  owing-ends h = sym (o .same ∙ turn-end p z s i owed h)
+
+  -- what is owed behind the node at i, as a function answers it
+  module _ (h : i < length s) (some : owed ≡ 0 → ⊥) {k : Kind} (kind : k ≡ kindOf (getD s i 0)) {w : Owed} (is : w ≡ owedAfter p z k (owed - 1)) where
+    pub owing-more : {n : ℕ} → w ≡ Operands n → Owing p z s (i + 1) n
+    owing-more {n} e =
+        let q : owedAfter p z (kindOf (getD s i 0)) (owed - 1) ≡ Operands n = rw kind at (sym is ∙ e) in
+        let b = owed-bound p z (kindOf (getD s i 0)) (owed - 1) n q in
+        record { inside = omega arith; few = omega arith; same = o .same ∙ turn-on p z s i owed h some n q }
+
+    pub owing-broken : w ≡ Broken → false ≡ textOver p z s
+    owing-broken e = sym (o .same ∙ turn-broken p z s i owed h some (rw kind at (sym is ∙ e)))

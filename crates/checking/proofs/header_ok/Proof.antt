@@ -12,7 +12,7 @@ use borrow.Author.Needs.{needs}
 use Rattle.checking.proofs.header_ok.Statement.{statement}
 use Rattle.checking.proofs.header_ok.Tie as tie
 
--- behind the tests of the boards and of the slots: each count is in its range
+-- behind the tests of the counts: each is in its range
 boards-in : (c : tie.Else1) → inRange 16 (c .before .before .before .args .c .boards) ≡ true
 boards-in c = sym (c .before .in-range .ensures) ∙ not-false _ (c .if1 .left)
 
@@ -24,6 +24,9 @@ slots-in c = sym (c .before .in-range2 .ensures) ∙ not-false _ (c .if2 .left)
 
 slots-few : (c : tie.Else2) → c .before .before .before .before .before .args .c .slots ≤ 64
 slots-few c = range-most 64 _ (slots-in c)
+
+nodes-in : (c : tie.Else3) → inRange 4096 (c .before .before .before .before .before .before .before .args .c .nodes) ≡ true
+nodes-in c = sym (c .before .in-range3 .ensures) ∙ not-false _ (c .if3 .left)
 
 pub header-ok-spec : {M : Type 1} → statement M
 header-ok-spec =
@@ -47,5 +50,7 @@ header-ok-spec =
     (λ c. search needs)
     (λ c. search needs)
     (λ c. let h = slots-few (c .before .before .before .before .before .before .before .before .before .before) in omega arith)
-    (λ c. let g = boards-few (c .before .before .before .before .before .before .before .before .before .before .before .before) in let h = slots-few (c .before .before .before .before .before .before .before .before .before .before) in omega arith)
-    (λ c. rw (c .before .before .u16-at3 .ensures) (header-last (c .before .before .before .before .before .before .before .before .before .before .before .before .before .before .before .pre .1) (boards-in (c .before .before .before .before .before .before .before .before .before .before .before .before)) (slots-in (c .before .before .before .before .before .before .before .before .before .before)) (sym (c .before .before .before .before .before .before .before .before .before .in-range3 .ensures) ∙ not-false _ (c .before .before .before .before .before .before .before .before .if3 .left)) (sym (c .before .before .before .before .before .before .before .u16-at .ensures) ∙ c .before .before .before .before .before .before .if4 .left) (sym (c .before .before .before .before .before .u16-at2 .ensures) ∙ c .before .before .before .if5 .left))))
+    (λ c. let d = c .before .before .before .before .before .before .before .before .before .before in let g = boards-few (d .before .before) in let h = slots-few d in omega arith)
+    (λ c. let d = c .before .before .before .before .before .before in let e = d .before .before in let f = e .before .before in let g = f .before .before in
+    rw (c .before .before .u16-at3 .ensures)
+    (header-last (g .before .before .before .pre .1) (boards-in g) (slots-in f) (nodes-in e) (sym (d .before .u16-at .ensures) ∙ d .if4 .left) (sym (c .before .before .before .before .before .u16-at2 .ensures) ∙ c .before .before .before .if5 .left))))

@@ -13,10 +13,12 @@ use Rattle.checking.proofs.record_ok.Statement.{statement}
 use Rattle.checking.proofs.record_ok.Tie as tie
 
 -- behind all tests but the last
-last : (c : tie.Else4) → let a = c .before .before .before .before .before .before .before .before .before .before .before .before .args in either (eqb (getD (a .s .now) (16 + 17 * a .c .boards + 6 * a .k + 1) 0) 1) (eqb (c .before .before .slot-end .result) (c .before .stretch-end .result)) ≡ recordOk (a .s .now) (a .k)
+last : (c : tie.Else4) → let a = c .before .before .before .before .before .before .before .before .before .before .before .before .args in
+    either (eqb (getD (a .s .now) (16 + 17 * a .c .boards + 6 * a .k + 1) 0) 1) (eqb (c .before .before .slot-end .result) (c .before .stretch-end .result)) ≡ recordOk (a .s .now) (a .k)
 last c =
     let r = c .before .before .before .before .u16-at .ensures in let l = c .before .before .before .if3 .left in
-    record-last _ _ _ (c .before .before .before .before .before .before .before .before .before .before .before .before .pre .0 .header .boards-are) _ _ (c .before .before .slot-end .ensures .0) (c .before .stretch-end .ensures .0) (c .before .before .before .before .before .before .if1 .left) (c .before .before .before .before .before .if2 .left) (omega arith) (c .if4 .left)
+    record-last _ _ _ (c .before .before .before .before .before .before .before .before .before .before .before .before .pre .0 .header .boards-are) _ _ (c .before .before .slot-end .ensures .0) (c .before .stretch-end .ensures .0)
+    (c .before .before .before .before .before .before .if1 .left) (c .before .before .before .before .before .if2 .left) (omega arith) (c .if4 .left)
 
 pub record-ok-spec : {M : Type 1} → statement M
 record-ok-spec =

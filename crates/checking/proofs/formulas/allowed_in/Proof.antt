@@ -10,11 +10,11 @@ use Rattle.checking.proofs.formulas.allowed_in.Tie as tie
 
 returns : tie.Need-returns
 unfolding allowedIn pick
-returns c = rw (← c .before .before .before .before .before .before .before .before .pre .sized .header .boards-are, ← c .before .before .before .before .before .before .before .before .pre .sized .header .slots-are, eq-eqb _ _ (c .before .before .if1 .taken), ← c .before .u16-at .ensures, ← c .before .before .before .before .u64-at .ensures, ← c .own-stepped .ensures)
+returns c = let h = c .before .before .before .before .before .before .before .before .pre .sized .header in rw (← h .boards-are, ← h .slots-are, eq-eqb _ _ (c .before .before .if1 .taken), ← c .before .u16-at .ensures, ← c .before .before .before .before .u64-at .ensures, ← c .own-stepped .ensures)
 
 returns-2 : tie.Need-returns-2
 unfolding allowedIn pick
-returns-2 c = rw (← c .before .before .before .before .before .before .pre .sized .header .boards-are, ← c .before .before .before .before .before .before .pre .sized .header .slots-are, ne-eqb _ _ (c .if1 .left), ← c .before .before .u64-at .ensures)
+returns-2 c = let h = c .before .before .before .before .before .before .pre .sized .header in rw (← h .boards-are, ← h .slots-are, ne-eqb _ _ (c .if1 .left), ← c .before .before .u64-at .ensures)
 
 pub allowed-in-spec : {M : Type 1} → statement M
 allowed-in-spec =

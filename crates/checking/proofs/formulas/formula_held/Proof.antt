@@ -16,4 +16,6 @@ formula-held-spec =
     (λ c. sym (held-unsampled _ _ _ _ (sym (c .before .sampled-for .ensures) ∙ not-true _ (c .if1 .taken))))
     (λ c κs. search needs)
     (λ c κs. let a = c .before .before .before .before .pre in let e = a .0 .sized .header .slots-are in (a .0, allowed-fitted _ _ _ _ _ (c .allowed-in .ensures) (a .1) (omega arith)))
-    (λ c. c .slot-held .ensures ∙ held-passed _ _ _ _ _ (c .before .before .before .before .before .pre .2) (bytes-length _ _ _ _ _ (c .before .before .before .before .before .pre .0)) (sym (c .before .before .before .sampled-for .ensures) ∙ not-false _ (c .before .before .if1 .left)) (c .before .allowed-in .ensures)))
+    (λ c.
+    c .slot-held .ensures
+    ∙ held-passed _ _ _ _ _ (c .before .before .before .before .before .pre .2) (bytes-length _ _ _ _ _ (c .before .before .before .before .before .pre .0)) (sym (c .before .before .before .sampled-for .ensures) ∙ not-false _ (c .before .before .if1 .left)) (c .before .allowed-in .ensures)))

@@ -4,17 +4,11 @@ use Rattle.kinds.proofs.Codes.{kind-low, kind-prop, kind-hold, kind-hig
 use Rattle.kinds.proofs.Kind.of_range.Statement.{statement}
 use Rattle.kinds.proofs.Kind.of_range.Tie as tie
 
-returns : tie.Need-returns
-returns c = sym (kind-low _ (c .before .pre) (c .if1 .taken))
-
-returns-2 : tie.Need-returns-2
-returns-2 c = sym (kind-prop _ (c .before .if1 .left) (c .if2 .taken))
-
-returns-3 : tie.Need-returns-3
-returns-3 c = sym (kind-hold _ (c .before .if2 .left) (c .if3 .taken))
-
-returns-4 : tie.Need-returns-4
-returns-4 c = sym (kind-high _ (c .if3 .left))
-
 pub of-range-spec : {M : Type 1} → statement M
-of-range-spec = tie.close (tie.spec returns returns-2 returns-3 returns-4)
+of-range-spec =
+    tie.close
+    (tie.spec
+    (λ c. sym (kind-low _ (c .before .pre) (c .if1 .taken)))
+    (λ c. sym (kind-prop _ (c .before .if1 .left) (c .if2 .taken)))
+    (λ c. sym (kind-hold _ (c .before .if2 .left) (c .if3 .taken)))
+    (λ c. sym (kind-high _ (c .if3 .left))))
