@@ -61,13 +61,20 @@ module _ {test : ℕ → Bool} {n i : ℕ} (t : Through test n i) where
   pub through-all : n ≤ i → true ≡ eachBelow n test
   through-all l = let e : i ≡ n = omega arith in sym (ap (λ (j : ℕ). eachBelow j test) (sym e) ∙ t .all)
 
-  -- the test of i, as a function answers it
-  module _ (l : i < n) {b : Bool} (e : b ≡ test i) where
-    pub through-more : not b ≡ false → Through test n (i + 1)
-    through-more h = record { inside = omega arith; all = each-more test i (t .all) (sym e ∙ not-false b h) }
+  module _ (l : i < n) where
+    pub through-on : test i ≡ true → Through test n (i + 1)
+    through-on h = record { inside = omega arith; all = each-more test i (t .all) h }
 
-    pub through-not : not b ≡ true → false ≡ eachBelow n test
-    through-not h = sym (each-false test i n l (sym e ∙ not-true b h))
+    pub through-off : test i ≡ false → false ≡ eachBelow n test
+    through-off h = sym (each-false test i n l h)
+
+    -- the test of i, as a function answers it
+    module _ {b : Bool} (e : b ≡ test i) where
+      pub through-more : not b ≡ false → Through test n (i + 1)
+      through-more h = through-on (sym e ∙ not-false b h)
+
+      pub through-not : not b ≡ true → false ≡ eachBelow n test
+      through-not h = through-off (sym e ∙ not-true b h)
 
 -- the last of some tests
 pub both-last : (a : Bool) → a ≡ both a true

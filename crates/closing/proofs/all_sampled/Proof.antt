@@ -2,14 +2,15 @@
 use Prim.Native.Nat.{_-_}
 use mathlib.Core.Path.{refl}
 use Rattle.state.specs.Fields.{sampledIn}
-use Rattle.closing.proofs.Flags.{AllSet, flags-none, flags-more, flag-missing, flags-all}
+use Rattle.checking.proofs.Each.{Through, through-none}
+use Rattle.closing.proofs.Flags.{isSet, flags-more, flag-missing, flags-all}
 use native.Mathlib.Omega.{arith}
 use borrow.Author.Needs.{needs}
 use Rattle.closing.proofs.all_sampled.Statement.{statement}
 use Rattle.closing.proofs.all_sampled.Tie as tie
 
 abbrev Inv-loop : tie.InvT-loop
-Inv-loop s n i₀ i = AllSet (sampledIn s) n i
+Inv-loop s n i₀ i = Through (isSet (sampledIn s)) n i
 
 abbrev μ-loop : tie.MeasureT-loop
 μ-loop s n i₀ i = n - i
@@ -20,13 +21,13 @@ all-sampled-spec =
     (tie.spec
     Inv-loop
     μ-loop
-    (λ c. flags-none _ _)
+    (λ c. through-none)
     (λ c. let a = c .before .before .pre in omega arith)
     (λ c. let a = c .before .before .pre in omega arith)
     (λ c. let a = c .before .before .pre in omega arith)
     (λ c. let a = c .before .before .before .pre in omega arith)
-    (λ c. flag-missing (c .before .before .before .loop .inv) (c .before .before .before .before .pre .header .boards-are) (c .before .before .loop-test .taken) refl (c .if1 .taken))
+    (λ c. flag-missing (sampledIn (c .before .before .before .before .args .s .now)) (c .before .before .before .loop .inv) (c .before .before .before .before .pre .header .boards-are) (c .before .before .loop-test .taken) refl (c .if1 .taken))
     (λ c. search needs)
     (λ c. search needs)
-    (λ c. flags-more (c .before .before .before .loop .inv) (c .before .before .loop-test .taken) refl (c .if1 .left))
-    (λ c. flags-all (c .before .loop .inv) (c .before .before .pre .header .boards-are) (c .loop-test .left)))
+    (λ c. flags-more (sampledIn (c .before .before .before .before .args .s .now)) (c .before .before .before .loop .inv) (c .before .before .loop-test .taken) refl (c .if1 .left))
+    (λ c. flags-all (sampledIn (c .before .before .args .s .now)) (c .before .loop .inv) (c .before .before .pre .header .boards-are) (c .loop-test .left)))

@@ -3,14 +3,15 @@ use Prim.Native.Nat.{ℕ, _+_, _*_, _-_}
 use mathlib.Core.Path.{_≡_, ap}
 use lib.ListN.{getD}
 use Rattle.state.specs.Fields.{steppedIn}
-use Rattle.closing.proofs.Flags.{AllSet, flags-none, flags-more, flag-missing, flags-all}
+use Rattle.checking.proofs.Each.{Through, through-none}
+use Rattle.closing.proofs.Flags.{isSet, flags-more, flag-missing, flags-all}
 use native.Mathlib.Omega.{arith}
 use borrow.Author.Needs.{needs}
 use Rattle.closing.proofs.all_stepped.Statement.{statement}
 use Rattle.closing.proofs.all_stepped.Tie as tie
 
 abbrev Inv-loop : tie.InvT-loop
-Inv-loop s n slots k₀ k = AllSet (steppedIn s) n k
+Inv-loop s n slots k₀ k = Through (isSet (steppedIn s)) n k
 
 abbrev μ-loop : tie.MeasureT-loop
 μ-loop s n slots k₀ k = n - k
@@ -27,13 +28,13 @@ all-stepped-spec =
     μ-loop
     (λ c. let a = c .before .pre in omega arith)
     (λ c. let a = c .before .pre in omega arith)
-    (λ c. flags-none _ _)
+    (λ c. through-none)
     (λ c. let a = c .before .before .before .pre in omega arith)
     (λ c. let a = c .before .before .before .pre in omega arith)
     (λ c. let a = c .before .before .before .pre in omega arith)
     (λ c. let a = c .before .before .before .before .pre in omega arith)
-    (λ c. flag-missing (c .before .before .before .loop .inv) (c .before .before .before .before .before .pre .header .slots-are) (c .before .before .loop-test .taken) (flag-is (c .before .before)) (c .if1 .taken))
+    (λ c. flag-missing (steppedIn (c .before .before .before .before .before .args .s .now)) (c .before .before .before .loop .inv) (c .before .before .before .before .before .pre .header .slots-are) (c .before .before .loop-test .taken) (flag-is (c .before .before)) (c .if1 .taken))
     (λ c. search needs)
     (λ c. search needs)
-    (λ c. flags-more (c .before .before .before .loop .inv) (c .before .before .loop-test .taken) (flag-is (c .before .before)) (c .if1 .left))
-    (λ c. flags-all (c .before .loop .inv) (c .before .before .before .pre .header .slots-are) (c .loop-test .left)))
+    (λ c. flags-more (steppedIn (c .before .before .before .before .before .args .s .now)) (c .before .before .before .loop .inv) (c .before .before .loop-test .taken) (flag-is (c .before .before)) (c .if1 .left))
+    (λ c. flags-all (steppedIn (c .before .before .before .args .s .now)) (c .before .loop .inv) (c .before .before .before .pre .header .slots-are) (c .loop-test .left)))
