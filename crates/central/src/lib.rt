@@ -1,7 +1,6 @@
 // The call `central`: a whole rule progressed in one place. One walk counts what the formula unfolds to, one unfolds it into the
 // output, and one resolves it there.
 ghost use mathlib.Core.Path.{_≡_};
-ghost use Prim.Native.Nat.{ℕ, _≤_};
 ghost use lib.ListN.{length};
 ghost use Rattle.central.specs.Central.{lengthsOk, verdictByte, Progressable, ProgressedTo, Centrally};
 use answers::Refusal;

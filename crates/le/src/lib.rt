@@ -1,7 +1,7 @@
 // Little-endian numbers in a byte slice, once over the width. The calls of a fixed width need no proof of their own.
 ghost use mathlib.Core.Path.{_≡_};
 ghost use mathlib.Core.List.{_++_};
-ghost use Prim.Native.Nat.{ℕ, _+_, _-_, _*_, _<_, _≤_, _^_};
+ghost use Prim.Native.Nat.{_+_, _-_, _*_, _<_, _≤_, _^_};
 ghost use lib.ListN.{length, take, drop};
 ghost use Rattle.lists.specs.Listed.{listed};
 ghost use Rattle.le.specs.Le.{le, leAt};

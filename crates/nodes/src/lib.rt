@@ -1,5 +1,4 @@
 // Where a formula in prefix bytes ends.
-ghost use mathlib.Core.Path.{_≡_};
 ghost use Rattle.nodes.specs.Begins.{Begins, Ends};
 use kinds::Kind;
 

@@ -2,8 +2,7 @@
 // from the front, so that what a resolved operand frees is filled by the next one at once. A result may begin behind the front:
 // the byte of an operator that gave way to its operand is left out and not moved over.
 ghost use mathlib.Core.Path.{_≡_};
-ghost use mathlib.Core.Bool.{Bool};
-ghost use Prim.Native.Nat.{ℕ, _+_, _<_};
+ghost use Prim.Native.Nat.{_+_, _<_};
 ghost use lib.ListN.{drop};
 ghost use Rattle.lists.specs.Tests as tests;
 ghost use Rattle.kinds.specs.declared.Leaf.the-variants.{Const, Hold};

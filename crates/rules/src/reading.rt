@@ -1,6 +1,6 @@
 // The call `read`: a rule file's counts, masks and formula, or the refusal.
 ghost use mathlib.Core.Path.{_≡_};
-ghost use Prim.Native.Nat.{ℕ, _≤_};
+ghost use Prim.Native.Nat.{_≤_};
 ghost use lib.ListN.{length};
 ghost use Rattle.ltl.specs.Limits.{boardsMost, ruleNodesMost};
 ghost use Rattle.lists.specs.Runs.{padded};

@@ -1,7 +1,7 @@
 // The call `write`: a rule's file, or the refusal.
 ghost use mathlib.Core.Path.{_≡_};
 ghost use mathlib.Core.List.{_++_};
-ghost use Prim.Native.Nat.{ℕ, _*_, _≤_};
+ghost use Prim.Native.Nat.{_*_, _≤_};
 ghost use lib.ListN.{length, drop};
 ghost use Rattle.ltl.specs.Limits.{boardsMost, ruleNodesMost};
 ghost use Rattle.rules.specs.RuleFile.{masksAt, header, maskBytes};

@@ -2,17 +2,16 @@
 // proposition's board is looked up in a table of owners, which `owners` fills from the boards' masks.
 ghost use mathlib.Core.Path.{_≡_};
 ghost use mathlib.Core.Option.{none};
-ghost use Prim.Native.Nat.{ℕ, _+_, _<_, _≤_, _^_};
+ghost use Prim.Native.Nat.{ℕ, _+_, _<_, _≤_};
 ghost use lib.ListN.{length, getD};
 ghost use Rattle.lists.specs.Tests.{pick, bit};
 ghost use Rattle.kinds.specs.Kinds.{leafWithin};
-ghost use Rattle.ltl.specs.Formula.{leaf};
 ghost use Rattle.ltl.specs.Limits.{boardsMost, nodesMost};
 ghost use Rattle.network.specs.Scores.{highest};
 ghost use Rattle.nodes.specs.Begins.{Begins};
 ghost use Rattle.scores.specs.Scored.{oneScored, added, countsBelow, Few, boardOf};
 ghost use Rattle.scores.specs.Owned.{Table, Owns, ownerOf};
-ghost use Rattle.scores.specs.Tallies.{Counted, Tallies};
+ghost use Rattle.scores.specs.Tallies.{Tallies};
 use kinds::Kind;
 use kinds::Leaf;
 

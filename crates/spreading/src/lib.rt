@@ -1,6 +1,5 @@
 // The slots that are reached from a network's root, unfolded one behind the other and marked, each on its board, so that they can be
 // laid again: at each place holder the mark says how far on its slot stands.
-ghost use mathlib.Core.Path.{_≡_};
 ghost use Rattle.spreading.specs.Spreads.{SlotAsk, PutsSlot, SpreadAsk, Spreads};
 use checking::Counts;
 use checking::Span;

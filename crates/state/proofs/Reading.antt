@@ -14,7 +14,7 @@ use Rattle.ltl.specs.Formula.{size, encode, Within}
 use Rattle.ltl.specs.Text.{textOf, someFormula}
 use Rattle.ltl.proofs.Texts.{length-encode, text-of}
 use Rattle.network.specs.Layout.{Slot, slotAt}
-use Rattle.state.specs.Fields.{stateLength, boardsIn, slotsIn, nodesIn, boardsAt, slotsAt, nodesAt, boardOfIn, steppedIn, startIn, lengthIn, slotBytes, formulaIn}
+use Rattle.state.specs.Fields.{stateLength, boardsIn, slotsIn, nodesIn, slotsAt, nodesAt, boardOfIn, steppedIn, startIn, lengthIn, slotBytes, formulaIn}
 use Rattle.state.specs.Bytes.{nodesOf, header, boardRecords, slotRecords, nodeBytes, stateOf, slotIn, networkOf}
 use Rattle.state.proofs.Rows.{network-length, network-at}
 

@@ -1,7 +1,6 @@
 // Whether bytes are one whole formula: one pass with a count of the operands still owed.
 ghost use mathlib.Core.Path.{_≡_};
-ghost use Prim.Native.Nat.{ℕ, _+_, _<_, _^_};
-ghost use Rattle.kinds.specs.Kinds.{kindOf};
+ghost use Prim.Native.Nat.{_+_, _<_, _^_};
 ghost use Rattle.ltl.specs.Text.{textOver, ruleText};
 ghost use Rattle.texts.specs.Scan.{owedAfter};
 use kinds::Kind;

@@ -1,6 +1,5 @@
 -- Seven puts, each behind the last (`header-put`). Assumes nothing.
 use Rattle.le.proofs.Header.{header-put}
-use native.Mathlib.Omega.{arith}
 use borrow.Author.Needs.{needs}
 use Rattle.le.proofs.put_header.Statement.{statement}
 use Rattle.le.proofs.put_header.Tie as tie
