@@ -1,5 +1,5 @@
 -- What may stand in a slot's formula, clause by clause: the one test of the pass is the clauses of the state check together
--- (`stands-is`), for a slot that is stepped (`stands-stepped`) and for one that is not (`stands-unstepped`). Assumes nothing.
+-- (`stands-is`; `stands-so` with the last two as they are for a slot that is stepped, or for one that is not). Assumes nothing.
 use mathlib.Core.Path.{_≡_, refl, sym, ap, ap₂, _∙_}
 use mathlib.Core.Bool.{Bool, true, false, not}
 use Prim.Native.Nat.{ℕ, _-_, _^_, _<_}

@@ -1,5 +1,5 @@
 -- A laid network keeps the values of what it was laid from. Each slot is laid from a formula, its origin; an environment that gives
--- each new slot the value of its origin gives every slot's formula that value too (`laid-keeps`). Assumes nothing.
+-- each new slot the value of its origin gives every slot's formula that value too (`From`, `modelled`). Assumes nothing.
 use mathlib.Core.Path.{_≡_, refl, sym, ap, ap₂, _∙_, subst}
 use mathlib.Core.Bool.{false}
 use mathlib.Core.List.{List, [], _∷_, _++_}

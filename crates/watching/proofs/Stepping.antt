@@ -1,4 +1,4 @@
--- What an accepted step writes: it touches its slot's mark, length and nodes alone (`step-framed`, `step-board`, `step-slot`), and the slot
+-- What an accepted step writes: it touches its slot's mark, length and nodes alone (`step-framed`, `step-sample`, `step-slot`), and the slot
 -- is then stepped and holds what it became, with zeros behind it in its stretch (`step-mark`, `step-length`, `step-bytes`, `step-gap`).
 -- Assumes nothing.
 use mathlib.Core.Path.{_≡_, refl, sym, ap, ap₂, _∙_}
