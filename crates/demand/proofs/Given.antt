@@ -10,25 +10,22 @@ use native.Mathlib.Decide.{ℕ-discrete}
 use native.Mathlib.Omega.{arith}
 use borrow.Author.Tests.{eqb-true, ltb-true}
 use Rattle.answers.specs.declared.Refusal.{Refusal}
-use Rattle.answers.specs.declared.Outcome.{Outcome}
 use Rattle.answers.specs.declared.Outcome.the-variants.{Refused, Done}
-use Rattle.answers.specs.Said.{Said, accepted, left, saidOutcome}
+use Rattle.answers.specs.Said.{Said, accepted, left}
 use Rattle.answers.proofs.Answers.{order-passed, left-accepted}
 use Rattle.ltl.specs.Formula.{Formula}
 use Rattle.ltl.specs.Meaning.{Event}
 use Rattle.network.specs.Scores.{sampleOf}
-use Rattle.state.specs.Fields.{boardsIn, slotsIn, maskIn, sampleIn, sampledIn, masksIn}
+use Rattle.state.specs.Fields.{boardsIn, slotsIn, maskIn, sampleIn, sampledIn}
 use Rattle.state.specs.Clauses.{inMask, stateOk}
-use Rattle.state.specs.Calls.{sampleSays, sampleLeaves, stepSays, stepLeaves, doneIn}
+use Rattle.state.specs.Calls.{sampleSays, stepSays, doneIn}
 use Rattle.watching.specs.Watch.{Saw}
 use Rattle.watching.proofs.InTick.{InTick, boards-kept}
 use Rattle.watching.proofs.Started.{Started, started-laid}
 use Rattle.watching.proofs.Ticked.{started-in-tick}
 use Rattle.watching.proofs.Sampling as sampling
 use Rattle.watching.proofs.Stepping as stepping
-use Rattle.sampling.specs.Sample.{Samples}
-use Rattle.stepping.specs.Step.{StepsSlot}
-use Rattle.demand.specs.Called.{Called, nothing, sampled, stepped, asked, closed, load-refused, close-refused, write-refused, central-refused, read-refused, Gave, GivenBy, SameGiven}
+use Rattle.demand.specs.Called.{Called, nothing, sampled, stepped, asked, closed, load-refused, close-refused, write-refused, central-refused, read-refused, Gave, GivenBy}
 use Rattle.demand.proofs.Calls.{called, refused-leaves}
 use Rattle.demand.proofs.Getting.{done-boards}
 

@@ -4,8 +4,7 @@
 use mathlib.Core.Path.{_≡_, refl, sym, ap, _∙_, subst}
 use mathlib.Core.List.{List, [], _∷_}
 use mathlib.Core.Logic.{⊎-elim}
-use Prim.Native.Nat.{ℕ, zero, suc}
-use native.Mathlib.Omega.{arith}
+use Prim.Native.Nat.{ℕ}
 use lib.ListN.{length, getD, replicate, length-replicate}
 use Rattle.lists.specs.Listed.{listed}
 use Rattle.answers.specs.declared.Refusal.{Refusal}
@@ -17,7 +16,7 @@ use Rattle.answers.proofs.Answers.{verdict-injective}
 use Rattle.le.specs.Le.{le, leAt}
 use Rattle.ltl.specs.Meaning.{Event, Trace, Satisfies, continued}
 use Rattle.network.specs.Scores.{sampleOf}
-use Rattle.state.specs.Fields.{stateLength, boardsIn}
+use Rattle.state.specs.Fields.{stateLength}
 use Rattle.state.specs.Calls.{sampleSays, stepSays, closeSays, loadedState}
 use Rattle.rules.specs.RuleFile as rule-file
 use Rattle.rules.specs.RuleFile.{maskBytes, fileOf}
