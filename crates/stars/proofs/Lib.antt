@@ -3,5 +3,6 @@ pub mod Progressions
 pub mod Layouts
 pub mod States
 pub mod Split
+pub mod Surviving
 pub mod Unsplit
 pub mod Stars
