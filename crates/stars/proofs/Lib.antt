@@ -4,5 +4,6 @@ pub mod Layouts
 pub mod States
 pub mod Split
 pub mod Surviving
+pub mod Renumbered
 pub mod Unsplit
 pub mod Stars
