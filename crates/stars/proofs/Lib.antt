@@ -5,5 +5,6 @@ pub mod States
 pub mod Split
 pub mod Surviving
 pub mod Renumbered
+pub mod Kept
 pub mod Unsplit
 pub mod Stars
