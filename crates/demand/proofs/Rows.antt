@@ -1,7 +1,6 @@
 -- Rows of the worked values as calls that their promises allow. `Part`: some calls of a tick under an event; `part-nothing` and the names
 -- below it put one call after the other, accepted or refused, each by its row. `part-ticks` closes the tick and `load-watches` begins a
--- watch, whatever the lent buffer held; `buffer` is one to lend. `ticks-give-same`: in two ticks under one event each board was given the
--- same. Assumes nothing.
+-- watch, both into `buffer`. `ticks-give-same`: in two ticks under one event each board was given the same. Assumes nothing.
 use mathlib.Core.Path.{_≡_, sym, ap, _∙_}
 use mathlib.Core.List.{List, []}
 use mathlib.Core.Logic.{⊎-elim}
