@@ -1,7 +1,7 @@
 -- A watch by the calls' promises that ends with false: always a, or always b, over two boards, under both, then a, then none. A slot lives
 -- through the first close and vanishes in the second. Loads and closes that are refused stand among the calls (`always-watched`). The first
--- tick is made in two orders, `samples-first` and `slot-first`, which leave the same bytes: by the third demand (`orders-same`, and of every
--- other order `any-order`) and by computing (`orders-computed`). Ask tells the verdict false (`always-told`), so that the rule is not met
+-- tick is made in two orders, `samples-first` and `slot-first`, which leave the same bytes; by the third demand so does every other order
+-- (`any-order`). Ask tells the verdict false (`always-told`), so that the rule is not met
 -- whatever comes then (`always-unmet`). The rows of the worked values are all that is computed here but the boards' parts of the events.
 -- Assumes nothing.
 use mathlib.Core.Path.{_≡_, refl, sym, ap, _∙_, subst}
@@ -17,7 +17,6 @@ use Rattle.le.specs.Le.{le, leAt}
 use Rattle.ltl.specs.Meaning.{Trace, Satisfies, continued}
 use Rattle.network.specs.Scores.{sampleOf}
 use Rattle.rules.specs.RuleFile.{masksIn, maskBytes, fileOf}
-use Rattle.state.specs.Calls.{closeLeaves}
 use Rattle.asking.specs.Ask.{Asks}
 use Rattle.asking.specs.declared.AskAnswer.{AskAnswer}
 use Rattle.asking.specs.declared.AskAnswer.the-variants.{Told}
@@ -83,18 +82,6 @@ slot-first = part-ticks slot-first-calls (asLaid 1 unsampled) (surviving .both-c
 -- by the third demand a tick under this event leaves these bytes, whatever was called in it and in whatever order
 pub any-order : (s′ : List ℕ) → Ticked masks start 3 s′ → s′ ≡ asLaid 1 unsampled
 any-order s′ x = demanded begun .same-bytes 3 3 s′ (asLaid 1 unsampled) x samples-first (ticks-give-same x samples-first)
-
--- what the close of a tick leaves by its definition
-abbrev leftBy : {s′ : List ℕ} → Ticked masks start 3 s′ → List ℕ
-leftBy x = closeLeaves (x .last) (x .second)
-
-pub orders-same : leftBy samples-first ≡ leftBy slot-first
-orders-same =
-    let e = demanded begun .same-bytes 3 3 _ _ samples-first slot-first (ticks-give-same samples-first slot-first) in
-    sym (samples-first .closes .leaves) ∙ e ∙ slot-first .closes .leaves
-
-pub orders-computed : leftBy samples-first ≡ leftBy slot-first
-orders-computed = refl
 
 -- ---- the second tick, under a, and the third, under none
 tick-a : Ticked masks (asLaid 1 unsampled) 1 (alone unsampled)
