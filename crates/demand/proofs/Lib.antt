@@ -13,6 +13,7 @@ pub mod OnePlace
 pub mod Allowed
 pub mod Settling
 pub mod Settled
+pub mod Ticking
 pub mod Rows
 pub mod Worked
 pub mod Surviving

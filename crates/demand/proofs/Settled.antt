@@ -1,5 +1,5 @@
 -- The run program's tick. Until a verdict, settling under an event that the boards' masks cover is accepted (`settle-gets`), and any other
--- event gets 12 (`settle-outside`). Where it is accepted each board was given its part of the event and the close is all that is left (`settle-reaches`).
+-- event gets 12 (`settle-outside`, `settle-stays`). Where it is accepted each board was given its part of the event and the close is all that is left (`settle-reaches`).
 -- So settling that was accepted and a close that was accepted are a tick under that event (`settle-ticks`). Assumes nothing.
 use mathlib.Core.Path.{_≡_, refl, sym, ap, _∙_, subst}
 use mathlib.Core.Bool.{true, false}
@@ -140,10 +140,13 @@ module _ (file : List ℕ) (us : List Event) (s : List ℕ) (w : Watched file us
     settle-reaches t answer c =
         subst (λ (u : List ℕ). Reaches masks s e u) (comes-determined (settledUnder s e) (far .last) t Done answer (far .comes) c .1) (reaches p masks (ruleIn file) us s start unfinished e far)
 
-  -- an event with a bit in no mask gets 12
+  -- an event with a bit in no mask gets 12, and the state stays
+  pub settle-stays : inMask e (unionWith 0 (masksIn s)) ≡ false → Comes (settledUnder s e) s (Refused Outside)
+  settle-stays outside = settled-outside s e (start .passes) (boardsIn s) refl (unionWith 0 (masksIn s)) refl (eqb-false _ _ outside)
+
   pub settle-outside : inMask e (unionWith 0 (masksIn s)) ≡ false → Gets (Comes (settledUnder s e)) (Refused Outside)
   settle-outside outside =
-      let c = settled-outside s e (start .passes) (boardsIn s) refl (unionWith 0 (masksIn s)) refl (eqb-false _ _ outside) in
+      let c = settle-stays outside in
       record { leaves = s; allowed = c; only = λ t answer d. comes-determined (settledUnder s e) t s answer (Refused Outside) d c .0 }
 
   pub settle-ticks : (t second s′ : List ℕ) → Comes (settledUnder s e) t Done → Closes t second s′ Done → Ticked masks s e s′
