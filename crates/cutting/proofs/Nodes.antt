@@ -1,10 +1,11 @@
--- A part's scores and cuts by its top node: `parted-..`; and how large they are (`unfolded-few`, `joinable`). Assumes nothing.
+-- A part's scores and cuts by its top node: `parted-..`; and how large they are (`unfolded-few`, `joinable`, `joins-few`). Assumes nothing.
 use mathlib.Core.Path.{_≡_, refl, sym, ap, ap₂, _∙_}
 use mathlib.Core.List.{List}
 use mathlib.Core.Logic.{inl, inr}
 use mathlib.Core.Option.{none}
-use Prim.Native.Nat.{ℕ, _+_, _*_, _<_, _≤_}
+use Prim.Native.Nat.{ℕ, _+_, _*_, _<_, _≤_, _^_}
 use native.Mathlib.Omega.{arith}
+use lib.ListN.{getD}
 use Rattle.kinds.specs.declared.Leaf.{Leaf}
 use Rattle.kinds.specs.declared.Unary.the-variants.{Not, Next, Eventually, Always}
 use Rattle.kinds.specs.declared.Join.{Join}
@@ -16,6 +17,7 @@ use Rattle.network.specs.Scores.{highest, chosen}
 use Rattle.scores.specs.Scored.{countsBelow}
 use Rattle.scores.specs.Owned.{Owned}
 use Rattle.scores.specs.Tallies.{Counted}
+use Rattle.scores.proofs.Added.{added-few}
 use Rattle.scores.proofs.Counting.{counted-one, counted-two, counted-chosen}
 use Rattle.cutting.specs.declared.Part.{Part}
 use Rattle.cutting.specs.Cuts.{lookedAs, cutsOn, codeOf, choiceOf, placeOf, cutBy, lookedCuts, Lies, Parted, Bare, Joinable, Joins}
@@ -100,3 +102,15 @@ joinable h k l =
       scores = λ i. (let x = h .scored .few i in let y = k .scored .few i in omega arith);
       cuts = let x = h .few in let y = k .few in omega arith;
     }
+
+-- what an operand and the copy of an until are below; three times that is below countsBelow
+abbrev pub untilBelow : ℕ
+untilBelow = 2 ^ 25
+
+pub joins-few : {a b : Part} {on : ℕ} {r : Part} → Joins a b on r → ((i : ℕ) → (getD (a .scores .counts) i 0 < untilBelow) × (getD (b .scores .counts) i 0 < untilBelow)) → (i : ℕ)
+    → (getD (r .scores .counts) i 0 ≤ 2 * untilBelow) × (r .cuts ≤ a .cuts + b .cuts + 2)
+joins-few {a} {b} {on} {r} e l i =
+    let board = placeOf on (r .scores .counts) in (
+      rw (e .scores) (added-few (a .scores .counts) (b .scores .counts) untilBelow untilBelow (2 * untilBelow) (λ j. (let x = l j in omega arith)) (λ j. (let x = l j in omega arith)) (omega arith) i),
+      omega (arith, e .cuts, cut-few (a .choice) board, cut-few (b .choice) board),
+    )

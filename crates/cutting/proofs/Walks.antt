@@ -26,7 +26,7 @@ use Rattle.scores.proofs.Counting.{counted-leaf, counted-one, counted-two}
 use Rattle.cutting.specs.declared.Part.{Part}
 use Rattle.cutting.specs.declared.Counted.{Counted}
 use Rattle.cutting.specs.Cuts.{placeOf, lookedCuts, Parted, Walked, Bare, OverNone, Cutting, Joinable, Joins, Countable, OverOne, Pairable, OverTwo}
-use Rattle.cutting.proofs.Nodes.{parted-leaf, parted-next, parted-not, parted-joined, unfolded-few, joinable}
+use Rattle.cutting.proofs.Nodes.{parted-leaf, parted-next, parted-not, parted-joined, unfolded-few, untilBelow, joinable}
 
 pub walked-leaf : {owner s rest : List ℕ} {f : Formula} {a : Leaf} {i on : ℕ} {r : Counted} → Parts s rest f (Zero a) → i ≡ ownerOf owner a → OverNone i r
     → Walked owner f on r
@@ -97,16 +97,17 @@ module _ {a c : Counted} (p : Pairable a c) where
   pub both-joinable : Joinable (a .part) (c .part)
   both-joinable = joinable (p .walked-left .parted) (p .walked-right .parted) (let y = few-left in let z = few-right in omega arith)
 
-  module _ {x : Part} (b : Bare x (added (a .raw .counts) (c .raw .counts))) where
-    copied : Parted (p .owner) (one Next (two Until (p .left) (p .right))) boardsMost x
-    copied = parted-next b (two Until (p .left) (p .right)) (raw-two (p .walked-left) (p .walked-right) Until refl)
-
-    pub copy-joinable : Joinable (a .part) x
-    copy-joinable = joinable (p .walked-left .parted) copied (let y = few-left in omega arith)
-
-    pub until-joinable : {y : Part} → Joins (a .part) x boardsMost y → Joinable (c .part) y
-    until-joinable s =
-        joinable (p .walked-right .parted) (parted-joined And (p .walked-left .parted) copied s) (let u = few-left in let v = few-right in omega arith)
+  -- the copy and both operands, whichever of them it is joined with first
+  pub until-few : {x : Part} → Bare x (added (a .raw .counts) (c .raw .counts)) → (i : ℕ)
+      → (getD (a .part .scores .counts) i 0 + getD (c .part .scores .counts) i 0 + getD (x .scores .counts) i 0 < untilBelow)
+      × (a .part .cuts + c .part .cuts + x .cuts < untilBelow)
+  until-few b i =
+      let u = few-left in
+      let v = few-right in
+      let l = p .walked-left .parted in
+      let r = p .walked-right .parted in
+      let copied = parted-next {on = boardsMost} b (two Until (p .left) (p .right)) (raw-two (p .walked-left) (p .walked-right) Until refl) in
+      (omega (arith, l .scored .few i, r .scored .few i, copied .scored .few i), omega (arith, l .few, r .few, copied .few))
 
 -- ---- the walk
 pub walked-over-one : {owner s rest : List ℕ} {f : Formula} {o : Unary} {a : Counted} {on : ℕ} {r : Counted} → Single s rest f o → Cutting owner (tail 1 s) boardsMost a → OverOne o a on r

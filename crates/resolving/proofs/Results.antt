@@ -1,5 +1,5 @@
 -- A result that stands somewhere in a buffer, moved to the front and the rest cleared: `rewrite-done`. `Result`, made by
--- `rewrite-result`, has the numbers of where it stands. Assumes nothing.
+-- `rewrite-result`, has the numbers of where it stands, and of where reading ended. Assumes nothing.
 use mathlib.Core.Path.{_≡_, sym, ap, _∙_}
 use mathlib.Core.List.{List, _++_}
 use Prim.Native.Nat.{ℕ, _-_, _<_, _≤_}
@@ -19,7 +19,8 @@ use Rattle.resolving.proofs.Places.{stands-length, stands-bounds}
 pub record Result (g : Formula) (p : List ℕ) (at : Settled) : Type 0 where
   pub order : at .start ≤ at .end
   pub length-is : at .end - at .start ≡ size g
-  pub within : at .end ≤ length p
+  pub ends : at .end ≤ at .next
+  pub within : at .next ≤ length p
   pub some : 0 < at .end - at .start
 
 module _ {g : Formula} {p rest : List ℕ} {at : Settled} (stood : Stands g p rest at) where
@@ -28,7 +29,7 @@ module _ {g : Formula} {p rest : List ℕ} {at : Settled} (stood : Stands g p re
       let b = stands-bounds stood in
       let l = stands-length stood in
       let z = size-some g in
-      record { order = omega arith; length-is = omega arith; within = omega arith; some = omega arith }
+      record { order = omega arith; length-is = omega arith; ends = omega arith; within = omega arith; some = omega arith }
 
   moved : (n : ℕ) (p₁ : List ℕ) → n ≡ at .end - at .start → p₁ ≡ take n (drop (at .start) p) ++ drop n p → p₁ ≡ encode g ++ drop (size g) p
   moved n p₁ k e =

@@ -158,14 +158,14 @@ fn inside(k: Kind, p: u64, others: usize, outer: usize, seen: u64) -> Passed
     ensures { λ r. ⌜ r ≡ insideAfter p k others outer seen ⌝ }
 {
     let owed = texts::after(k, others, p, 0);
-    let Owed::Operands(n) = owed else {
-        return Passed::Off;
-    };
-    Passed::On(Pass {
-        outer: outer,
-        inner: n,
-        seen: seen,
-    })
+    match owed {
+        Owed::Operands(n) => Passed::On(Pass {
+            outer: outer,
+            inner: n,
+            seen: seen,
+        }),
+        Owed::Broken => Passed::Off,
+    }
 }
 
 // One node further.

@@ -1,5 +1,6 @@
 -- A turn of `spread` at a place holder: its mark gets the distance to the end, which is inside the marks (`inside-marks`); its slot is put
--- there (`holder-few`, `holder-ask`), and then the next turn holds (`turn-put`). Assumes nothing.
+-- there (`holder-few`, `holder-ask`, `put-inside`), and then the next turn holds (`turn-put`). Up to there a law is for any mark v.
+-- Assumes nothing.
 use mathlib.Core.Path.{_≡_, refl, sym, ap, _∙_, subst}
 use mathlib.Core.Bool.{Bool, true, false}
 use mathlib.Core.List.{List, _++_}
@@ -52,8 +53,9 @@ module _ {s : List ℕ} {boards slots nodes : ℕ} {owner u marks : List ℕ} {i
   abbrev marked : ℕ
   marked = getD marks i 0 % 262144 + (end - i) * 262144
 
-  abbrev marks₁ : List ℕ
-  marks₁ = set marks i marked
+  -- the marks with v as the place holder's
+  abbrev marks₁ : ℕ → List ℕ
+  marks₁ v = set marks i v
 
   long : length w ≡ end
   long = w-long turn (holder .before)
@@ -77,20 +79,23 @@ module _ {s : List ℕ} {boards slots nodes : ℕ} {owner u marks : List ℕ} {i
   pub holder-few : m < 64
   holder-few = let x = slot-numbers (holder .known) slot-there in omega arith
 
-  pub holder-ask : SlotAsk s boards slots nodes m owner (tail end u) (tail end marks₁)
-  holder-ask =
+  pub holder-ask : (v : ℕ) → SlotAsk s boards slots nodes m owner (tail end u) (tail end (marks₁ v))
+  holder-ask v =
       let f = fits in
       let d = tail-length end u in
-      let e = tail-length end marks₁ in
-      let k = length-set marks i marked in
+      let e = tail-length end (marks₁ v) in
+      let k = length-set marks i v in
       record { known = holder .known; there = slot-there; room = omega arith; few = omega arith; long = omega arith }
 
-  module _ {x y : List ℕ} {n : ℕ} (h : PutsSlot s m (tail end u) x y n) (lx : length x ≡ length (tail end u)) (ly : length y ≡ length (tail end marks₁)) where
+  pub put-inside : {x y : List ℕ} {n : ℕ} → PutsSlot s m (tail end u) x y n → end + n ≤ nodesMost
+  put-inside h = let f = fits in let k = h .writes in omega arith
+
+  module _ {x y : List ℕ} {n : ℕ} (h : PutsSlot s m (tail end u) x y n) (lx : length x ≡ length (tail end u)) (v : ℕ) (ly : length y ≡ length (tail end (marks₁ v))) (is-marked : v ≡ marked) where
     abbrev u′ : List ℕ
     u′ = tailAs end u x
 
     abbrev marks′ : List ℕ
-    marks′ = tailAs end marks₁ y
+    marks′ = tailAs end (marks₁ v) y
 
     inside-u : end ≤ length u
     inside-u = omega arith
@@ -101,14 +106,14 @@ module _ {s : List ℕ} {boards slots nodes : ℕ} {owner u marks : List ℕ} {i
         ∙ take-at (w ++ encode g) (drop (size g) (drop end u)) (end + n) (omega (arith, length-append w (encode g), long, length-encode g, h .writes))
 
     -- the marks before the end: that of the place holder has its distance, the others are as they were
-    mark-here : getD marks′ i 0 ≡ marked
-    mark-here = handed-front end marks₁ y (inside-marks marked) i (holder .before) ∙ getD-set-same marks i marked 0 (omega arith)
+    mark-here : getD marks′ i 0 ≡ v
+    mark-here = handed-front end (marks₁ v) y (inside-marks v) i (holder .before) ∙ getD-set-same marks i v 0 (omega arith)
 
     mark-other : (j : ℕ) → j < end → (j ≡ i → ⊥) → getD marks′ j 0 ≡ getD marks j 0
-    mark-other j k other = handed-front end marks₁ y (inside-marks marked) j k ∙ getD-set-other marks i j marked 0 other
+    mark-other j k other = handed-front end (marks₁ v) y (inside-marks v) j k ∙ getD-set-other marks i j v 0 other
 
-    alike-here : Alike (getD marks i 0) marked
-    alike-here = record { board-is = omega arith; here-is = omega arith }
+    alike-here : Alike (getD marks i 0) v
+    alike-here = let e = is-marked in record { board-is = omega arith; here-is = omega arith }
 
     agree : Agree end marks marks′
     agree j k = go (eqb j i) refl
@@ -133,12 +138,12 @@ module _ {s : List ℕ} {boards slots nodes : ℕ} {owner u marks : List ℕ} {i
     held-here : HeldFront s (drop i (w ++ encode g)) (drop i marks′)
     held-here =
         let d = length-drop i w in
-        let mark : getD (drop i marks′) 0 0 ≡ marked = getD-drop i marks′ 0 0 ∙ ap (λ (n : ℕ). getD marks′ n 0) (omega arith) ∙ mark-here in
-        let ahead : aheadIn (getD (drop i marks′) 0 0) ≡ end - i = ap aheadIn mark ∙ (omega arith) in
+        let mark : getD (drop i marks′) 0 0 ≡ v = getD-drop i marks′ 0 0 ∙ ap (λ (n : ℕ). getD marks′ n 0) (omega arith) ∙ mark-here in
+        let ahead : aheadIn (getD (drop i marks′) 0 0) ≡ end - i = ap aheadIn mark ∙ (let e = is-marked in omega arith) in
         let byte : getD (drop i w ++ encode g) 0 0 ≡ getD u i 0 =
         List·getD-append (drop i w) (encode g) 0 0 (omega (arith, long)) ∙ getD-drop i w 0 0 ∙ ap (λ (n : ℕ). getD w n 0) (omega arith) ∙ byte-is turn (holder .before) in
         let to : i + (end - i) ≡ end = omega arith in
-        let behind : drop (end - i) (drop i marks′) ≡ y = drop-drop (end - i) i marks′ ∙ ap (λ (n : ℕ). drop n marks′) to ∙ handed-back end marks₁ y (inside-marks marked) in
+        let behind : drop (end - i) (drop i marks′) ≡ y = drop-drop (end - i) i marks′ ∙ ap (λ (n : ℕ). drop n marks′) to ∙ handed-back end (marks₁ v) y (inside-marks v) in
         let last = stands-last s (drop i w) x (drop i marks′) y (end - i) m (omega (arith, long)) behind (h .stands) in
         subst (λ (z : List ℕ). HeldFront s z (drop i marks′)) (sym (drop-append-le i w (encode g) (omega (arith, long))))
         (record {
@@ -167,7 +172,7 @@ module _ {s : List ℕ} {boards slots nodes : ℕ} {owner u marks : List ℕ} {i
         let d = drop-append-le (i + 1) w (encode g) (omega arith) in
         record {
           u-long = handed-length end u x inside-u lx ∙ turn .u-long;
-          marks-long = handed-length end marks₁ y (inside-marks marked) ly ∙ length-set marks i marked ∙ turn .marks-long;
+          marks-long = handed-length end (marks₁ v) y (inside-marks v) ly ∙ length-set marks i v ∙ turn .marks-long;
           inside = omega arith;
           reached =
               subst (λ (z : List ℕ). Reached s z marks′ (i + 1)) (sym written)

@@ -1,4 +1,5 @@
--- What the writer leaves: a slot marked, its formula rewritten and its length put (`put-done`). Assumes nothing.
+-- What the writer leaves: a slot marked, its formula rewritten and its length put (`put-done`). A law has v where the code sets the mark; that it is 1 is
+-- asked where the writer's promise is met. Assumes nothing.
 use mathlib.Core.Path.{_≡_, sym, ap, ap₂, _∙_}
 use mathlib.Core.List.{List, [], _++_, append-assoc, append-nil}
 use Prim.Native.Nat.{ℕ, _+_, _-_, _*_, _<_, _≤_}
@@ -67,24 +68,28 @@ module _ (s xs ys : List ℕ) (a b : ℕ) (apart : a + length xs ≤ b) (room : 
       (ap₂ take start whole ∙ take-append-add low behind between)
       (ap₂ drop end whole ∙ drop-append-add low behind (between + length ys) ∙ drop-drop (between + length ys) (a + length xs) s ∙ ap (λ (i : ℕ). drop i s) last))
 
+-- ---- a number set takes no room
+pub set-fits : {t n : ℕ} (s : List ℕ) (i v : ℕ) → t ≡ length (set s i v) → n ≤ length s → n ≤ t
+set-fits s i v e l = omega (arith, e, length-set s i v, l)
+
 -- ---- a slot
 module _ {s : List ℕ} {b n m k : ℕ} (c : Counted s b n m) (l : k < n) where
-  -- the state with the slot's mark set
-  abbrev marked : List ℕ
-  marked = set s (16 + 17 * b + 6 * k + 1) 1
+  -- the state with v as the slot's mark
+  abbrev marked : ℕ → List ℕ
+  marked v = set s (16 + 17 * b + 6 * k + 1) v
 
   there : k < slotsIn s
   there = let e = c .header .slots-are in omega arith
 
-  module _ {from to : ℕ} (span : Spans s k from to) where
+  module _ {from to : ℕ} (span : Spans s k from to) (v : ℕ) where
     abbrev lent : List ℕ
-    lent = take (to - from) (drop from marked)
+    lent = take (to - from) (drop from (marked v))
 
     marked-is : lent ≡ encode (formulaAt s k)
     marked-is =
         let q = c .header .boards-are in
         let t = c .header .slots-are in
-        ap (take (to - from)) (drop-set-lt from s (16 + 17 * b + 6 * k + 1) 1 (omega arith)) ∙ lent-is c l span
+        ap (take (to - from)) (drop-set-lt from s (16 + 17 * b + 6 * k + 1) v (omega arith)) ∙ lent-is c l span
 
     lent-front : Front lent (formulaAt s k) []
     lent-front = record { coded = slot-passing c l .coded; bytes = marked-is ∙ sym (append-nil (encode (formulaAt s k))) }
@@ -110,9 +115,9 @@ module _ {s : List ℕ} {b n m k : ℕ} (c : Counted s b n m) (l : k < n) where
       bytes-many : length (padded (lengthIn s k) (encode result)) ≡ lengthIn s k
       bytes-many = result-room s (c .passes) k there (seen .event) (heldBy seen)
 
-      pub put-done : (s₁ : List ℕ) → s₁ ≡ take from marked ++ (y ++ drop (to - from) (drop from marked))
+      pub put-done : (s₁ : List ℕ) → s₁ ≡ take from (marked v) ++ (y ++ drop (to - from) (drop from (marked v))) → v ≡ 1
           → take (16 + 17 * b + 6 * k + 4) s₁ ++ (le 2 w ++ drop (16 + 17 * b + 6 * k + 4 + 2) s₁) ≡ steppedAs result s k
-      put-done s₁ e =
+      put-done s₁ e set-is =
           let q = c .header .boards-are in
           let t = c .header .slots-are in
           let x = lying c l in
@@ -125,7 +130,7 @@ module _ {s : List ℕ} {b n m k : ℕ} (c : Counted s b n m) (l : k < n) where
           let end-is : node + (to - from) ≡ node + length bytes = omega (arith, bytes-many) in
           let two = le-length 2 (size result) in
           let put : s₁ ≡ putAt node bytes mark =
-          e ∙ ap (λ (z : List ℕ). take from z ++ (y ++ drop (to - from) (drop from z))) (ap (λ (i : ℕ). set s (i + 1) 1) at-is)
+          e ∙ ap (λ (z : List ℕ). take from z ++ (y ++ drop (to - from) (drop from z))) (ap₂ (λ (i x : ℕ). set s (i + 1) x) at-is set-is)
           ∙ ap₂ (λ (i : ℕ) (z : List ℕ). take i mark ++ (z ++ drop (to - from) (drop i mark))) (span .from-is) bytes-are
           ∙ ap (λ (z : List ℕ). take node mark ++ (bytes ++ z)) (drop-drop (to - from) node mark ∙ ap (λ (i : ℕ). drop i mark) end-is) in
           let after : at + 4 + 2 ≡ at + 4 + length number = omega arith in

@@ -11,5 +11,5 @@ inside-spec =
     (λ c κs. search needs)
     (λ c. search needs)
     (λ c. search needs)
-    (λ c. rw (sym (c .before .before .after .ensures) ∙ c .enum-told .given .1))
-    (λ c. rw (sym (c .before .before .before .after .ensures) ∙ c .before .owed .given .1)))
+    (λ c. rw (sym (c .before .before .before .after .ensures) ∙ c .before .owed .given .1))
+    (λ c. rw (sym (c .before .before .after .ensures) ∙ c .enum-told .given .1)))

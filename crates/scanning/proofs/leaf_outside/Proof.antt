@@ -23,7 +23,7 @@ leaf-outside-spec =
     (λ c. search needs)
     (λ c. rw (c .before .before .before .a2 .given .1, le-ltb _ _ (c .if3 .taken)))
     (λ c. search needs)
-    (λ c. rw (c .before .before .before .before .before .a2 .given .1, lt-ltb _ _ (c .before .before .if3 .left), le-ltb _ _ (c .if4 .taken)))
+    (λ c. rw (c .before .before .before .before .before .a2 .given .1, lt-ltb _ _ (c .before .before .if3 .left), le-ltb (c .before .before .before .before .before .before .before .args .allowed .slot) (c .before .before .before .before .before .a2 .given .0 .0) (let l = c .if4 .taken in omega arith)))
     (λ c. search needs)
     (λ c. let z = c .before .before .before .before .before .before .before .before .pre in omega arith)
     (λ c. rw (c .before .before .before .before .before .before .before .a2 .given .1, lt-ltb _ _ (c .before .before .before .before .if3 .left), lt-ltb _ _ (c .before .before .if4 .left), ne-eqb _ _ (c .if5 .taken)))

@@ -1,8 +1,9 @@
 -- At each turn the root and the slots of the place holders so far stand in what is spread out. Assumes nothing.
+use mathlib.Core.Path.{refl}
 use Prim.Native.Nat.{_-_}
 use mathlib.Core.Logic.{⊎-elim}
 use Rattle.spreading.proofs.Turns.{Turn, first-ask, first-turn, turn-past, turn-as}
-use Rattle.spreading.proofs.Putting.{Holder, inside-marks, holder-few, holder-ask, turn-put}
+use Rattle.spreading.proofs.Putting.{Holder, inside-marks, holder-few, holder-ask, put-inside, turn-put}
 use Rattle.spreading.proofs.Done.{spread-done}
 use native.Mathlib.Omega.{arith}
 use borrow.Author.Needs.{needs}
@@ -45,13 +46,12 @@ spread-spec =
     (λ c. inside-marks (holder (c .before .before)) _)
     (λ c. inside-marks (holder (c .before .before)) _)
     (λ c. search needs)
-    (λ c κs. holder-ask (holder (c .before .before .before)))
-    (λ c. let p = c .before .before .before .before .put-slot2 in
-    let t = turn-put (holder (c .before .before .before .before .before .before .before .before)) (p .ensures) (p .kept .1 .1 .1 .1 .0) (p .kept .1 .1 .1 .1 .1 .0) in omega arith)
+    (λ c κs. holder-ask (holder (c .before .before .before)) _)
+    (λ c. let t = put-inside (holder (c .before .before .before .before .before .before .before .before)) (c .before .before .before .before .put-slot2 .ensures) in omega arith)
     (λ c. search needs)
     (λ c. search needs)
     (λ c. ⊎-elim
-    (λ t. turn-as (turn-put (record { known = c .before .before .before .before .before .before .before .before .before .before .before .before .before .before .before .pre .known; turn = c .before .before .before .loop .inv; before = c .before .before .loop-test .taken; big = t .0 .taken }) (t .4 .ensures) (t .4 .kept .1 .1 .1 .1 .0) (t .4 .kept .1 .1 .1 .1 .1 .0)) (t .9) (t .10) (t .11))
+    (λ t. turn-as (turn-put (record { known = c .before .before .before .before .before .before .before .before .before .before .before .before .before .before .before .pre .known; turn = c .before .before .before .loop .inv; before = c .before .before .loop-test .taken; big = t .0 .taken }) (t .4 .ensures) (t .4 .kept .1 .1 .1 .1 .0) _ (t .4 .kept .1 .1 .1 .1 .1 .0) refl) (t .9) (t .10) (t .11))
     (λ t. turn-as (turn-past (c .before .before .before .loop .inv) (c .before .before .loop-test .taken) (t .0 .left)) (t .1) (t .2) (t .3))
     (c .if1 .came))
     (λ c. search needs)

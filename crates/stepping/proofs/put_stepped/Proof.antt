@@ -1,10 +1,9 @@
 -- The mark is set, the slot's bytes are lent on and rewritten, and the length is put. Assumes nothing.
 use mathlib.Core.Path.{refl, _∙_}
-use Prim.Native.Nat.{_+_, _*_}
 use lib.ListN.{length-set}
 use Rattle.passing.proofs.Lying.{Lying}
 use Rattle.stepping.proofs.Counting.{placed, lying}
-use Rattle.stepping.proofs.Rewriting.{lent-begins, count-few, put-done}
+use Rattle.stepping.proofs.Rewriting.{set-fits, lent-begins, count-few, put-done}
 use native.Mathlib.Omega.{arith}
 use Rattle.stepping.proofs.put_stepped.Statement.{statement}
 use Rattle.stepping.proofs.put_stepped.Tie as tie
@@ -27,10 +26,9 @@ put-stepped-spec =
     (λ c. let x = c .before .span-of .ensures in omega arith)
     (λ c. let x = c .before .span-of .ensures in omega arith)
     (λ c. let x = c .before .span-of .ensures in simp length-set (omega arith))
-    (λ c κs. lent-begins (c .before .before .before .before .before .pre .0) (c .before .before .before .before .before .pre .1) (c .before .before .span-of .ensures))
+    (λ c κs. lent-begins (c .before .before .before .before .before .pre .0) (c .before .before .before .before .before .pre .1) (c .before .before .span-of .ensures) _)
     (λ c. let x = lies (c .before .before .before .before .before .before .before .before .before) in omega arith)
-    (λ c. let d = c .before .before .before in let p = d .before .before .before .before .before .before .pre in let few = count-few (p .0) (p .1) (d .before .before .before .span-of .ensures) (d .rewrite .ensures) in omega arith)
-    (λ c κs. let x = lies (c .before .before .before .before .before .before .before .before .before) in let a = c .before .before .before .before .before .before .before .before .before .args in let g = c .before .before .s .given .1 in
-    omega (arith, length-set (a .s .now) (16 + 17 * a .c .boards + 6 * a .k + 1) 1))
+    (λ c. let d = c .before .before .before in let p = d .before .before .before .before .before .before .pre in let few = count-few (p .0) (p .1) (d .before .before .before .span-of .ensures) _ (d .rewrite .ensures) in omega arith)
+    (λ c κs. let d = c .before .before .before .before .before .before .before .before .before in let x = lies d in set-fits (d .args .s .now) _ _ (c .before .before .s .given .1) (omega arith))
     (λ c. c .before .before .put-u16 .kept .0 ∙ c .before .before .before .before .before .s .given .1 ∙ simp length-set)
-    (λ c. let d = c .before .before .before .before .before .before in let p = d .before .before .before .before .before .before .pre in c .before .before .put-u16 .ensures ∙ put-done (p .0) (p .1) (d .before .before .before .span-of .ensures) (d .rewrite .ensures) _ refl))
+    (λ c. let d = c .before .before .before .before .before .before in let p = d .before .before .before .before .before .before .pre in c .before .before .put-u16 .ensures ∙ put-done (p .0) (p .1) (d .before .before .before .span-of .ensures) _ (d .rewrite .ensures) _ refl refl))

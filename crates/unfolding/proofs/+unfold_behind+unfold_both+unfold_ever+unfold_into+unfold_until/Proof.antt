@@ -299,7 +299,7 @@ pub +unfold-behind+unfold-both+unfold-ever+unfold-into+unfold-until-spec : {M : 
     (λ c. let x = until-written t c in omega arith)
     (λ c. let x = until-written t c in omega arith)
     (λ c. let x = until-written t c in omega arith)
-    (λ c. sym (length-take-le _ _ (until-written t (c .before .before) .reads)))
+    (λ c. sym (length-take-le _ _ (let x = until-written t (c .before .before) in omega arith)))
     (λ c κs. let x = until-written t (c .before .before) in simp (length-take, length-drop) (omega arith))
     (λ c. let x = until-written t (c .before .before .before .before .before) in omega arith)
     (λ c. let x = until-written t (c .before .before .before .before .before) in omega arith)
