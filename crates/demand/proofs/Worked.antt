@@ -3,8 +3,8 @@
 -- then (`until-met`). The rows of the worked values are all that is computed here but what the boards have seen. Assumes nothing.
 use mathlib.Core.Path.{_≡_, refl, sym, ap, _∙_, subst}
 use mathlib.Core.List.{List, [], _∷_}
-use Prim.Native.Nat.{ℕ, zero, suc}
-use native.Mathlib.Omega.{arith}
+use mathlib.Core.Logic.{⊎-elim}
+use Prim.Native.Nat.{ℕ}
 use lib.ListN.{length, getD, replicate, length-replicate}
 use Rattle.lists.specs.Listed.{listed}
 use Rattle.answers.specs.declared.Refusal.{Refusal}
@@ -14,11 +14,12 @@ use Rattle.answers.specs.declared.Verdict.the-variants.{True}
 use Rattle.answers.specs.Said.{Said, refused, left, numberOf}
 use Rattle.answers.proofs.Answers.{verdict-injective}
 use Rattle.le.specs.Le.{le, leAt}
-use Rattle.ltl.specs.Meaning.{Trace, Satisfies, continued}
+use Rattle.ltl.specs.Meaning.{Event, Trace, Satisfies, continued}
 use Rattle.network.specs.Scores.{sampleOf}
-use Rattle.state.specs.Fields.{stateLength, boardsIn}
+use Rattle.state.specs.Fields.{stateLength}
 use Rattle.state.specs.Calls.{sampleSays, stepSays, closeSays, loadedState}
 use Rattle.rules.specs.RuleFile as rule-file
+use Rattle.rules.specs.RuleFile.{maskBytes, fileOf}
 use Rattle.asking.specs.Ask.{Asks}
 use Rattle.asking.specs.declared.AskAnswer.{AskAnswer}
 use Rattle.asking.specs.declared.AskAnswer.the-variants.{Told}
@@ -27,13 +28,14 @@ use Rattle.sampling.specs.Sample.{Samples}
 use Rattle.stepping.specs.Step.{StepsSlot}
 use Rattle.closing.specs.Close.{Closes}
 use Rattle.loading.specs.Load.{ruleIn, loadSays, LoadsRule}
-use Rattle.watching.specs.Watch.{Saw}
+use Rattle.stars.proofs.Layouts.{twoMasks}
 use Rattle.stars.proofs.States.{LoadGives, SampleGives, StepGives, CloseGives}
 use Rattle.stars.proofs.Split.{ruleFile, unsampled, halfSampled, sampled, asLaid, halfStepped, steppedUnderA, steppedUnderB, finished, RootWaits, split}
 use Rattle.demand.specs.Called as call
-use Rattle.demand.specs.Called.{Called, Ticked, Watched}
+use Rattle.demand.specs.Called.{Called, GivenBy, Ticked, Watched}
 use Rattle.demand.specs.Claims.{standing}
-use Rattle.demand.proofs.Watches.{refused-leaves}
+use Rattle.demand.proofs.Calls.{refused-leaves}
+use Rattle.demand.proofs.Given.{refused-not-done}
 use Rattle.demand.proofs.Demand.{demanded}
 
 -- the file's bytes
@@ -71,7 +73,7 @@ buffer-long : length buffer ≡ stateLength
 buffer-long = length-replicate {A = ℕ} stateLength 7
 
 -- board 1 is given a bit outside its mask, and slot 0 is stepped too early; else as the run program does it
-tick-calls : (ticks x y : ℕ) (half last : List ℕ) → RootWaits x y → StepGives (asLaid ticks (sampled x y)) 1 half → StepGives half 0 last → Called (asLaid ticks unsampled) last
+abbrev tick-calls : (ticks x y : ℕ) (half last : List ℕ) → RootWaits x y → StepGives (asLaid ticks (sampled x y)) 1 half → StepGives half 0 last → Called (asLaid ticks unsampled) last
 tick-calls ticks x y half last r a b =
     let c₁ = call.sampled call.nothing 1 1 (Refused Outside) (sample-refused (asLaid ticks unsampled) 1 1 Outside (split .outside ticks)) in
     let c₂ = call.sampled c₁ 0 x Done (samples _ 0 x (asLaid ticks (halfSampled x)) (r .first ticks)) in
@@ -80,42 +82,47 @@ tick-calls ticks x y half last r a b =
     let c₅ = call.stepped c₄ 1 Done (steps _ 1 half a) in
     call.stepped c₅ 0 Done (steps half 0 last b)
 
-saw-a : Saw steppedUnderA 1
-unfolding le leAt listed sampleOf
-saw-a zero l = refl
-saw-a (suc zero) l = refl
-saw-a (suc (suc b)) l = let e : boardsIn steppedUnderA ≡ 2 = refl in absurd (omega arith)
+-- each board was given its part of the event
+tick-given : (ticks x y : ℕ) (half last : List ℕ) (r : RootWaits x y) (a : StepGives (asLaid ticks (sampled x y)) 1 half) (b : StepGives half 0 last) (e : Event)
+    → x ≡ sampleOf twoMasks e 0 → y ≡ sampleOf twoMasks e 1 → GivenBy twoMasks e (tick-calls ticks x y half last r a b)
+tick-given ticks x y half last r a b e zeroth first board bits =
+    ⊎-elim
+    (⊎-elim (⊎-elim (λ h. absurd h) (λ h. absurd (refused-not-done Outside (h .0)))) (λ h. h .2 ∙ zeroth ∙ ap (sampleOf twoMasks e) (sym (h .1))))
+    (λ h. h .2 ∙ first ∙ ap (sampleOf twoMasks e) (sym (h .1)))
 
-saw-b : Saw steppedUnderB 2
-unfolding le leAt listed sampleOf
-saw-b zero l = refl
-saw-b (suc zero) l = refl
-saw-b (suc (suc b)) l = let e : boardsIn steppedUnderB ≡ 2 = refl in absurd (omega arith)
-
-tick-a : Ticked (asLaid 0 unsampled) 1 (asLaid 1 unsampled)
+tick-a : Ticked twoMasks (asLaid 0 unsampled) 1 (asLaid 1 unsampled)
+unfolding sampleOf
 tick-a =
     record {
       last = steppedUnderA;
       calls = tick-calls 0 1 0 (halfStepped 0 (sampled 1 0) 0) steppedUnderA (split .under-a) (split .a-held) (split .a-root);
-      saw = saw-a;
+      given = tick-given 0 1 0 (halfStepped 0 (sampled 1 0) 0) steppedUnderA (split .under-a) (split .a-held) (split .a-root) 1 refl refl;
       second = buffer;
       closes = closes steppedUnderA buffer (asLaid 1 unsampled) buffer-long (split .a-closes);
     }
 
-tick-b : Ticked (asLaid 1 unsampled) 2 finished
+tick-b : Ticked twoMasks (asLaid 1 unsampled) 2 finished
+unfolding sampleOf
 tick-b =
     record {
       last = steppedUnderB;
       calls = tick-calls 1 0 2 (halfStepped 1 (sampled 0 2) 1) steppedUnderB (split .under-b) (split .b-held) (split .b-root);
-      saw = saw-b;
+      given = tick-given 1 0 2 (halfStepped 1 (sampled 0 2) 1) steppedUnderB (split .under-b) (split .b-held) (split .b-root) 2 refl refl;
       second = buffer;
       closes = closes steppedUnderB buffer finished buffer-long (split .b-closes);
     }
 
+-- the masks by which the boards' parts are taken are the file's
+file-masks : rule-file.masksIn ruleFile ≡ twoMasks
+unfolding le leAt listed maskBytes fileOf
+file-masks = refl
+
 pub until-watched : Watched untilFile (1 ∷ 2 ∷ []) finished
 until-watched =
     let begun = call.begun (loads ruleFile buffer (asLaid 0 unsampled) buffer-long (split .loads)) in
-    subst (λ (file : List ℕ). Watched file (1 ∷ 2 ∷ []) finished) (split .file) (call.ticked (call.ticked begun 1 tick-a) 2 tick-b)
+    let first = call.ticked begun 1 (subst (λ (ms : List ℕ). Ticked ms (asLaid 0 unsampled) 1 (asLaid 1 unsampled)) (sym file-masks) tick-a) in
+    let second = call.ticked first 2 (subst (λ (ms : List ℕ). Ticked ms (asLaid 1 unsampled) 2 finished) (sym file-masks) tick-b) in
+    subst (λ (file : List ℕ). Watched file (1 ∷ 2 ∷ []) finished) (split .file) second
 
 -- ---- what ask tells of it, and what that means
 pub until-told : (answer : AskAnswer) → Asks finished answer → answer ≡ Told (record { verdict = True; ticks = 2; slots = 1; nodes = 1 })
