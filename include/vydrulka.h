@@ -80,7 +80,7 @@ enum vydrulka_refusal {
     VYDRULKA_REFUSED_RANGE = 3,     // boards, propositions or nodes of a rule are none or more than the limit
     VYDRULKA_REFUSED_OFFSET = 4,    // an offset or the total is not the one that the rule file's counts give
     VYDRULKA_REFUSED_MASKS = 5,     // a proposition is in no mask or in two, or a mask has a bit that is no proposition
-    VYDRULKA_REFUSED_FORMULA = 6,   // not one whole formula; a place holder; in a rule, a proposition that it has not
+    VYDRULKA_REFUSED_FORMULA = 6,   // not one whole formula, or it has a place holder, or a proposition that the rule does not count
     VYDRULKA_REFUSED_SLOTS = 7,     // the layout would have more slots than the limit
     VYDRULKA_REFUSED_NODES = 8,     // the layout, or central's unfolded formula, would have more nodes than the limit
     VYDRULKA_REFUSED_STATE = 9,     // the state fails its check, also by its length
