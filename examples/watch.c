@@ -16,8 +16,6 @@ static const uint8_t formula[] = {VYDRULKA_NODE_UNTIL, VYDRULKA_NODE_PROP + A, V
 static const uint64_t events[] = {1 << A, 1 << A, 1 << B};
 enum { EVENTS = sizeof events / sizeof *events };
 
-static const char *const verdict_names[] = {"false", "true", "pending"};
-
 // What ask gives.
 struct standing {
     uint32_t verdict, ticks;
@@ -27,9 +25,9 @@ struct standing {
 // Ends the program where a call was refused.
 static void must_accept(const char *call, uint32_t answer)
 {
-    if (answer == 0)
+    if (answer == VYDRULKA_ACCEPTED)
         return;
-    fprintf(stderr, "%s refused %" PRIu32 "\n", call, answer);
+    fprintf(stderr, "%s refused %" PRIu32 ": %s\n", call, answer, vydrulka_refusal_words(answer));
     exit(EXIT_FAILURE);
 }
 
@@ -58,7 +56,7 @@ static struct standing report(const uint8_t *state)
 {
     struct standing now;
     must_accept("ask", vydrulka_ask(state, VYDRULKA_STATE_LENGTH, &now.verdict, &now.ticks, &now.slots, &now.nodes));
-    printf("%" PRIu32 " %s %" PRIu64 " %" PRIu64 "\n", now.ticks, verdict_names[now.verdict], now.slots, now.nodes);
+    printf("%" PRIu32 " %s %" PRIu64 " %" PRIu64 "\n", now.ticks, vydrulka_verdict_words(now.verdict), now.slots, now.nodes);
     return now;
 }
 
@@ -75,6 +73,6 @@ int main(void)
         second = old;
         now = report(state);
     }
-    printf("a until b is %s after %" PRIu32 " ticks\n", verdict_names[now.verdict], now.ticks);
+    printf("a until b is %s after %" PRIu32 " ticks\n", vydrulka_verdict_words(now.verdict), now.ticks);
     return EXIT_SUCCESS;
 }

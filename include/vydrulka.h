@@ -1,19 +1,32 @@
-// The library's C interface: the calls of the crate exports, which `rt staticlib exports` puts into target/staticlib/libexports.a
-// for x86-64 programs. docs/RULES.md says what rules, states and ticks are; tests/header holds this file to the sources.
+// The library's C interface. `tools/library` proves and builds it for x86-64 programs; link with -Ltarget/staticlib -lvydrulka.
+// docs/RULES.md says what rules, states and ticks are. tests/header holds this file to the sources.
 //
 // A call stands any bytes and numbers. It makes its checks in the order that its comment gives and answers the number of the
 // first that fails; then it has written nothing. Else it answers 0 and has stored its values behind the pointers to single
-// numbers. What it answers and writes follows from what it is given, and from nothing else. It allocates no memory, and takes
-// more stack the deeper a formula is nested.
+// numbers. What it answers and writes follows from what it is given, and from nothing else.
+//
+// Memory: a call allocates nothing and keeps nothing. It has no memory of its own but the stack, of which it takes more the
+// deeper a formula is nested. By measure, not by proof, a thread with 1 MiB of stack can make every call but close, and one with
+// 4 MiB can close too, whatever bytes they are handed: see the stack figures below.
+//
+// Threads: calls share nothing. Any thread may make any call at any time, as long as no other call writes what it is given.
+//
+// States: a state is plain bytes without pointers, the same on every machine. It may be copied, saved, moved to another address
+// or machine, and used again there. Each call checks the state that it is given.
 //
 // The caller sees to it that no pointer is null, that a buffer has as many elements as the length behind it says, and that
-// nothing which a call may write overlaps anything else that it is given.
+// nothing which a call may write overlaps anything else that it is given. A buffer of bytes may begin at any address; masks and
+// single numbers are aligned as C aligns their type.
 
 #ifndef VYDRULKA_H
 #define VYDRULKA_H
 
 #include <stddef.h>
 #include <stdint.h>
+
+// The version of this interface; CHANGES.md lists what changed. A call that is changed or taken away makes a new major version.
+#define VYDRULKA_VERSION_MAJOR 1
+#define VYDRULKA_VERSION_MINOR 1
 
 #ifdef __cplusplus
 extern "C" {
@@ -28,6 +41,19 @@ enum {
     VYDRULKA_SLOTS_MOST = 64,        // slots of a network
     VYDRULKA_NODES_MOST = 4096,      // nodes of a network, and of a formula that central takes or unfolds
     VYDRULKA_STATE_LENGTH = 4768,    // bytes of a state, always
+};
+
+// Stack: a thread of so many bytes can make the call. Measured and rounded up, not proved: behind each stands what the deepest
+// known input took (tests/stack; kit rattle-kit-5b). The caller's own frames come on top.
+enum {
+    VYDRULKA_STACK_READ = 32768,      // 344
+    VYDRULKA_STACK_WRITE = 32768,     // 104
+    VYDRULKA_STACK_CENTRAL = 1048576, // 983,152, 2,047 ands that lean left
+    VYDRULKA_STACK_LOAD = 1048576,    // 1,005,136, a rule of 1,023 nots
+    VYDRULKA_STACK_SAMPLE = 32768,    // 408
+    VYDRULKA_STACK_STEP = 1048576,    // 983,104, a slot of 2,047 ands that lean left
+    VYDRULKA_STACK_CLOSE = 4194304,   // 3,953,056, a slot of 4,095 nots
+    VYDRULKA_STACK_ASK = 32768,       // 424
 };
 
 // A formula has one byte a node: the node's, then its operands, the left one before the right one.
@@ -46,8 +72,9 @@ enum vydrulka_node {
     VYDRULKA_NODE_END = 192,  // from here on no byte is a node
 };
 
-// Why a call was refused.
+// What a call answers: that it was accepted, or why it was refused.
 enum vydrulka_refusal {
+    VYDRULKA_ACCEPTED = 0,
     VYDRULKA_REFUSED_LENGTH = 1,    // a buffer is not as long as asked for, or a rule file not as long as its own total says
     VYDRULKA_REFUSED_VERSION = 2,   // the rule file's version is not 1
     VYDRULKA_REFUSED_RANGE = 3,     // boards, propositions or nodes of a rule are none or more than the limit
@@ -73,44 +100,86 @@ enum vydrulka_verdict {
 
 // Reads a rule file: its masks to the front of `masks`, of length VYDRULKA_BOARDS_MOST, its formula to the front of `formula`,
 // of length VYDRULKA_RULE_NODES_MOST, and zeros behind both. Gives the rule's counts.
+// Stack: VYDRULKA_STACK_READ.
 // Refusals in order: 1, 2, 3, 4, 5, 6.
 uint32_t vydrulka_read(const uint8_t *file, size_t file_len, uint64_t *masks, size_t masks_len, uint8_t *formula,
                        size_t formula_len, uint64_t *boards, uint64_t *propositions, uint64_t *nodes);
 
 // Writes the rule file of a rule with these masks, one for each board, so many propositions and this formula to the front of
 // `file`, of length VYDRULKA_FILE_MOST, and zeros behind it. Gives the length of what was written.
+// Stack: VYDRULKA_STACK_WRITE.
 // Refusals in order: 1, 3, 5, 6.
 uint32_t vydrulka_write(const uint64_t *masks, size_t masks_len, uint64_t propositions, const uint8_t *formula,
                         size_t formula_len, uint8_t *file, size_t file_len, uint64_t *written);
 
 // Progresses a formula of 1 to VYDRULKA_NODES_MOST nodes over an event, in one place: the outcome to the front of `output`, of
 // length VYDRULKA_NODES_MOST, and zeros behind it. Gives the outcome's verdict and nodes.
+// Stack: VYDRULKA_STACK_CENTRAL.
 // Refusals in order: 1, 6, 8.
 uint32_t vydrulka_central(const uint8_t *formula, size_t formula_len, uint64_t event, uint8_t *output, size_t output_len,
                           uint32_t *verdict, uint64_t *nodes);
 
 // Begins a watch: lays out the rule of a file, at 0 ticks, into `state`, of length VYDRULKA_STATE_LENGTH, and writes that whole.
+// Stack: VYDRULKA_STACK_LOAD.
 // Refusals in order: 1, 2, 3, 4, 5, 6, 7, 8.
 uint32_t vydrulka_load(const uint8_t *file, size_t file_len, uint8_t *state, size_t state_len);
 
 // Gives a board its sample of this tick: writes the sample and that the board has sampled, and no other byte of the state.
+// Stack: VYDRULKA_STACK_SAMPLE.
 // Refusals in order: 9, 10, 11, 12, 13.
 uint32_t vydrulka_sample(uint8_t *state, size_t state_len, uint64_t board, uint64_t bits);
 
 // Steps a slot whose board has sampled and whose held slots are stepped: writes the slot's stretch, length and mark, and no
 // other byte of the state. A held slot has a higher number than its holder, so step from the highest number down.
+// Stack: VYDRULKA_STACK_STEP.
 // Refusals in order: 9, 10, 11, 13, 14.
 uint32_t vydrulka_step(uint8_t *state, size_t state_len, uint64_t slot);
 
 // Closes a tick in which all boards have sampled and all slots are stepped: lays out the network again, one tick on, into
 // `second`, of length VYDRULKA_STATE_LENGTH, and writes that whole. The state stays as it was.
+// Stack: VYDRULKA_STACK_CLOSE.
 // Refusals in order: 1, 9, 10, 14, 15, 7, 8.
 uint32_t vydrulka_close(const uint8_t *state, size_t state_len, uint8_t *second, size_t second_len);
 
 // Gives a watch's verdict, which is pending until a load or a close has left it finished, and its ticks, slots and nodes.
+// Stack: VYDRULKA_STACK_ASK.
 // Refusals in order: 9.
 uint32_t vydrulka_ask(const uint8_t *state, size_t state_len, uint32_t *verdict, uint32_t *ticks, uint64_t *slots,
                       uint64_t *nodes);
+
+// A short phrase for an answer and a word for a verdict, for messages. Any number is allowed.
+static inline const char *vydrulka_refusal_words(uint32_t answer)
+{
+    switch (answer) {
+    case VYDRULKA_ACCEPTED: return "accepted";
+    case VYDRULKA_REFUSED_LENGTH: return "wrong length";
+    case VYDRULKA_REFUSED_VERSION: return "unknown version";
+    case VYDRULKA_REFUSED_RANGE: return "count out of range";
+    case VYDRULKA_REFUSED_OFFSET: return "wrong offset";
+    case VYDRULKA_REFUSED_MASKS: return "masks do not fit";
+    case VYDRULKA_REFUSED_FORMULA: return "not a formula";
+    case VYDRULKA_REFUSED_SLOTS: return "too many slots";
+    case VYDRULKA_REFUSED_NODES: return "too many nodes";
+    case VYDRULKA_REFUSED_STATE: return "not a valid state";
+    case VYDRULKA_REFUSED_FINISHED: return "watch is finished";
+    case VYDRULKA_REFUSED_NOWHERE: return "no such board or slot";
+    case VYDRULKA_REFUSED_OUTSIDE: return "bit outside the mask";
+    case VYDRULKA_REFUSED_ALREADY: return "done in this tick already";
+    case VYDRULKA_REFUSED_UNREADY: return "something must come first";
+    case VYDRULKA_REFUSED_TICKS: return "ticks at their end";
+    default: return "no answer of this library";
+    }
+}
+
+static inline const char *vydrulka_verdict_words(uint32_t verdict)
+{
+    switch (verdict) {
+    case VYDRULKA_VERDICT_FALSE: return "false";
+    case VYDRULKA_VERDICT_TRUE: return "true";
+    case VYDRULKA_VERDICT_PENDING: return "pending";
+    default: return "no verdict of this library";
+    }
+}
 
 #ifdef __cplusplus
 }

@@ -1,7 +1,8 @@
-# What the scripts of tests/, bench/ and examples/ share; they source it from the project's root.
+# What the scripts of tests/, bench/, examples/ and tools/ share; they source it from the project's root.
 
 # Compiles the generator and the second program into target/tests/, and runs the second program's own tests.
 build_tests() {
+    command -v rustc >/dev/null || { echo "this needs rustc, 1.63 or newer" >&2; return 2; }
     mkdir -p target/tests
     rustc -O --edition 2021 -o target/tests/generate tests/generate.rs
     rustc -O --edition 2021 -o target/tests/second tests/second.rs
@@ -9,12 +10,20 @@ build_tests() {
     target/tests/worked -q >target/tests/worked.log || { cat target/tests/worked.log; return 1; }
 }
 
+# Proves the library for C and puts it into target/staticlib/libvydrulka.a. rt names an archive after the crate, which is
+# libexports.a; the library's own name is a copy of that.
+build_library() {
+    mkdir -p target/staticlib
+    rt staticlib exports >target/staticlib/rt.log 2>&1 || { tail -n 20 target/staticlib/rt.log; return 1; }
+    cp target/staticlib/libexports.a target/staticlib/libvydrulka.a
+}
+
 # The kit's tools for this machine: the guide that rt names stands in the kit's docs/.
 kit_tools() {
     echo "$(cd "$(dirname "$(rt doc)")/.." && pwd -P)/on/$(uname -m)/toolchain"
 }
 
-# Runs a program that rt built, as rt does: with the kit's loader and C library, and where the machine is no x86-64
+# Runs a program that rt built, as rt does: with the kit's loader and C library, and where the machine is not x86-64
 # under the kit's emulator.
 run_rattle() {
     tools=$(kit_tools)
@@ -28,7 +37,13 @@ c_compiler() {
     if [ "$(uname -m)" = x86_64 ]; then echo cc; else echo x86_64-linux-gnu-gcc -static; fi
 }
 
-# Runs such a program, where the machine is no x86-64 under the kit's emulator.
+# Whether that compiler is there.
+has_c_compiler() {
+    set -- $(c_compiler)
+    command -v "$1" >/dev/null
+}
+
+# Runs such a program, where the machine is not x86-64 under the kit's emulator.
 run_c() {
     if [ "$(uname -m)" = x86_64 ]; then "$@"; else "$(kit_tools)/bin/qemu-x86_64" "$@"; fi
 }

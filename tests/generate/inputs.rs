@@ -6,6 +6,7 @@ use crate::random::Random;
 use crate::rules::{self, Rule};
 
 type Case = fn(&mut Random) -> Vec<u8>;
+type Pattern = fn(&mut Random, bool) -> Rule;
 
 pub const CASES: &[(&str, Case)] = &[
     ("watch", watch),
@@ -33,7 +34,8 @@ fn input(random: &mut Random, rule: &Rule, events: usize) -> Vec<u8> {
 }
 
 fn watched_rule(random: &mut Random) -> Rule {
-    let pattern = random.pick(&[patterns::small, patterns::small, patterns::until, patterns::chain, patterns::untils, patterns::wide]);
+    let pattern =
+        random.pick::<Pattern>(&[patterns::small, patterns::small, patterns::until, patterns::chain, patterns::untils, patterns::wide]);
     pattern(random, false)
 }
 
@@ -44,7 +46,7 @@ fn watch(random: &mut Random) -> Vec<u8> {
 
 // Rules that seldom come to a verdict.
 fn long_watch(random: &mut Random) -> Vec<u8> {
-    let pattern = random.pick(&[patterns::responses, patterns::alternatives]);
+    let pattern = random.pick::<Pattern>(&[patterns::responses, patterns::alternatives]);
     let large = random.percent(20);
     let (rule, events) = (pattern(random, large), random.within(5, 40));
     input(random, &rule, events)
@@ -92,8 +94,13 @@ fn event_outside(random: &mut Random) -> Vec<u8> {
 
 // At load or one tick later at the limits of slots and nodes.
 fn limits(random: &mut Random) -> Vec<u8> {
-    let pattern =
-        random.pick(&[patterns::chain, patterns::nested_always, patterns::untils, patterns::node_limit, patterns::slots_and_nodes]);
+    let pattern = random.pick::<Pattern>(&[
+        patterns::chain,
+        patterns::nested_always,
+        patterns::untils,
+        patterns::node_limit,
+        patterns::slots_and_nodes,
+    ]);
     let rule = pattern(random, true);
     let rule = if random.percent(50) { patterns::later(rule) } else { rule };
     input(random, &rule, 3)

@@ -117,7 +117,7 @@ pub fn place_holder_inside_always(network: &Network, random: &mut Random) -> Opt
 fn holding(network: &Network, random: &mut Random, node: Node, held: usize) -> Option<Vec<u8>> {
     let byte = 128 + held as u8;
     let old = any_node(network, random, |_, node| node.spot.byte == byte).map(|old| (old, 1));
-    with(network, &[old.as_slice(), &[(node, byte)]].concat())
+    with(network, &old.into_iter().chain([(node, byte)]).collect::<Vec<_>>())
 }
 
 pub fn own_number(network: &Network, random: &mut Random) -> Option<Vec<u8>> {

@@ -224,7 +224,7 @@ pub fn length_zero(network: &Network, random: &mut Random) -> Option<Vec<u8>> {
 // A stepped slot of nots over its whole stretch, and then one node more: the next slot's first, or the rest's first zero.
 pub fn length_over(network: &Network, random: &mut Random) -> Option<Vec<u8>> {
     let mut state = network.bytes();
-    let is_leaf_behind = |slot: usize| state.get(stretch(network, slot).end).is_some_and(|byte| matches!(byte, 0 | 1 | 64..=127));
+    let is_leaf_behind = |slot: usize| state.get(stretch(network, slot).end).map_or(false, |byte| matches!(byte, 0 | 1 | 64..=127));
     let slot = any_slot(network, random, |slot| network.slots[slot].stepped && is_leaf_behind(slot))?;
     let stretch = stretch(network, slot);
     put_16(&mut state, slot_at(network, slot) + 4, stretch.len() + 1);

@@ -1,6 +1,6 @@
 // The state check, and the network that a state which passes holds.
 
-use super::bytes::little_endian;
+use super::bytes::{front_and_rest, little_endian};
 use super::formula::{
     parse_slot,
     Formula::{self, *},
@@ -62,7 +62,7 @@ fn read_slots(records: &[&[u8]], nodes: &[u8], boards: usize) -> Option<Vec<Slot
 fn read_slot(record: &[u8], start: usize, stretch: &[u8], boards: usize) -> Option<Slot> {
     let (board, stepped) = (usize::from(record[0]), read_flag(record[1])?);
     let length = little_endian(&record[4..6]) as usize;
-    let (formula, gap) = stretch.split_at_checked(length)?;
+    let (formula, gap) = front_and_rest(stretch, length)?;
     let fills = stepped || gap.is_empty();
     if board >= boards || length == 0 || !fills || !is_zero(gap) {
         return None;

@@ -1,6 +1,6 @@
 // The requests of PROTOCOL.md and their answer lines.
 
-use crate::model::bytes::little_endian;
+use crate::model::bytes::{front_and_rest, little_endian};
 use crate::model::central::central;
 use crate::model::refusal::Refusal;
 use crate::model::rule_file::{read, write};
@@ -26,8 +26,9 @@ pub fn replay(stream: &[u8]) -> String {
     let mut kept = vec![0; KEPT as usize];
     let mut left = stream;
     while !left.is_empty() {
-        let Some((request, rest)) = Request::take(left) else {
-            return lines + "bad request\n";
+        let (request, rest) = match Request::take(left) {
+            Some(taken) => taken,
+            None => return lines + "bad request\n",
         };
         lines += &request.answer(&mut kept).line();
         left = rest;
@@ -47,7 +48,7 @@ struct Request<'a> {
 impl<'a> Request<'a> {
     // The request at the front of the stream, and what follows it; nothing where it is no good request.
     fn take(stream: &'a [u8]) -> Option<(Request<'a>, &'a [u8])> {
-        let (header, rest) = stream.split_at_checked(24)?;
+        let (header, rest) = front_and_rest(stream, 24)?;
         let word = |at: usize| little_endian(&header[at..at + 4]);
         let (call, a, b, c) = (word(0), word(4), word(8), word(12));
         let v = little_endian(&header[16..24]);
@@ -66,7 +67,7 @@ impl<'a> Request<'a> {
         if !good {
             return None;
         }
-        let (payload, rest) = rest.split_at_checked(length as usize)?;
+        let (payload, rest) = front_and_rest(rest, length as usize)?;
         Some((Request { call, a, b, c, v, payload }, rest))
     }
 

@@ -1,6 +1,6 @@
 // The run program: a rule file and 8-byte events in, a line for the load and for each close out.
 
-use crate::model::bytes::little_endian;
+use crate::model::bytes::{front_and_rest, little_endian};
 use crate::model::central::Verdict;
 use crate::model::check::network_of;
 use crate::model::refusal::{demand, Refusal};
@@ -22,7 +22,7 @@ fn watch(input: &[u8], lines: &mut String) -> Result<(), Refusal> {
     let mut state = vec![0; STATE];
     load(file, &mut state)?;
     while report(&state, lines)? == Verdict::Pending && !events.is_empty() {
-        let (event, rest) = events.split_at_checked(8).ok_or(Refusal::Length)?;
+        let (event, rest) = front_and_rest(events, 8).ok_or(Refusal::Length)?;
         state = tick(state, little_endian(event))?;
         events = rest;
     }
@@ -34,7 +34,7 @@ fn file_of(input: &[u8]) -> Result<(&[u8], &[u8]), Refusal> {
     let header = input.get(..16).ok_or(Refusal::Length)?;
     let total = little_endian(&header[12..]) as usize;
     demand((16..=FILE).contains(&total), Refusal::Length)?;
-    input.split_at_checked(total).ok_or(Refusal::Length)
+    front_and_rest(input, total).ok_or(Refusal::Length)
 }
 
 // Adds the line for a state just loaded or closed, and answers its verdict.

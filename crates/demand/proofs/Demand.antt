@@ -10,7 +10,8 @@ use Rattle.watching.proofs.Demand.{watch-verdict, watch-asks, watch-true, watch
 use Rattle.demand.specs.Called.{Watched}
 use Rattle.demand.specs.Claims.{standing}
 use Rattle.demand.specs.Demanded.{Demanded}
-use Rattle.demand.proofs.Watches.{called, watched}
+use Rattle.demand.proofs.Calls.{called}
+use Rattle.demand.proofs.Watches.{watched}
 use Rattle.demand.proofs.Getting.{ask-gets, going-on}
 use Rattle.demand.proofs.Agreeing.{networks-same, bytes-same, close-same}
 

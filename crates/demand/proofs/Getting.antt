@@ -1,5 +1,6 @@
 -- A call gets the answer that its definition gives: `sample-gets`, `step-gets`, `close-gets`, `ask-gets`. So what goes on over the
--- definitions goes on by the promises (`going-on`, with `closing` and `close-left`). Assumes nothing.
+-- definitions goes on by the promises (`going-on`, with `closing` and `close-left`). `done-boards`: where the close is all that is left every
+-- board has sampled. Assumes nothing.
 use mathlib.Core.Path.{_≡_, refl, sym, ap, _∙_}
 use mathlib.Core.Bool.{true}
 use mathlib.Core.List.{List, []}
@@ -63,7 +64,7 @@ module _ (t : List ℕ) where
       let q = order-passed _ (accepted []) (omega arith, (omega arith, (omega arith, (omega arith, (omega arith, tt))))) (ap (λ (a : Said). a .number) e) in
       (ltb-true _ _ (q .1 .1 .0), eqb-true _ _ (q .1 .1 .1 .0))
 
-  done-boards : doneIn t ≡ true → (b : ℕ) → b < boardsIn t → sampledIn t b ≡ 1
+  pub done-boards : doneIn t ≡ true → (b : ℕ) → b < boardsIn t → sampledIn t b ≡ 1
   unfolding doneIn
   done-boards done b l = eqb-true _ _ (each-at (λ i. eqb (sampledIn t i) 1) (boardsIn t) b (both-0 _ _ done) l)
 

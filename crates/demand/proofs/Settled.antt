@@ -1,5 +1,5 @@
 -- The run program's tick. Until a verdict, settling under an event that the boards' masks cover is accepted (`settle-gets`), and any other
--- event gets 12 (`settle-outside`). Where it is accepted the boards have seen the event and the close is all that is left (`settle-reaches`).
+-- event gets 12 (`settle-outside`, `settle-stays`). Where it is accepted each board was given its part of the event and the close is all that is left (`settle-reaches`).
 -- So settling that was accepted and a close that was accepted are a tick under that event (`settle-ticks`). Assumes nothing.
 use mathlib.Core.Path.{_≡_, refl, sym, ap, _∙_, subst}
 use mathlib.Core.Bool.{true, false}
@@ -36,7 +36,9 @@ use Rattle.watching.proofs.Demand.{watch-verdict}
 use Rattle.watching.proofs.Existing.{due, Progress, due-is, sample-says, sample-more, step-says, step-more, progress-none, progress-saw, progress-done, progress-closing}
 use Rattle.demand.specs.Called.{Ticked, Watched}
 use Rattle.demand.specs.Claims.{standing, Gets, Reaches}
-use Rattle.demand.proofs.Watches.{watched, made}
+use Rattle.demand.proofs.Calls.{made}
+use Rattle.demand.proofs.Given.{saw-given}
+use Rattle.demand.proofs.Watches.{watched}
 use Rattle.demand.proofs.Getting.{closing, close-left}
 
 module _ (p : ℕ) (masks : List ℕ) (rule : Formula) (us : List Event) (s : List ℕ) (x : Started p masks rule us s) (unfinished : finishedIn s ≡ false) (e : Event) where
@@ -91,14 +93,14 @@ module _ (p : ℕ) (masks : List ℕ) (rule : Formula) (us : List Event) (s : Li
             (subst (λ (n : ℕ). Comes (sampledFrom n e 0 s) (b .last) Done) q (b .comes)) (k .comes);
       }
 
-  reaches : (r : ComesFar (settledUnder s e) 0) → Reaches s e (r .last)
+  reaches : (r : ComesFar (settledUnder s e) 0) → Reaches masks s e (r .last)
   reaches r =
       let m = made (r .calls) (r .all) in
       let done = progress-done p masks rule us s x unfinished e (r .last) (r .calls) (r .progress) in
       record {
         calls = m .0;
         all = m .1;
-        saw = progress-saw p masks rule us s x unfinished e (r .last) (r .calls) (r .progress);
+        given = saw-given p masks rule us s x (r .last) e (m .0) (progress-saw p masks rule us s x unfinished e (r .last) (r .calls) (r .progress));
         left = close-left (r .last) done;
         closing = closing (r .last) (progress-closing p masks rule us s x unfinished e (r .last) (r .calls) (r .progress));
       }
@@ -134,17 +136,20 @@ module _ (file : List ℕ) (us : List Event) (s : List ℕ) (w : Watched file us
     pub settle-gets : Gets (Comes (settledUnder s e)) Done
     settle-gets = record { leaves = far .last; allowed = far .comes; only = λ t answer c. comes-determined (settledUnder s e) t (far .last) answer Done c (far .comes) .0 }
 
-    pub settle-reaches : (t : List ℕ) (answer : Outcome) → Comes (settledUnder s e) t answer → Reaches s e t
+    pub settle-reaches : (t : List ℕ) (answer : Outcome) → Comes (settledUnder s e) t answer → Reaches masks s e t
     settle-reaches t answer c =
-        subst (λ (u : List ℕ). Reaches s e u) (comes-determined (settledUnder s e) (far .last) t Done answer (far .comes) c .1) (reaches p masks (ruleIn file) us s start unfinished e far)
+        subst (λ (u : List ℕ). Reaches masks s e u) (comes-determined (settledUnder s e) (far .last) t Done answer (far .comes) c .1) (reaches p masks (ruleIn file) us s start unfinished e far)
 
-  -- an event with a bit in no mask gets 12
+  -- an event with a bit in no mask gets 12, and the state stays
+  pub settle-stays : inMask e (unionWith 0 (masksIn s)) ≡ false → Comes (settledUnder s e) s (Refused Outside)
+  settle-stays outside = settled-outside s e (start .passes) (boardsIn s) refl (unionWith 0 (masksIn s)) refl (eqb-false _ _ outside)
+
   pub settle-outside : inMask e (unionWith 0 (masksIn s)) ≡ false → Gets (Comes (settledUnder s e)) (Refused Outside)
   settle-outside outside =
-      let c = settled-outside s e (start .passes) (boardsIn s) refl (unionWith 0 (masksIn s)) refl (eqb-false _ _ outside) in
+      let c = settle-stays outside in
       record { leaves = s; allowed = c; only = λ t answer d. comes-determined (settledUnder s e) t s answer (Refused Outside) d c .0 }
 
-  pub settle-ticks : (t second s′ : List ℕ) → Comes (settledUnder s e) t Done → Closes t second s′ Done → Ticked s e s′
+  pub settle-ticks : (t second s′ : List ℕ) → Comes (settledUnder s e) t Done → Closes t second s′ Done → Ticked masks s e s′
   settle-ticks t second s′ c k =
       let r = settle-reaches (settle-taken s e (sym (c .says))) t Done c in
-      record { last = t; calls = r .calls; saw = r .saw; second = second; closes = k }
+      record { last = t; calls = r .calls; given = r .given; second = second; closes = k }

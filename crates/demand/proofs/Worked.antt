@@ -3,119 +3,65 @@
 -- then (`until-met`). The rows of the worked values are all that is computed here but what the boards have seen. Assumes nothing.
 use mathlib.Core.Path.{_≡_, refl, sym, ap, _∙_, subst}
 use mathlib.Core.List.{List, [], _∷_}
-use Prim.Native.Nat.{ℕ, zero, suc}
-use native.Mathlib.Omega.{arith}
-use lib.ListN.{length, getD, replicate, length-replicate}
+use Prim.Native.Nat.{ℕ}
+use lib.ListN.{getD}
 use Rattle.lists.specs.Listed.{listed}
-use Rattle.answers.specs.declared.Refusal.{Refusal}
 use Rattle.answers.specs.declared.Refusal.the-variants.{Outside, Unready}
-use Rattle.answers.specs.declared.Outcome.the-variants.{Refused, Done}
 use Rattle.answers.specs.declared.Verdict.the-variants.{True}
-use Rattle.answers.specs.Said.{Said, refused, left, numberOf}
+use Rattle.answers.specs.Said.{Said}
 use Rattle.answers.proofs.Answers.{verdict-injective}
 use Rattle.le.specs.Le.{le, leAt}
-use Rattle.ltl.specs.Meaning.{Trace, Satisfies, continued}
+use Rattle.ltl.specs.Meaning.{Event, Trace, Satisfies, continued}
 use Rattle.network.specs.Scores.{sampleOf}
-use Rattle.state.specs.Fields.{stateLength, boardsIn}
-use Rattle.state.specs.Calls.{sampleSays, stepSays, closeSays, loadedState}
-use Rattle.rules.specs.RuleFile as rule-file
+use Rattle.rules.specs.RuleFile.{masksIn, maskBytes, fileOf}
 use Rattle.asking.specs.Ask.{Asks}
 use Rattle.asking.specs.declared.AskAnswer.{AskAnswer}
 use Rattle.asking.specs.declared.AskAnswer.the-variants.{Told}
 use Rattle.asking.proofs.Determined.{asks-determined}
-use Rattle.sampling.specs.Sample.{Samples}
-use Rattle.stepping.specs.Step.{StepsSlot}
-use Rattle.closing.specs.Close.{Closes}
-use Rattle.loading.specs.Load.{ruleIn, loadSays, LoadsRule}
-use Rattle.watching.specs.Watch.{Saw}
-use Rattle.stars.proofs.States.{LoadGives, SampleGives, StepGives, CloseGives}
+use Rattle.loading.specs.Load.{ruleIn}
+use Rattle.stars.proofs.States.{StepGives}
 use Rattle.stars.proofs.Split.{ruleFile, unsampled, halfSampled, sampled, asLaid, halfStepped, steppedUnderA, steppedUnderB, finished, RootWaits, split}
-use Rattle.demand.specs.Called as call
-use Rattle.demand.specs.Called.{Called, Ticked, Watched}
+use Rattle.demand.specs.Called.{nothing, Ticked, Watched, ticked}
 use Rattle.demand.specs.Claims.{standing}
-use Rattle.demand.proofs.Watches.{refused-leaves}
 use Rattle.demand.proofs.Demand.{demanded}
+use Rattle.demand.proofs.Rows.{load-watches, Part, part-nothing, part-samples, part-steps, part-sample-refused, part-step-refused, part-ticks}
 
 -- the file's bytes
 abbrev pub untilFile : List ℕ
 untilFile =
     1 ∷ 0 ∷ 2 ∷ 0 ∷ 2 ∷ 0 ∷ 3 ∷ 0 ∷ 16 ∷ 0 ∷ 32 ∷ 0 ∷ 35 ∷ 0 ∷ 0 ∷ 0 ∷ 1 ∷ 0 ∷ 0 ∷ 0 ∷ 0 ∷ 0 ∷ 0 ∷ 0 ∷ 2 ∷ 0 ∷ 0 ∷ 0 ∷ 0 ∷ 0 ∷ 0 ∷ 0 ∷ 6 ∷ 64 ∷ 65 ∷ []
 
--- ---- rows of the worked values as outcomes that the promises allow
-loads : (file before s : List ℕ) → length before ≡ stateLength → LoadGives file s → LoadsRule file before s Done
-loads file before s long g =
-    let e = ap (loadSays file) long in
-    record { says = sym (e ∙ g .says); leaves = sym (ap (λ (a : Said). left a (loadedState (rule-file.masksIn file) (ruleIn file)) before) e ∙ g .leaves before) }
-
-samples : (s : List ℕ) (board bits : ℕ) (t : List ℕ) → SampleGives s board bits t → Samples s board bits t Done
-samples s board bits t g = record { says = sym (g .says); leaves = sym (g .leaves) }
-
-steps : (s : List ℕ) (slot : ℕ) (t : List ℕ) → StepGives s slot t → StepsSlot s slot t Done
-steps s slot t g = record { says = sym (g .says); leaves = sym (g .leaves) }
-
-closes : (s second t : List ℕ) → length second ≡ stateLength → CloseGives s t → Closes s second t Done
-closes s second t long g = record { says = sym (ap (closeSays s) long ∙ g .says); leaves = sym (g .leaves second long) }
-
-sample-refused : (s : List ℕ) (board bits : ℕ) (why : Refusal) → sampleSays s board bits ≡ refused (numberOf why) → Samples s board bits s (Refused why)
-sample-refused s board bits why e = record { says = sym e; leaves = sym (refused-leaves why _ _ s (sym e)) }
-
-step-refused : (s : List ℕ) (slot : ℕ) (why : Refusal) → stepSays s slot ≡ refused (numberOf why) → StepsSlot s slot s (Refused why)
-step-refused s slot why e = record { says = sym e; leaves = sym (refused-leaves why _ _ s (sym e)) }
-
 -- ---- the watch
--- some buffer of a state's length
-abbrev buffer : List ℕ
-buffer = replicate stateLength 7
-
-buffer-long : length buffer ≡ stateLength
-buffer-long = length-replicate {A = ℕ} stateLength 7
+-- the masks by which the boards' parts are taken
+abbrev masks : List ℕ
+masks = masksIn ruleFile
 
 -- board 1 is given a bit outside its mask, and slot 0 is stepped too early; else as the run program does it
-tick-calls : (ticks x y : ℕ) (half last : List ℕ) → RootWaits x y → StepGives (asLaid ticks (sampled x y)) 1 half → StepGives half 0 last → Called (asLaid ticks unsampled) last
-tick-calls ticks x y half last r a b =
-    let c₁ = call.sampled call.nothing 1 1 (Refused Outside) (sample-refused (asLaid ticks unsampled) 1 1 Outside (split .outside ticks)) in
-    let c₂ = call.sampled c₁ 0 x Done (samples _ 0 x (asLaid ticks (halfSampled x)) (r .first ticks)) in
-    let c₃ = call.sampled c₂ 1 y Done (samples _ 1 y (asLaid ticks (sampled x y)) (r .second ticks)) in
-    let c₄ = call.stepped c₃ 0 (Refused Unready) (step-refused (asLaid ticks (sampled x y)) 0 Unready (r .early ticks)) in
-    let c₅ = call.stepped c₄ 1 Done (steps _ 1 half a) in
-    call.stepped c₅ 0 Done (steps half 0 last b)
+tick-calls : (ticks x y : ℕ) (half last : List ℕ) (e : Event) → x ≡ sampleOf masks e 0 → y ≡ sampleOf masks e 1
+    → RootWaits x y → StepGives (asLaid ticks (sampled x y)) 1 half → StepGives half 0 last → Part masks e (asLaid ticks unsampled) last
+tick-calls ticks x y half last e zeroth first r a b =
+    let c₁ = part-sample-refused (part-nothing masks e (asLaid ticks unsampled)) 1 1 Outside (split .outside ticks) in
+    let c₂ = part-samples c₁ 0 x (asLaid ticks (halfSampled x)) zeroth (r .first ticks) in
+    let c₃ = part-samples c₂ 1 y (asLaid ticks (sampled x y)) first (r .second ticks) in
+    let c₄ = part-step-refused c₃ 0 Unready (r .early ticks) in
+    let c₅ = part-steps c₄ 1 half a in
+    part-steps c₅ 0 last b
 
-saw-a : Saw steppedUnderA 1
-unfolding le leAt listed sampleOf
-saw-a zero l = refl
-saw-a (suc zero) l = refl
-saw-a (suc (suc b)) l = let e : boardsIn steppedUnderA ≡ 2 = refl in absurd (omega arith)
-
-saw-b : Saw steppedUnderB 2
-unfolding le leAt listed sampleOf
-saw-b zero l = refl
-saw-b (suc zero) l = refl
-saw-b (suc (suc b)) l = let e : boardsIn steppedUnderB ≡ 2 = refl in absurd (omega arith)
-
-tick-a : Ticked (asLaid 0 unsampled) 1 (asLaid 1 unsampled)
+tick-a : Ticked masks (asLaid 0 unsampled) 1 (asLaid 1 unsampled)
+unfolding le leAt listed maskBytes fileOf sampleOf
 tick-a =
-    record {
-      last = steppedUnderA;
-      calls = tick-calls 0 1 0 (halfStepped 0 (sampled 1 0) 0) steppedUnderA (split .under-a) (split .a-held) (split .a-root);
-      saw = saw-a;
-      second = buffer;
-      closes = closes steppedUnderA buffer (asLaid 1 unsampled) buffer-long (split .a-closes);
-    }
+    part-ticks (tick-calls 0 1 0 (halfStepped 0 (sampled 1 0) 0) steppedUnderA 1 refl refl (split .under-a) (split .a-held) (split .a-root)) (asLaid 1 unsampled)
+    (split .a-closes)
 
-tick-b : Ticked (asLaid 1 unsampled) 2 finished
+tick-b : Ticked masks (asLaid 1 unsampled) 2 finished
+unfolding le leAt listed maskBytes fileOf sampleOf
 tick-b =
-    record {
-      last = steppedUnderB;
-      calls = tick-calls 1 0 2 (halfStepped 1 (sampled 0 2) 1) steppedUnderB (split .under-b) (split .b-held) (split .b-root);
-      saw = saw-b;
-      second = buffer;
-      closes = closes steppedUnderB buffer finished buffer-long (split .b-closes);
-    }
+    part-ticks (tick-calls 1 0 2 (halfStepped 1 (sampled 0 2) 1) steppedUnderB 2 refl refl (split .under-b) (split .b-held) (split .b-root)) finished (split .b-closes)
 
 pub until-watched : Watched untilFile (1 ∷ 2 ∷ []) finished
 until-watched =
-    let begun = call.begun (loads ruleFile buffer (asLaid 0 unsampled) buffer-long (split .loads)) in
-    subst (λ (file : List ℕ). Watched file (1 ∷ 2 ∷ []) finished) (split .file) (call.ticked (call.ticked begun 1 tick-a) 2 tick-b)
+    let begun = load-watches ruleFile (asLaid 0 unsampled) (split .loads) in
+    subst (λ (file : List ℕ). Watched file (1 ∷ 2 ∷ []) finished) (split .file) (ticked (ticked begun 1 tick-a) 2 tick-b)
 
 -- ---- what ask tells of it, and what that means
 pub until-told : (answer : AskAnswer) → Asks finished answer → answer ≡ Told (record { verdict = True; ticks = 2; slots = 1; nodes = 1 })
@@ -124,5 +70,5 @@ until-told answer a = asks-determined finished answer _ a (record { says = sym (
 pub until-met : (w : Trace) → Satisfies (continued (1 ∷ 2 ∷ []) w) (ruleIn untilFile)
 until-met =
     let d = demanded until-watched in
-    let e = d .asks finished call.nothing .allowed .says ∙ split .b-stands in
+    let e = d .asks finished nothing .allowed .says ∙ split .b-stands in
     d .when-true (verdict-injective (standing untilFile (1 ∷ 2 ∷ []) finished .verdict) True (ap (λ (a : Said). getD (a .values) 0 0) e))

@@ -1,12 +1,22 @@
 -- A watch by the calls' promises: what happens to a state where every call does something that its promise allows, whatever program
--- makes it. Begun by loading a rule file, then a tick for each event. Assumes nothing: these are definitions.
+-- makes it. Begun by loading a rule file, then a tick for each event. A tick has the event of which every board was given its part.
+-- Assumes nothing: these are definitions.
+use mathlib.Core.Path.{_≡_}
 use mathlib.Core.List.{List, [], _∷_, _++_}
+use mathlib.Core.Logic.{_⊎_}
 use Prim.Native.Nat.{ℕ}
 use Rattle.answers.specs.declared.Refusal.{Refusal}
 use Rattle.answers.specs.declared.Outcome.{Outcome}
 use Rattle.answers.specs.declared.Outcome.the-variants.{Refused, Done}
 use Rattle.ltl.specs.Meaning.{Event}
-use Rattle.watching.specs.Watch.{Saw}
+use Rattle.network.specs.Scores.{sampleOf}
+use Rattle.rules.specs.RuleFile.{masksIn}
+use Rattle.rules.specs.declared.reading.ReadAnswer.the-variants as read-said
+use Rattle.rules.specs.declared.writing.WriteAnswer.the-variants as write-said
+use Rattle.rules.specs.Read.{Reads}
+use Rattle.rules.specs.Write.{Writes}
+use Rattle.central.specs.declared.CentralAnswer.the-variants as central-said
+use Rattle.central.specs.Central.{Centrally}
 use Rattle.asking.specs.declared.AskAnswer.{AskAnswer}
 use Rattle.asking.specs.Ask.{Asks}
 use Rattle.sampling.specs.Sample.{Samples}
@@ -15,7 +25,7 @@ use Rattle.closing.specs.Close.{Closes}
 use Rattle.loading.specs.Load.{LoadsRule}
 
 -- any number of calls on one state, with any numbers and buffers, each with any outcome that its promise allows: samples and steps;
--- asking and closing, which only read the state; a load into it, and a close of another state into it, that are refused
+-- asking and closing, which only read the state; and each call that was lent the state's buffer for its output and was refused
 pub data Called (s : List ℕ) : List ℕ → Type 0 where
   nothing : Called s s
   sampled : {t t′ : List ℕ} → Called s t → (board bits : ℕ) (answer : Outcome) → Samples t board bits t′ answer → Called s t′
@@ -24,16 +34,41 @@ pub data Called (s : List ℕ) : List ℕ → Type 0 where
   closed : {t : List ℕ} → Called s t → (second second′ : List ℕ) (answer : Outcome) → Closes t second second′ answer → Called s t
   load-refused : {t t′ : List ℕ} → Called s t → (file : List ℕ) (why : Refusal) → LoadsRule file t t′ (Refused why) → Called s t′
   close-refused : {t t′ : List ℕ} → Called s t → (other : List ℕ) (why : Refusal) → Closes other t t′ (Refused why) → Called s t′
+  write-refused : {t t′ : List ℕ} → Called s t → (masks : List ℕ) (p : ℕ) (formula : List ℕ) (why : Refusal) → Writes masks p formula t t′ (write-said.Refused why) → Called s t′
+  central-refused : {t t′ : List ℕ} → Called s t → (formula : List ℕ) (event : Event) (why : Refusal) → Centrally formula event t t′ (central-said.Refused why) → Called s t′
+  read-refused : {t t′ : List ℕ} → Called s t → (file masks masks′ : List ℕ) (why : Refusal) → Reads file masks t masks′ t′ (read-said.Refused why) → Called s t′
 
--- a tick from s to s′ under an event: some calls, after which each board has its part of the event as its sample, and an accepted close
-pub record Ticked (s : List ℕ) (e : Event) (s′ : List ℕ) : Type 0 where
+-- board b was given the bits v: one of these calls was that sample, and it was accepted
+abbrev pub Gave : {s t : List ℕ} → Called s t → ℕ → ℕ → Type 0
+Gave nothing b v = ⊥
+Gave (sampled c board bits answer p) b v = Gave c b v ⊎ ((answer ≡ Done) × (b ≡ board) × (v ≡ bits))
+Gave (stepped c slot answer p) b v = Gave c b v
+Gave (asked c answer p) b v = Gave c b v
+Gave (closed c second second′ answer p) b v = Gave c b v
+Gave (load-refused c file why p) b v = Gave c b v
+Gave (close-refused c other why p) b v = Gave c b v
+Gave (write-refused c masks q formula why p) b v = Gave c b v
+Gave (central-refused c formula event why p) b v = Gave c b v
+Gave (read-refused c file masks masks′ why p) b v = Gave c b v
+
+-- whatever a board was given was its part of the event: the bits of the event that are in the board's mask
+abbrev pub GivenBy : {s t : List ℕ} → List ℕ → Event → Called s t → Type 0
+GivenBy masks e c = (b v : ℕ) → Gave c b v → v ≡ sampleOf masks e b
+
+-- what a board was given in both was the same
+abbrev pub SameGiven : {s t r u : List ℕ} → Called s t → Called r u → Type 0
+SameGiven c d = (b v w : ℕ) → Gave c b v → Gave d b w → v ≡ w
+
+-- a tick from s to s′ under an event: some calls, in any order, by which each board was given its part of the event, and an accepted close.
+-- A close is accepted only where every board has sampled, so each was given its part once.
+pub record Ticked (masks : List ℕ) (s : List ℕ) (e : Event) (s′ : List ℕ) : Type 0 where
   pub last : List ℕ
   pub calls : Called s last
-  pub saw : Saw last e
+  pub given : GivenBy masks e calls
   pub second : List ℕ
   pub closes : Closes last second s′ Done
 
 -- a watch: begun by an accepted load of the file, whatever the state's buffer held before, then ticks; its events and its state
 pub data Watched (file : List ℕ) : List Event → List ℕ → Type 0 where
   begun : {before s : List ℕ} → LoadsRule file before s Done → Watched file [] s
-  ticked : {us : List Event} {s s′ : List ℕ} → Watched file us s → (e : Event) → Ticked s e s′ → Watched file (us ++ (e ∷ [])) s′
+  ticked : {us : List Event} {s s′ : List ℕ} → Watched file us s → (e : Event) → Ticked (masksIn file) s e s′ → Watched file (us ++ (e ∷ [])) s′

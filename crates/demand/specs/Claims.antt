@@ -2,17 +2,16 @@
 use mathlib.Core.Path.{_≡_}
 use mathlib.Core.Bool.{true}
 use mathlib.Core.List.{List}
-use Prim.Native.Nat.{ℕ, _<_}
+use Prim.Native.Nat.{ℕ}
 use lib.ListN.{length}
 use Rattle.answers.specs.declared.Refusal.the-variants.{Slots, Nodes, Ticks}
 use Rattle.answers.specs.declared.Outcome.{Outcome}
 use Rattle.answers.specs.declared.Outcome.the-variants.{Refused, Done}
 use Rattle.ltl.specs.Meaning.{Event}
 use Rattle.ltl.specs.Progression.{progressedOver, verdictOf}
-use Rattle.state.specs.Fields.{stateLength, boardsIn, sampleIn, masksIn}
+use Rattle.state.specs.Fields.{stateLength, masksIn}
 use Rattle.state.specs.Bytes.{nodesOf, networkOf}
 use Rattle.state.specs.Calls.{doneIn}
-use Rattle.watching.specs.Watch.{Saw}
 use Rattle.asking.specs.declared.Standing.{Standing}
 use Rattle.asking.specs.declared.AskAnswer.{AskAnswer}
 use Rattle.asking.specs.declared.AskAnswer.the-variants.{Told}
@@ -21,7 +20,7 @@ use Rattle.sampling.specs.Sample.{Samples}
 use Rattle.stepping.specs.Step.{StepsSlot}
 use Rattle.closing.specs.Close.{Closes}
 use Rattle.loading.specs.Load.{ruleIn}
-use Rattle.demand.specs.Called.{Called, nothing, sampled, stepped, asked, closed, load-refused, close-refused}
+use Rattle.demand.specs.Called.{Called, nothing, sampled, stepped, asked, closed, load-refused, close-refused, write-refused, central-refused, read-refused, GivenBy}
 
 -- the call, by its promise of what it leaves and answers, gets this answer: it is allowed, and no other is
 pub record Gets (Promise : List ℕ → Outcome → Type 0) (wanted : Outcome) : Type 0 where
@@ -57,10 +56,6 @@ pub record OneNetwork (s t : List ℕ) : Type 0 where
   pub masks : masksIn s ≡ masksIn t
   pub slots : networkOf s ≡ networkOf t
 
--- their boards have the same samples
-abbrev pub SameSamples : List ℕ → List ℕ → Type 0
-SameSamples s t = (b : ℕ) → b < boardsIn s → sampleIn s b ≡ sampleIn t b
-
 -- how a watch of a file stands after some events: the verdict of progressing the whole rule in one place, without a limit of size; as many
 -- ticks as events; the slots and nodes of the state's network
 abbrev pub standing : List ℕ → List Event → List ℕ → Standing
@@ -81,11 +76,14 @@ AllAccepted (asked c answer p) = ⊥
 AllAccepted (closed c second second′ answer p) = ⊥
 AllAccepted (load-refused c file why p) = ⊥
 AllAccepted (close-refused c other why p) = ⊥
+AllAccepted (write-refused c masks q formula why p) = ⊥
+AllAccepted (central-refused c formula event why p) = ⊥
+AllAccepted (read-refused c file masks masks′ why p) = ⊥
 
--- accepted samples and steps lead from s to this state, where the boards have seen the event and the close is all that is left
-pub record Reaches (s : List ℕ) (e : Event) (last : List ℕ) : Type 0 where
+-- accepted samples and steps lead from s to this state: each board was given its part of the event, and the close is all that is left
+pub record Reaches (masks : List ℕ) (s : List ℕ) (e : Event) (last : List ℕ) : Type 0 where
   pub calls : Called s last
   pub all : AllAccepted calls
-  pub saw : Saw last e
+  pub given : GivenBy masks e calls
   pub left : CloseLeft last
   pub closing : Closing last

@@ -1,5 +1,5 @@
-// The node kinds of the rule language: what a byte of a formula is. The codes and the limits of their ranges are
-// constants of `Kind`, and `Kind::of` is the only place that reads them off a byte.
+// The node kinds of the rule language: what a byte of a formula is. The codes and the limits of their ranges are constants
+// of `Kind`, and `Kind::of` gives a byte its kind. Where one kind alone matters, other crates compare the byte itself.
 ghost use mathlib.Core.Path.{_≡_};
 ghost use Prim.Native.Nat.{_≤_};
 ghost use Rattle.kinds.specs.Kinds.{kindOf};

@@ -1,6 +1,7 @@
 -- What a step writes. It is never longer than the slot was (`step-no-longer`), so that it fits the slot's bytes (`step-fits`, `step-room`;
 -- whatever is sampled and held, `result-fits`, `result-room`). It depends only on the slot's nodes, its board's sample and, for each held slot,
--- whether it is true, false or neither (`step-depends`), and so do the bytes that are written (`step-writes`). Assumes nothing.
+-- whether it is true, false or neither (`step-depends`), and so do all bytes that are written, those of the nodes and those of the length
+-- (`step-writes`); the mark becomes 1 in any case. Assumes nothing.
 use mathlib.Core.Path.{_≡_, refl, sym, ap, ap₂, _∙_}
 use mathlib.Core.Bool.{true}
 use mathlib.Core.List.{List}
@@ -12,6 +13,7 @@ use Rattle.kinds.specs.declared.Leaf.the-variants.{Const, Prop, Hold}
 use Rattle.kinds.specs.declared.Unary.the-variants.{Not, Next, Eventually, Always}
 use Rattle.kinds.specs.declared.Binary.the-variants.{Joined, Until}
 use Rattle.answers.specs.declared.Verdict.{Verdict}
+use Rattle.le.specs.Le.{le}
 use Rattle.ltl.specs.Formula.{Formula, leaf, one, two, size, encode}
 use Rattle.ltl.specs.Meaning.{Event}
 use Rattle.ltl.specs.Text.{textOf, someFormula}
@@ -98,7 +100,7 @@ module _ (s t : List ℕ) (k l : ℕ) (bytes : slotBytes s k ≡ slotBytes t l) 
         ap₂ resolved sample (filled-same p q (formulaAt s k) held ∙ ap (filled q) formula-depends)
 
     pub step-writes : stateOk s ≡ true → stateOk t ≡ true → k < slotsIn s → l < slotsIn t
-        → padded (lengthIn s k) (encode (steppedTo s k)) ≡ padded (lengthIn t l) (encode (steppedTo t l))
+        → (padded (lengthIn s k) (encode (steppedTo s k)) ≡ padded (lengthIn t l) (encode (steppedTo t l))) × (le 2 (size (steppedTo s k)) ≡ le 2 (size (steppedTo t l)))
     step-writes ok ok′ there there′ =
         let n : lengthIn s k ≡ lengthIn t l = passing s ok .slots k there .length-is ∙ ap size formula-depends ∙ sym (passing t ok′ .slots l there′ .length-is) in
-        ap₂ (λ (i : ℕ) (f : Formula). padded i (encode f)) n step-depends
+        (ap₂ (λ (i : ℕ) (f : Formula). padded i (encode f)) n step-depends, ap (λ (f : Formula). le 2 (size f)) step-depends)

@@ -32,17 +32,18 @@ pub record Progressions : Type 0 where
   -- next true; next not not a
   pub next-true : (e : Event) → Gives (5 ∷ 1 ∷ []) e True (1 ∷ [])
   pub next-double : (e : Event) → Gives (5 ∷ 2 ∷ 2 ∷ 64 ∷ []) e Pending (2 ∷ 2 ∷ 64 ∷ [])
-  -- always true, for ever
-  pub always-true : (us : List Event) → encode (progressedOver us (formulaOf (8 ∷ 1 ∷ []))) ≡ 8 ∷ 1 ∷ []
+  -- always true stays, under every event, and so for ever
+  pub always-true : (e : Event) → Gives (8 ∷ 1 ∷ []) e Pending (8 ∷ 1 ∷ [])
+  pub for-ever : (us : List Event) → encode (progressedOver us (formulaOf (8 ∷ 1 ∷ []))) ≡ 8 ∷ 1 ∷ []
   -- a tautology that stays pending
   pub tautology : Gives (4 ∷ 7 ∷ 64 ∷ 8 ∷ 2 ∷ 64 ∷ []) 0 Pending (4 ∷ 7 ∷ 64 ∷ 8 ∷ 2 ∷ 64 ∷ [])
   -- true or a, after one tick
   pub or-true : (e : Event) → Gives (4 ∷ 1 ∷ 64 ∷ []) e True (1 ∷ [])
 
-for-ever : (us : List Event) → encode (progressedOver us (formulaOf (8 ∷ 1 ∷ []))) ≡ 8 ∷ 1 ∷ []
+over-all : (us : List Event) → encode (progressedOver us (formulaOf (8 ∷ 1 ∷ []))) ≡ 8 ∷ 1 ∷ []
 unfolding pick both either bit sameBool sameLeaf same isConstant member joined kindOf
-for-ever [] = refl
-for-ever (e ∷ us) = for-ever us
+over-all [] = refl
+over-all (e ∷ us) = over-all us
 
 pub progressions : Progressions
 unfolding pick both either bit inOrder kindOf sameBool sameLeaf same leafOver over textOver isConstant negated member joined lengthsOk centralSays
@@ -56,7 +57,8 @@ progressions =
       response-met = record { says = refl; leaves = refl };
       next-true = λ e. record { says = refl; leaves = refl };
       next-double = λ e. record { says = refl; leaves = refl };
-      always-true = for-ever;
+      always-true = λ e. record { says = refl; leaves = refl };
+      for-ever = over-all;
       tautology = record { says = refl; leaves = refl };
       or-true = λ e. record { says = refl; leaves = refl };
     }

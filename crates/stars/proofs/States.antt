@@ -6,8 +6,10 @@ use Prim.Native.Nat.{ℕ, _+_}
 use lib.ListN.{length}
 use Rattle.lists.specs.Tests.{pick}
 use Rattle.lists.specs.Runs.{padded}
-use Rattle.answers.specs.Said.{Said, accepted, left, verdictNumber}
+use Rattle.answers.specs.Said.{Said, accepted, refused, left, numberOf, verdictNumber}
+use Rattle.answers.specs.declared.Refusal.{Refusal}
 use Rattle.answers.specs.declared.Verdict.{Verdict}
+use Rattle.answers.proofs.Answers.{left-refused}
 use Rattle.le.specs.Le.{le}
 use Rattle.rules.specs.RuleFile.{masksIn}
 use Rattle.state.specs.Fields as fields
@@ -67,6 +69,26 @@ close-gives before after e f =
           ap (λ (n : ℕ). left (closeSays before n) next second) long ∙ ap (λ (x : Said). left x next second) e ∙ f;
     }
 
--- how the watch stands: the verdict, ticks, slots and nodes
+-- ---- calls that are refused with a number, and leave what they were lent
+-- loading the file, whatever the lent state held
+pub record LoadRefuses (file : List ℕ) (number : ℕ) : Type 0 where
+  pub says : loadSays file stateLength ≡ refused number
+  pub leaves : (before : List ℕ) → left (loadSays file stateLength) (loadedState (masksIn file) (ruleIn file)) before ≡ before
+
+-- closing the tick, whatever the second buffer held
+pub record CloseRefuses (before : List ℕ) (number : ℕ) : Type 0 where
+  pub says : closeSays before stateLength ≡ refused number
+  pub leaves : (second : List ℕ) → length second ≡ stateLength → closeLeaves before second ≡ second
+
+pub close-refuses : (before : List ℕ) (why : Refusal) → closeSays before stateLength ≡ refused (numberOf why) → CloseRefuses before (numberOf why)
+close-refuses before why e =
+    record {
+      says = e;
+      leaves = λ second long.
+          let next = stateOf (fields.masksIn before) (nextIn before) (ticksIn before + 1) in
+          ap (λ (n : ℕ). left (closeSays before n) next second) long ∙ ap (λ (x : Said). left x next second) e ∙ left-refused why next second;
+    }
+
+-- ---- how the watch stands: the verdict, ticks, slots and nodes
 abbrev pub AskGives : List ℕ → Verdict → ℕ → ℕ → ℕ → Type 0
 AskGives s verdict ticks slots nodes = askSays s ≡ accepted (verdictNumber verdict ∷ ticks ∷ slots ∷ nodes ∷ [])

@@ -1,0 +1,35 @@
+-- Whatever calls do that meet their promises, they do to the state what the definitions say that the promises cite (`called`). And the
+-- other way for accepted samples and steps (`made`). `refused-leaves`: what a refused call was lent stays. Assumes nothing.
+use mathlib.Core.Path.{_≡_, refl, sym, ap, _∙_, subst}
+use mathlib.Core.List.{List}
+use Prim.Native.Nat.{ℕ}
+use Rattle.answers.specs.declared.Refusal.{Refusal}
+use Rattle.answers.specs.declared.Outcome.the-variants.{Done}
+use Rattle.answers.specs.Said.{Said, refused, left, numberOf}
+use Rattle.answers.proofs.Answers.{left-refused}
+use Rattle.watching.specs.Watch.{Calls, none, sample, step}
+use Rattle.watching.specs.Claims.{Accepted}
+use Rattle.demand.specs.Called.{Called, nothing, sampled, stepped, asked, closed, load-refused, close-refused, write-refused, central-refused, read-refused}
+use Rattle.demand.specs.Claims.{AllAccepted}
+
+-- what a refused call leaves
+pub refused-leaves : (why : Refusal) (a : Said) (output before : List ℕ) → refused (numberOf why) ≡ a → left a output before ≡ before
+refused-leaves why a output before e = ap (λ (b : Said). left b output before) (sym e) ∙ left-refused why output before
+
+pub called : {s t : List ℕ} → Called s t → Calls s t
+called nothing = none
+called {s} (sampled c board bits answer p) = subst (λ (t : List ℕ). Calls s t) (sym (p .leaves)) (sample (called c) board bits)
+called {s} (stepped c slot answer p) = subst (λ (t : List ℕ). Calls s t) (sym (p .leaves)) (step (called c) slot)
+called (asked c answer p) = called c
+called (closed c second second′ answer p) = called c
+called {s} (load-refused {t = t} c file why p) = subst (λ (u : List ℕ). Calls s u) (sym (p .leaves ∙ refused-leaves why _ _ t (p .says))) (called c)
+called {s} (close-refused {t = t} c other why p) = subst (λ (u : List ℕ). Calls s u) (sym (p .leaves ∙ refused-leaves why _ _ t (p .says))) (called c)
+called {s} (write-refused {t = t} c masks q formula why p) = subst (λ (u : List ℕ). Calls s u) (sym (p .leaves ∙ refused-leaves why _ _ t (p .says))) (called c)
+called {s} (central-refused {t = t} c formula event why p) = subst (λ (u : List ℕ). Calls s u) (sym (p .leaves ∙ refused-leaves why _ _ t (p .says))) (called c)
+called {s} (read-refused {t = t} c file masks masks′ why p) = subst (λ (u : List ℕ). Calls s u) (sym (p .leaves-formula ∙ refused-leaves why _ _ t (p .says))) (called c)
+
+-- accepted calls over the definitions are allowed by the promises
+pub made : {s t : List ℕ} (c : Calls s t) → Accepted c → (d : Called s t) × AllAccepted d
+made none a = (nothing, tt)
+made (sample c board bits) a = let d = made c (a .0) in (sampled (d .0) board bits Done (record { says = sym (a .1); leaves = refl }), (d .1, refl))
+made (step c k) a = let d = made c (a .0) in (stepped (d .0) k Done (record { says = sym (a .1); leaves = refl }), (d .1, refl))

@@ -1,0 +1,178 @@
+-- What the boards were given in a tick is what the state holds (`holding`): of a watch's state, a board that was given bits has them as
+-- its sample, and a board that has sampled was given something. So where every board has sampled, calls that gave each board its part of an
+-- event have left a state that saw the event (`given-saw`, by `sample-given`), and the other way round (`saw-given`). Assumes nothing.
+use mathlib.Core.Path.{_≡_, refl, sym, ap, _∙_, subst}
+use mathlib.Core.Bool.{true}
+use mathlib.Core.List.{List, []}
+use mathlib.Core.Logic.{_⊎_, inl, inr, ⊎-elim}
+use Prim.Native.Nat.{ℕ, _<_}
+use native.Mathlib.Decide.{ℕ-discrete}
+use native.Mathlib.Omega.{arith}
+use borrow.Author.Tests.{eqb-true, ltb-true}
+use Rattle.answers.specs.declared.Refusal.{Refusal}
+use Rattle.answers.specs.declared.Outcome.the-variants.{Refused, Done}
+use Rattle.answers.specs.Said.{Said, accepted, left}
+use Rattle.answers.proofs.Answers.{order-passed, left-accepted}
+use Rattle.ltl.specs.Formula.{Formula}
+use Rattle.ltl.specs.Meaning.{Event}
+use Rattle.network.specs.Scores.{sampleOf}
+use Rattle.state.specs.Fields.{boardsIn, slotsIn, maskIn, sampleIn, sampledIn}
+use Rattle.state.specs.Clauses.{inMask, stateOk}
+use Rattle.state.specs.Calls.{sampleSays, stepSays, doneIn}
+use Rattle.watching.specs.Watch.{Saw}
+use Rattle.watching.proofs.InTick.{InTick, boards-kept}
+use Rattle.watching.proofs.Started.{Started, started-laid}
+use Rattle.watching.proofs.Ticked.{started-in-tick}
+use Rattle.watching.proofs.Sampling as sampling
+use Rattle.watching.proofs.Stepping as stepping
+use Rattle.demand.specs.Called.{Called, nothing, sampled, stepped, asked, closed, load-refused, close-refused, write-refused, central-refused, read-refused, Gave, GivenBy}
+use Rattle.demand.proofs.Calls.{called, refused-leaves}
+use Rattle.demand.proofs.Getting.{done-boards}
+
+-- ---- what an accepted call leaves, and what its checks have told
+accepted-leaves : (a : Said) (output before : List ℕ) → accepted [] ≡ a → left a output before ≡ output
+accepted-leaves a output before e = ap (λ (b : Said). left b output before) (sym e) ∙ left-accepted [] output before
+
+record SamplePassed (t : List ℕ) (b bits : ℕ) : Type 0 where
+  ok : stateOk t ≡ true
+  there : b < boardsIn t
+  inside : inMask bits (maskIn t b) ≡ true
+  fresh : sampledIn t b ≡ 0
+
+sample-passed : (t : List ℕ) (b bits : ℕ) → accepted [] ≡ sampleSays t b bits → SamplePassed t b bits
+unfolding sampleSays
+sample-passed t b bits e =
+    let q = order-passed _ (accepted []) (omega arith, (omega arith, (omega arith, (omega arith, (omega arith, tt))))) (ap (λ (a : Said). a .number) (sym e)) in
+    record { ok = q .0; there = ltb-true _ _ (q .1 .1 .0); inside = q .1 .1 .1 .0; fresh = eqb-true _ _ (q .1 .1 .1 .1 .0) }
+
+record StepPassed (t : List ℕ) (k : ℕ) : Type 0 where
+  ok : stateOk t ≡ true
+  there : k < slotsIn t
+
+step-passed : (t : List ℕ) (k : ℕ) → accepted [] ≡ stepSays t k → StepPassed t k
+unfolding stepSays
+step-passed t k e =
+    let q = order-passed _ (accepted []) (omega arith, (omega arith, (omega arith, (omega arith, (omega arith, tt))))) (ap (λ (a : Said). a .number) (sym e)) in
+    record { ok = q .0; there = ltb-true _ _ (q .1 .1 .0) }
+
+pub refused-not-done : (why : Refusal) → Refused why ≡ Done → ⊥
+refused-not-done why e = let z : _≡_ {A = ℕ} 0 1 = cc in omega arith
+
+-- ---- the boards of a state, and what was given
+-- of the n boards, those that were given bits have them as their sample, and those that have sampled were given something
+record Holds (n : ℕ) (t : List ℕ) (Given : ℕ → ℕ → Type 0) : Type 0 where
+  there : (b v : ℕ) → Given b v → b < n
+  marked : (b v : ℕ) → Given b v → sampledIn t b ≡ 1
+  sample : (b v : ℕ) → Given b v → sampleIn t b ≡ v
+  given : (b : ℕ) → b < n → sampledIn t b ≡ 1 → (v : ℕ) × Given b v
+
+module _ (n : ℕ) (t : List ℕ) (Given : ℕ → ℕ → Type 0) (h : Holds n t Given) where
+  -- after an accepted sample
+  holds-more : boardsIn t ≡ n → (board bits : ℕ) (q : SamplePassed t board bits)
+      → Holds n (sampling.sampled t (q .ok) board bits (q .there) (q .inside) (q .fresh)) (λ b v. Given b v ⊎ ((Done ≡ Done) × (b ≡ board) × (v ≡ bits)))
+  holds-more m board bits q =
+      record {
+        there = λ b v. ⊎-elim (h .there b v) (λ e. (let l = q .there in omega (arith, e .1)));
+        marked = λ b v. ⊎-elim (λ g. flag-other b v g ∙ h .marked b v g) (λ e. ap (sampledIn t′) (e .1) ∙ sampling.sample-flag t (q .ok) board bits (q .there) (q .inside) (q .fresh));
+        sample = λ b v. ⊎-elim (λ g. sampling.sample-other t (q .ok) board bits (q .there) (q .inside) (q .fresh) b (other b v g) ∙ h .sample b v g)
+            (λ e. ap (sampleIn t′) (e .1) ∙ sampling.sample-bits t (q .ok) board bits (q .there) (q .inside) (q .fresh) ∙ sym (e .2));
+        given = given;
+      }
+    where
+      t′ : List ℕ
+      t′ = sampling.sampled t (q .ok) board bits (q .there) (q .inside) (q .fresh)
+
+      -- the board had not sampled, so it is none that was given something
+      other : (b v : ℕ) → Given b v → b ≡ board → ⊥
+      other b v g e = let z = ap (sampledIn t) e in omega (arith, h .marked b v g, q .fresh)
+
+      flag-other : (b v : ℕ) → Given b v → sampledIn t′ b ≡ sampledIn t b
+      flag-other b v g = sampling.sample-other-flag t (q .ok) board bits (q .there) (q .inside) (q .fresh) b (other b v g)
+
+      given : (b : ℕ) → b < n → sampledIn t′ b ≡ 1 → (v : ℕ) × (Given b v ⊎ ((Done ≡ Done) × (b ≡ board) × (v ≡ bits)))
+      given b l f =
+          elim (ℕ-discrete b board) [
+            | yes z ↦ (bits, inr (refl, z, refl))
+            | no z ↦ let g = h .given b l (sym (sampling.sample-other-flag t (q .ok) board bits (q .there) (q .inside) (q .fresh) b z) ∙ f) in (g .0, inl (g .1))
+          ]
+
+  -- after a refused sample
+  holds-refused : (why : Refusal) (board bits : ℕ) → Holds n t (λ b v. Given b v ⊎ ((Refused why ≡ Done) × (b ≡ board) × (v ≡ bits)))
+  holds-refused why board bits =
+      record {
+        there = λ b v. ⊎-elim (h .there b v) (λ e. absurd (refused-not-done why (e .0)));
+        marked = λ b v. ⊎-elim (h .marked b v) (λ e. absurd (refused-not-done why (e .0)));
+        sample = λ b v. ⊎-elim (h .sample b v) (λ e. absurd (refused-not-done why (e .0)));
+        given = λ b l f. let g = h .given b l f in (g .0, inl (g .1));
+      }
+
+  -- after a call that touches no sample
+  holds-still : (t′ : List ℕ) → ((b : ℕ) → b < n → sampledIn t′ b ≡ sampledIn t b) → ((b : ℕ) → b < n → sampleIn t′ b ≡ sampleIn t b) → Holds n t′ Given
+  holds-still t′ flags samples =
+      record {
+        there = h .there;
+        marked = λ b v g. flags b (h .there b v g) ∙ h .marked b v g;
+        sample = λ b v g. samples b (h .there b v g) ∙ h .sample b v g;
+        given = λ b l f. h .given b l (sym (flags b l) ∙ f);
+      }
+
+-- ---- of a watch
+module _ (p : ℕ) (masks : List ℕ) (rule : Formula) (us : List Event) (s : List ℕ) (x : Started p masks rule us s) where
+  within : (t : List ℕ) → Called s t → InTick s (x .passes) (started-laid p masks rule us s x) t
+  within t c = started-in-tick p masks rule us s t x (called c)
+
+  -- the calls keep the number of boards
+  as-many : (t : List ℕ) → Called s t → boardsIn t ≡ boardsIn s
+  as-many t c = boards-kept s (x .passes) (started-laid p masks rule us s x) t (within t c)
+
+  abbrev Held : (t : List ℕ) → (ℕ → ℕ → Type 0) → Type 0
+  Held t Given = Holds (boardsIn s) t Given
+
+  holding : {t : List ℕ} (c : Called s t) → Held t (Gave c)
+  holding nothing =
+      record {
+        there = λ b v g. absurd g;
+        marked = λ b v g. absurd g;
+        sample = λ b v g. absurd g;
+        given = λ b l f. absurd (omega (arith, x .unsampled b l));
+      }
+  holding (sampled {t = t} c board bits Done y) =
+      let q = sample-passed t board bits (y .says) in
+      subst (λ (u : List ℕ). Held u (λ b v. Gave c b v ⊎ ((Done ≡ Done) × (b ≡ board) × (v ≡ bits)))) (sym (y .leaves ∙ accepted-leaves _ _ t (y .says)))
+      (holds-more (boardsIn s) t (Gave c) (holding c) (as-many t c) board bits q)
+  holding (sampled {t = t} c board bits (Refused why) y) =
+      subst (λ (u : List ℕ). Held u (λ b v. Gave c b v ⊎ ((Refused why ≡ Done) × (b ≡ board) × (v ≡ bits)))) (sym (y .leaves ∙ refused-leaves why _ _ t (y .says)))
+      (holds-refused (boardsIn s) t (Gave c) (holding c) why board bits)
+  holding (stepped {t = t} c slot Done y) =
+      let q = step-passed t slot (y .says) in
+      let n = as-many t c in
+      subst (λ (u : List ℕ). Held u (Gave c)) (sym (y .leaves ∙ accepted-leaves _ _ t (y .says)))
+      (holds-still (boardsIn s) t (Gave c) (holding c) (stepping.after t (q .ok) slot (q .there)) (λ b l. stepping.step-flag t (q .ok) slot (q .there) b (omega arith))
+      (λ b l. stepping.step-sample t (q .ok) slot (q .there) b (omega arith)))
+  holding (stepped {t = t} c slot (Refused why) y) = subst (λ (u : List ℕ). Held u (Gave c)) (sym (y .leaves ∙ refused-leaves why _ _ t (y .says))) (holding c)
+  holding (asked c answer y) = holding c
+  holding (closed c second second′ answer y) = holding c
+  holding (load-refused {t = t} c file why y) = subst (λ (u : List ℕ). Held u (Gave c)) (sym (y .leaves ∙ refused-leaves why _ _ t (y .says))) (holding c)
+  holding (close-refused {t = t} c other why y) = subst (λ (u : List ℕ). Held u (Gave c)) (sym (y .leaves ∙ refused-leaves why _ _ t (y .says))) (holding c)
+  holding (write-refused {t = t} c ms q formula why y) = subst (λ (u : List ℕ). Held u (Gave c)) (sym (y .leaves ∙ refused-leaves why _ _ t (y .says))) (holding c)
+  holding (central-refused {t = t} c formula event why y) = subst (λ (u : List ℕ). Held u (Gave c)) (sym (y .leaves ∙ refused-leaves why _ _ t (y .says))) (holding c)
+  holding (read-refused {t = t} c file ms masks′ why y) = subst (λ (u : List ℕ). Held u (Gave c)) (sym (y .leaves-formula ∙ refused-leaves why _ _ t (y .says))) (holding c)
+
+  -- where every board has sampled, each has what it was given
+  pub sample-given : (t : List ℕ) (c : Called s t) → doneIn t ≡ true → (b : ℕ) → b < boardsIn s → (v : ℕ) × (Gave c b v) × (sampleIn t b ≡ v)
+  sample-given t c done b l =
+      let n = as-many t c in
+      let g = holding c .given b l (done-boards t done b (omega arith)) in
+      (g .0, g .1, holding c .sample b (g .0) (g .1))
+
+  pub given-saw : (t : List ℕ) (e : Event) (c : Called s t) → GivenBy masks e c → doneIn t ≡ true → Saw t e
+  given-saw t e c given done b l =
+      let n = as-many t c in
+      let g = sample-given t c done b (omega arith) in
+      g .2 ∙ given b (g .0) (g .1) ∙ ap (λ (ms : List ℕ). sampleOf ms e b) (sym (within t c .masks-kept ∙ x .masks-are))
+
+  pub saw-given : (t : List ℕ) (e : Event) (c : Called s t) → Saw t e → GivenBy masks e c
+  saw-given t e c saw b v g =
+      let n = as-many t c in
+      let l = holding c .there b v g in
+      sym (holding c .sample b v g) ∙ saw b (omega arith) ∙ ap (λ (ms : List ℕ). sampleOf ms e b) (within t c .masks-kept ∙ x .masks-are)

@@ -1,0 +1,105 @@
+-- Rows of the worked values as calls that their promises allow. `Part`: some calls of a tick under an event; `part-nothing` and the names
+-- below it put one call after the other, accepted or refused, each by its row. `part-ticks` closes the tick and `load-watches` begins a
+-- watch, both into `buffer`. `ticks-give-same`: in two ticks under one event each board was given the same. Assumes nothing.
+use mathlib.Core.Path.{_≡_, sym, ap, _∙_}
+use mathlib.Core.List.{List, []}
+use mathlib.Core.Logic.{⊎-elim}
+use Prim.Native.Nat.{ℕ}
+use lib.ListN.{length, replicate, length-replicate}
+use Rattle.answers.specs.declared.Refusal.{Refusal}
+use Rattle.answers.specs.declared.Outcome.the-variants.{Refused, Done}
+use Rattle.answers.specs.declared.Verdict.{Verdict}
+use Rattle.answers.specs.Said.{Said, refused, left, numberOf}
+use Rattle.ltl.specs.Meaning.{Event}
+use Rattle.network.specs.Scores.{sampleOf}
+use Rattle.rules.specs.RuleFile.{masksIn}
+use Rattle.state.specs.Fields.{stateLength}
+use Rattle.state.specs.Calls.{sampleSays, stepSays, closeSays, loadedState}
+use Rattle.asking.specs.declared.AskAnswer.the-variants.{Told}
+use Rattle.loading.specs.Load.{ruleIn, loadSays}
+use Rattle.stars.proofs.States.{LoadGives, SampleGives, StepGives, CloseGives, LoadRefuses, CloseRefuses, AskGives}
+use Rattle.demand.specs.Called as call
+use Rattle.demand.specs.Called.{Called, GivenBy, SameGiven, Ticked, Watched}
+use Rattle.demand.proofs.Calls.{refused-leaves}
+use Rattle.demand.proofs.Given.{refused-not-done}
+
+-- some buffer of a state's length
+abbrev pub buffer : List ℕ
+buffer = replicate stateLength 7
+
+pub buffer-long : length buffer ≡ stateLength
+buffer-long = length-replicate {A = ℕ} stateLength 7
+
+-- ---- a watch begins
+pub load-watches : (file s : List ℕ) → LoadGives file s → Watched file [] s
+load-watches file s g =
+    let e = ap (loadSays file) buffer-long in
+    let leaves = ap (λ (a : Said). left a (loadedState (masksIn file) (ruleIn file)) buffer) e ∙ g .leaves buffer in
+    call.begun {before = buffer} (record { says = sym (e ∙ g .says); leaves = sym leaves })
+
+-- ---- a tick
+-- calls from s to t, in which each board that was given something was given its part of the event
+pub record Part (masks : List ℕ) (e : Event) (s t : List ℕ) : Type 0 where
+  pub calls : Called s t
+  pub given : GivenBy masks e calls
+
+module _ (masks : List ℕ) (e : Event) (s : List ℕ) where
+  pub part-nothing : Part masks e s s
+  part-nothing = record { calls = call.nothing; given = λ b v g. absurd g }
+
+module _ {masks : List ℕ} {e : Event} {s t : List ℕ} (p : Part masks e s t) where
+  -- accepted calls: a board is given its part of the event, a slot is stepped
+  pub part-samples : (board bits : ℕ) (t′ : List ℕ) → bits ≡ sampleOf masks e board → SampleGives t board bits t′ → Part masks e s t′
+  part-samples board bits t′ is g =
+      record {
+        calls = call.sampled (p .calls) board bits Done (record { says = sym (g .says); leaves = sym (g .leaves) });
+        given = λ b v. ⊎-elim (p .given b v) (λ x. x .2 ∙ is ∙ ap (sampleOf masks e) (sym (x .1)));
+      }
+
+  pub part-steps : (slot : ℕ) (t′ : List ℕ) → StepGives t slot t′ → Part masks e s t′
+  part-steps slot t′ g = record { calls = call.stepped (p .calls) slot Done (record { says = sym (g .says); leaves = sym (g .leaves) }); given = p .given }
+
+  -- refused ones
+  pub part-sample-refused : (board bits : ℕ) (why : Refusal) → sampleSays t board bits ≡ refused (numberOf why) → Part masks e s t
+  part-sample-refused board bits why r =
+      record {
+        calls = call.sampled (p .calls) board bits (Refused why) (record { says = sym r; leaves = sym (refused-leaves why _ _ t (sym r)) });
+        given = λ b v. ⊎-elim (p .given b v) (λ x. absurd (refused-not-done why (x .0)));
+      }
+
+  pub part-step-refused : (slot : ℕ) (why : Refusal) → stepSays t slot ≡ refused (numberOf why) → Part masks e s t
+  part-step-refused slot why r =
+      record { calls = call.stepped (p .calls) slot (Refused why) (record { says = sym r; leaves = sym (refused-leaves why _ _ t (sym r)) }); given = p .given }
+
+  -- a load into the state
+  pub part-load-refused : length t ≡ stateLength → (file : List ℕ) (why : Refusal) → LoadRefuses file (numberOf why) → Part masks e s t
+  part-load-refused long file why r =
+      let x = ap (loadSays file) long in
+      let leaves = ap (λ (a : Said). left a (loadedState (masksIn file) (ruleIn file)) t) x ∙ r .leaves t in
+      record { calls = call.load-refused (p .calls) file why (record { says = sym (x ∙ r .says); leaves = sym leaves }); given = p .given }
+
+  -- a close of another state into it
+  pub part-close-refused : length t ≡ stateLength → (other : List ℕ) (why : Refusal) → CloseRefuses other (numberOf why) → Part masks e s t
+  part-close-refused long other why r =
+      let x = ap (closeSays other) long in
+      record { calls = call.close-refused (p .calls) other why (record { says = sym (x ∙ r .says); leaves = sym (r .leaves t long) }); given = p .given }
+
+  -- a close of it into another buffer
+  pub part-close-early : (why : Refusal) → CloseRefuses t (numberOf why) → Part masks e s t
+  part-close-early why r =
+      let x = ap (closeSays t) buffer-long in
+      record { calls = call.closed (p .calls) buffer buffer (Refused why) (record { says = sym (x ∙ r .says); leaves = sym (r .leaves buffer buffer-long) }); given = p .given }
+
+  -- asking
+  pub part-asks : (verdict : Verdict) (ticks slots nodes : ℕ) → AskGives t verdict ticks slots nodes → Part masks e s t
+  part-asks verdict ticks slots nodes a =
+      record { calls = call.asked (p .calls) (Told (record { verdict = verdict; ticks = ticks; slots = slots; nodes = nodes })) (record { says = sym a }); given = p .given }
+
+  -- ---- the tick is closed
+  abbrev pub part-ticks : (s′ : List ℕ) → CloseGives t s′ → Ticked masks s e s′
+  part-ticks s′ g =
+      let x = ap (closeSays t) buffer-long in
+      record { last = t; calls = p .calls; given = p .given; second = buffer; closes = record { says = sym (x ∙ g .says); leaves = sym (g .leaves buffer buffer-long) } }
+
+pub ticks-give-same : {masks : List ℕ} {e : Event} {s s′ r r′ : List ℕ} (x : Ticked masks s e s′) (y : Ticked masks r e r′) → SameGiven (x .calls) (y .calls)
+ticks-give-same x y b v w g h = x .given b v g ∙ sym (y .given b w h)

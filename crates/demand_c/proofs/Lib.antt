@@ -1,0 +1,4 @@
+-- From the exported functions' promises to the calls' own, and so the third demand for the calls from C.
+pub mod Same
+pub mod Watches
+pub mod Demand

@@ -1,0 +1,89 @@
+-- Whatever an exported function's promise allows, the call's own promise allows, with an outcome of the same number: `sample-same`, `step-same`,
+-- `close-same`, `load-same`; of a refusal `load-refusal`, `close-refusal`, `write-refusal`, `central-refusal`, `read-refusal`. Assumes nothing.
+use mathlib.Core.Path.{_≡_, refl, sym, ap, _∙_, subst}
+use mathlib.Core.List.{List}
+use mathlib.Core.Logic.{⊎-elim}
+use Prim.Native.Nat.{ℕ}
+use lib.ListN.{length}
+use Rattle.answers.specs.declared.Refusal.{Refusal}
+use Rattle.answers.specs.declared.Refusal.the-variants.{Length, Version, Range, Offset, Masks, Formula, Nodes}
+use Rattle.answers.specs.declared.Outcome.{Outcome}
+use Rattle.answers.specs.declared.Outcome.the-variants.{Refused, Done}
+use Rattle.answers.specs.Said.{Said, refused, numberOf, saidOutcome}
+use Rattle.ltl.specs.Meaning.{Event}
+use Rattle.loading.specs.Load.{LoadsRule}
+use Rattle.sampling.specs.Sample.{Samples}
+use Rattle.stepping.specs.Step.{StepsSlot}
+use Rattle.closing.specs.Close.{Closes}
+use Rattle.rules.specs.declared.reading.ReadAnswer.the-variants as read-said
+use Rattle.rules.specs.declared.writing.WriteAnswer.the-variants as write-said
+use Rattle.rules.specs.Read.{readSays, Reads}
+use Rattle.rules.specs.Write.{writeSays, Writes}
+use Rattle.central.specs.declared.CentralAnswer.the-variants as central-said
+use Rattle.central.specs.Central.{centralSays, Centrally}
+use Rattle.exports.specs.Exported.{ReadExported, WriteExported, CentralExported, LoadExported, SampleExported, StepExported, CloseExported}
+use Rattle.demand.proofs.Allowed.{Either, order-either, sample-outcome, step-outcome, close-outcome, load-outcome}
+use Rattle.demand_c.specs.FromC.{Refuses}
+
+-- the outcome of a call without values that has this number
+number-of : (a : Said) (answer : Outcome) (n : ℕ) → saidOutcome answer ≡ a → n ≡ a .number → n ≡ saidOutcome answer .number
+number-of a answer n e h = h ∙ ap (λ (b : Said). b .number) (sym e)
+
+pub sample-same : {s s′ : List ℕ} {board bits n : ℕ} → SampleExported s board bits s′ n → (answer : Outcome) × Samples s board bits s′ answer × (n ≡ saidOutcome answer .number)
+sample-same {s} {s′} {board} {bits} {n} x =
+    let r = sample-outcome s board bits in
+    (r .0, record { says = r .1; leaves = x .leaves }, number-of _ (r .0) n (r .1) (x .says))
+
+pub step-same : {s s′ : List ℕ} {slot n : ℕ} → StepExported s slot s′ n → (answer : Outcome) × StepsSlot s slot s′ answer × (n ≡ saidOutcome answer .number)
+step-same {s} {s′} {slot} {n} x = let r = step-outcome s slot in (r .0, record { says = r .1; leaves = x .leaves }, number-of _ (r .0) n (r .1) (x .says))
+
+pub close-same : {s second second′ : List ℕ} {n : ℕ} → CloseExported s second second′ n → (answer : Outcome) × Closes s second second′ answer × (n ≡ saidOutcome answer .number)
+close-same {s} {second} {second′} {n} x =
+    let r = close-outcome s (length second) in
+    (r .0, record { says = r .1; leaves = x .leaves }, number-of _ (r .0) n (r .1) (x .says))
+
+pub load-same : {file s s′ : List ℕ} {n : ℕ} → LoadExported file s s′ n → (answer : Outcome) × LoadsRule file s s′ answer × (n ≡ saidOutcome answer .number)
+load-same {file} {s} {s′} {n} x = let r = load-outcome file (length s) in (r .0, record { says = r .1; leaves = x .leaves }, number-of _ (r .0) n (r .1) (x .says))
+
+-- an outcome with a refusal's number is a refusal, and one with 0 is none
+pub outcome-refused : (answer : Outcome) (n : ℕ) → n ≡ saidOutcome answer .number → Refuses n → (why : Refusal) × (answer ≡ Refused why)
+outcome-refused (Refused why) n e r = (why, refl)
+outcome-refused Done n e r = absurd (r e)
+
+pub load-refusal : {file s s′ : List ℕ} {n : ℕ} → LoadExported file s s′ n → Refuses n → (why : Refusal) × LoadsRule file s s′ (Refused why)
+load-refusal {file} {s} {s′} {n} x refuses =
+    let r = load-same x in
+    let q = outcome-refused (r .0) n (r .2) refuses in
+    (q .0, subst (λ (a : Outcome). LoadsRule file s s′ a) (q .1) (r .1))
+
+pub close-refusal : {s second second′ : List ℕ} {n : ℕ} → CloseExported s second second′ n → Refuses n → (why : Refusal) × Closes s second second′ (Refused why)
+close-refusal {s} {second} {second′} {n} x refuses =
+    let r = close-same x in
+    let q = outcome-refused (r .0) n (r .2) refuses in
+    (q .0, subst (λ (a : Outcome). Closes s second second′ a) (q .1) (r .1))
+
+-- the same of a call with values
+either-refused : (a : Said) (vs : List ℕ) (n : ℕ) → Either a vs → n ≡ a .number → Refuses n → (why : Refusal) × (refused (numberOf why) ≡ a)
+either-refused a vs n e says refuses = ⊎-elim (λ h. absurd (refuses (says ∙ ap (λ (b : Said). b .number) h))) (λ r. (r .0, sym (r .1))) e
+
+pub write-refusal : {masks : List ℕ} {p : ℕ} {formula file file′ : List ℕ} {written written′ n : ℕ} → WriteExported masks p formula file file′ written written′ n → Refuses n
+    → (why : Refusal) × Writes masks p formula file file′ (write-said.Refused why)
+unfolding writeSays
+write-refusal {n = n} x refuses =
+    let r = either-refused _ _ n (order-either _ ((Length, refl), ((Range, refl), ((Masks, refl), ((Formula, refl), tt)))) _) (x .says) refuses in
+    (r .0, record { says = r .1; leaves = x .leaves })
+
+pub central-refusal : {formula : List ℕ} {event : Event} {output output′ : List ℕ} {verdict nodes verdict′ nodes′ n : ℕ} → CentralExported formula event output output′ verdict nodes verdict′ nodes′ n
+    → Refuses n → (why : Refusal) × Centrally formula event output output′ (central-said.Refused why)
+unfolding centralSays
+central-refusal {n = n} x refuses =
+    let r = either-refused _ _ n (order-either _ ((Length, refl), ((Formula, refl), ((Nodes, refl), tt))) _) (x .says) refuses in
+    (r .0, record { says = r .1; leaves = x .leaves })
+
+pub read-refusal : {file masks formula masks′ formula′ : List ℕ} {boards propositions nodes boards′ propositions′ nodes′ n : ℕ}
+    → ReadExported file masks formula masks′ formula′ boards propositions nodes boards′ propositions′ nodes′ n → Refuses n → (why : Refusal) × Reads file masks formula masks′ formula′ (read-said.Refused why)
+unfolding readSays
+read-refusal {n = n} x refuses =
+    let r =
+    either-refused _ _ n (order-either _ ((Length, refl), ((Version, refl), ((Range, refl), ((Offset, refl), ((Masks, refl), ((Formula, refl), tt)))))) _) (x .says) refuses in
+    (r .0, record { says = r .1; leaves-masks = x .leaves-masks; leaves-formula = x .leaves-formula })

@@ -1,0 +1,62 @@
+-- A watch by the calls from C: as in crates/demand, over the exported functions' promises. An answer is a number, 0 where the call is accepted.
+-- Assumes nothing: these are definitions.
+use mathlib.Core.Path.{_≡_}
+use mathlib.Core.List.{List, [], _∷_, _++_}
+use mathlib.Core.Logic.{_⊎_}
+use Prim.Native.Nat.{ℕ}
+use Rattle.ltl.specs.Meaning.{Event}
+use Rattle.network.specs.Scores.{sampleOf}
+use Rattle.rules.specs.RuleFile.{masksIn}
+use Rattle.exports.specs.Exported.{ReadExported, WriteExported, CentralExported, LoadExported, SampleExported, StepExported, CloseExported, AskExported}
+
+-- the number is a refusal's
+abbrev pub Refuses : ℕ → Type 0
+Refuses n = n ≡ 0 → ⊥
+
+-- any number of calls on one state, with any numbers and buffers, and whatever stood behind the pointers to single numbers: samples and
+-- steps; asking and closing, which only read the state; and each call that was lent the state's buffer for its output and was refused
+pub data CalledFromC (s : List ℕ) : List ℕ → Type 0 where
+  nothing : CalledFromC s s
+  sampled : {t t′ : List ℕ} → CalledFromC s t → (board bits n : ℕ) → SampleExported t board bits t′ n → CalledFromC s t′
+  stepped : {t t′ : List ℕ} → CalledFromC s t → (slot n : ℕ) → StepExported t slot t′ n → CalledFromC s t′
+  asked : {t : List ℕ} → CalledFromC s t → (verdict ticks slots nodes verdict′ ticks′ slots′ nodes′ n : ℕ) → AskExported t verdict ticks slots nodes verdict′ ticks′ slots′ nodes′ n → CalledFromC s t
+  closed : {t : List ℕ} → CalledFromC s t → (second second′ : List ℕ) (n : ℕ) → CloseExported t second second′ n → CalledFromC s t
+  load-refused : {t t′ : List ℕ} → CalledFromC s t → (file : List ℕ) (n : ℕ) → Refuses n → LoadExported file t t′ n → CalledFromC s t′
+  close-refused : {t t′ : List ℕ} → CalledFromC s t → (other : List ℕ) (n : ℕ) → Refuses n → CloseExported other t t′ n → CalledFromC s t′
+  write-refused : {t t′ : List ℕ} → CalledFromC s t → (masks : List ℕ) (p : ℕ) (formula : List ℕ) (written written′ n : ℕ) → Refuses n → WriteExported masks p formula t t′ written written′ n → CalledFromC s t′
+  central-refused : {t t′ : List ℕ} → CalledFromC s t → (formula : List ℕ) (event verdict nodes verdict′ nodes′ n : ℕ) → Refuses n → CentralExported formula event t t′ verdict nodes verdict′ nodes′ n → CalledFromC s t′
+  read-refused : {t t′ : List ℕ} → CalledFromC s t → (file masks masks′ : List ℕ) (boards propositions nodes boards′ propositions′ nodes′ n : ℕ) → Refuses n → ReadExported file masks t masks′ t′ boards propositions nodes boards′ propositions′ nodes′ n → CalledFromC s t′
+
+-- board b was given the bits v: one of these calls was that sample, and it answered 0
+abbrev pub GaveFromC : {s t : List ℕ} → CalledFromC s t → ℕ → ℕ → Type 0
+GaveFromC nothing b v = ⊥
+GaveFromC (sampled c board bits n p) b v = GaveFromC c b v ⊎ ((n ≡ 0) × (b ≡ board) × (v ≡ bits))
+GaveFromC (stepped c slot n p) b v = GaveFromC c b v
+GaveFromC (asked c verdict ticks slots nodes verdict′ ticks′ slots′ nodes′ n p) b v = GaveFromC c b v
+GaveFromC (closed c second second′ n p) b v = GaveFromC c b v
+GaveFromC (load-refused c file n r p) b v = GaveFromC c b v
+GaveFromC (close-refused c other n r p) b v = GaveFromC c b v
+GaveFromC (write-refused c masks q formula written written′ n r p) b v = GaveFromC c b v
+GaveFromC (central-refused c formula event verdict nodes verdict′ nodes′ n r p) b v = GaveFromC c b v
+GaveFromC (read-refused c file masks masks′ boards propositions nodes boards′ propositions′ nodes′ n r p) b v = GaveFromC c b v
+
+-- whatever a board was given was its part of the event
+abbrev pub GivenByC : {s t : List ℕ} → List ℕ → Event → CalledFromC s t → Type 0
+GivenByC masks e c = (b v : ℕ) → GaveFromC c b v → v ≡ sampleOf masks e b
+
+-- what a board was given in both was the same
+abbrev pub SameGivenFromC : {s t r u : List ℕ} → CalledFromC s t → CalledFromC r u → Type 0
+SameGivenFromC c d = (b v w : ℕ) → GaveFromC c b v → GaveFromC d b w → v ≡ w
+
+-- a tick from s to s′ under an event: some calls by which each board was given its part of the event, and a close that answers 0
+pub record TickedFromC (masks : List ℕ) (s : List ℕ) (e : Event) (s′ : List ℕ) : Type 0 where
+  pub last : List ℕ
+  pub calls : CalledFromC s last
+  pub given : GivenByC masks e calls
+  pub second : List ℕ
+  pub closes : CloseExported last second s′ 0
+
+-- a watch: begun by a load of the file that answers 0, whatever the state's buffer held before, then ticks; its events and its state
+pub data WatchedFromC (file : List ℕ) : List Event → List ℕ → Type 0 where
+  begun : {before s : List ℕ} → LoadExported file before s 0 → WatchedFromC file [] s
+  ticked : {us : List Event} {s s′ : List ℕ} → WatchedFromC file us s → (e : Event) → TickedFromC (masksIn file) s e s′ → WatchedFromC file (us ++ (e ∷ [])) s′

@@ -1,0 +1,3 @@
+-- The third demand for the calls from C: a watch by the exported functions' promises, and what is claimed of it.
+pub mod FromC
+pub mod Demanded

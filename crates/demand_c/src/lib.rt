@@ -1,0 +1,1 @@
+// The third demand for the calls from C. No code: definitions and theorems.

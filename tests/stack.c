@@ -1,0 +1,352 @@
+// How much stack the calls take; the script `stack` builds and runs this. With SEED and COUNT it makes each call with inputs that
+// are nested deep, and with COUNT by chance, and prints the most bytes that a call took below the frame of the function that made
+// it. With `limits` it makes the calls on threads that have as much stack as the header names for the call, and no more: a call
+// that takes more ends the program by a signal, and its name is the last that was printed.
+
+#define _GNU_SOURCE
+#include "deep.h"
+
+#include <inttypes.h>
+#include <pthread.h>
+#include <stdio.h>
+#include <stdlib.h>
+#include <string.h>
+#include <sys/mman.h>
+
+// What the calls are given. A call that writes the state is given `second`, so that `state` stays for the next one.
+static struct formula formula;
+static uint64_t event, slot;
+static size_t file_length;
+static uint8_t file[VYDRULKA_FILE_MOST], state[VYDRULKA_STATE_LENGTH], second[VYDRULKA_STATE_LENGTH];
+
+// What the other outputs are; nobody looks at them.
+static uint64_t read_masks[VYDRULKA_BOARDS_MOST], numbers[3];
+static uint32_t words[2], answer;
+static uint8_t output[VYDRULKA_NODES_MOST], written[VYDRULKA_FILE_MOST], read_formula[VYDRULKA_RULE_NODES_MOST];
+
+static void make_read(void)
+{
+    answer = vydrulka_read(file, file_length, read_masks, VYDRULKA_BOARDS_MOST, read_formula, sizeof read_formula, &numbers[0],
+                           &numbers[1], &numbers[2]);
+}
+
+static void make_write(void)
+{
+    answer = vydrulka_write(masks, 2, 2, formula.bytes, formula.nodes, written, sizeof written, &numbers[0]);
+}
+
+static void make_central(void)
+{
+    answer = vydrulka_central(formula.bytes, formula.nodes, event, output, sizeof output, &words[0], &numbers[0]);
+}
+
+static void make_load(void)
+{
+    answer = vydrulka_load(file, file_length, second, sizeof second);
+}
+
+static void make_sample(void)
+{
+    answer = vydrulka_sample(second, sizeof second, slot % 2, event & masks[slot % 2]);
+}
+
+static void make_step(void)
+{
+    answer = vydrulka_step(second, sizeof second, slot);
+}
+
+static void make_close(void)
+{
+    answer = vydrulka_close(state, sizeof state, second, sizeof second);
+}
+
+static void make_ask(void)
+{
+    answer = vydrulka_ask(state, sizeof state, &words[0], &words[1], &numbers[0], &numbers[1]);
+}
+
+
+enum call { READ, WRITE, CENTRAL, LOAD, SAMPLE, STEP, CLOSE, ASK, CALLS };
+
+static const struct {
+    const char *name;
+    void (*make)(void);
+    size_t promised;
+} calls[CALLS] = {
+    [READ] = {"read", make_read, VYDRULKA_STACK_READ},
+    [WRITE] = {"write", make_write, VYDRULKA_STACK_WRITE},
+    [CENTRAL] = {"central", make_central, VYDRULKA_STACK_CENTRAL},
+    [LOAD] = {"load", make_load, VYDRULKA_STACK_LOAD},
+    [SAMPLE] = {"sample", make_sample, VYDRULKA_STACK_SAMPLE},
+    [STEP] = {"step", make_step, VYDRULKA_STACK_STEP},
+    [CLOSE] = {"close", make_close, VYDRULKA_STACK_CLOSE},
+    [ASK] = {"ask", make_ask, VYDRULKA_STACK_ASK},
+};
+
+// What is done with a call: it is measured, or made on a small stack.
+static void (*take)(enum call);
+
+// What the input is, in words.
+static char shape[200];
+
+static void must(int holds, const char *what)
+{
+    if (holds)
+        return;
+    fprintf(stderr, "stack: %s failed\n", what);
+    exit(2);
+}
+
+// Measuring. The stack below the caller is painted; a call went as deep as the lowest word that is no longer paint.
+
+enum { PAINTED = 12 << 20, WORDS = PAINTED / 8 };
+enum { GAP = 1 << 14 }; // words: more than any frame leaves untouched
+static const uint64_t paint = 0x7cd1a9e358b6f402;
+
+// Paints what is not paint below here, and says how many words down the last of it was. It stops at a gap of so many words of
+// paint. It is always inlined, because a frame of its own would lie where it paints.
+static inline __attribute__((always_inline)) size_t repaint(volatile uint64_t *here, size_t gap)
+{
+    size_t deepest = 0;
+    for (size_t i = 1; i <= WORDS && i <= deepest + gap; i++)
+        if (here[-(ptrdiff_t)i] != paint) {
+            here[-(ptrdiff_t)i] = paint;
+            deepest = i;
+        }
+    return deepest;
+}
+
+static inline __attribute__((always_inline)) volatile uint64_t *stack_pointer(void)
+{
+    volatile uint64_t *here;
+    __asm__ volatile("mov %%rsp, %0" : "=r"(here));
+    return here;
+}
+
+// The bytes of stack that the call takes. Nothing else runs between the two paintings.
+static __attribute__((noinline)) size_t depth_of(void (*make)(void))
+{
+    volatile uint64_t *here = stack_pointer();
+    repaint(here, GAP);
+    make();
+    return 8 * repaint(here, GAP);
+}
+
+// Paints all, and says how many bytes down something was not paint.
+static __attribute__((noinline)) size_t paint_all(void)
+{
+    return 8 * repaint(stack_pointer(), WORDS);
+}
+
+static struct {
+    size_t depth, inputs;
+    uint32_t answer;
+    char shape[sizeof shape];
+} found[CALLS];
+
+static void measure(enum call call)
+{
+    size_t depth = depth_of(calls[call].make);
+    found[call].inputs++;
+    if (depth <= found[call].depth)
+        return;
+    found[call].depth = depth;
+    found[call].answer = answer;
+    strcpy(found[call].shape, shape);
+}
+
+// Limits. A call is made on a thread whose stack has forbidden pages below it. The memory is not left to the C library, which
+// hands out larger stacks that it has kept.
+
+enum { FORBIDDEN = 1 << 20 };
+static enum call limited;
+static pthread_attr_t attributes;
+
+static void *make_limited(void *none)
+{
+    calls[limited].make();
+    return none;
+}
+
+static void limit(enum call call)
+{
+    pthread_t thread;
+    if (call != limited)
+        return;
+    must(pthread_create(&thread, &attributes, make_limited, NULL) == 0, "pthread_create");
+    must(pthread_join(thread, NULL) == 0, "pthread_join");
+    found[call].inputs++;
+}
+
+// Inputs. A formula goes to the calls as it is, in a rule file, and in states.
+
+static void take_central(void)
+{
+    for (event = 0; event < 4; event++)
+        take(CENTRAL);
+}
+
+static void take_file(void)
+{
+    file_length = file_of(file, &formula);
+    take(READ);
+    take(WRITE);
+    take(LOAD);
+}
+
+static void take_states(size_t slots)
+{
+    enum { SAMPLED_0 = 16 + 16, SAMPLE_0 = 16 + 8 };
+    state_of(state, &formula, 1, slots);
+    take(CLOSE);
+    take(ASK);
+    for (event = 0; event < 2; event++) {
+        state_of(second, &formula, 0, slots);
+        second[SAMPLE_0] = (uint8_t)event;
+        slot = slots - 1;
+        take(STEP);
+    }
+    state_of(second, &formula, 0, slots);
+    second[SAMPLED_0] = 0;
+    slot = 0;
+    take(SAMPLE);
+}
+
+static void name_shape(const struct pattern *pattern, size_t slots)
+{
+    int at = snprintf(shape, sizeof shape, "%zu nodes", formula.nodes);
+    if (slots > 1)
+        at += snprintf(shape + at, sizeof shape - (size_t)at, " in each of %zu slots", slots);
+    at += snprintf(shape + at, sizeof shape - (size_t)at, ":");
+    for (size_t i = 0; i < pattern->length; i++)
+        at += snprintf(shape + at, sizeof shape - (size_t)at, " %s,", layer_name(pattern->layers[i]));
+    snprintf(shape + at, sizeof shape - (size_t)at, " around %s", core_name(pattern->core));
+}
+
+static void take_nest(const struct pattern *pattern, size_t most, int filled)
+{
+    nest(&formula, pattern, most, filled);
+    name_shape(pattern, 1);
+    take_central();
+    take_states(1);
+    nest(&formula, pattern, most / 4, filled);
+    name_shape(pattern, 1);
+    take_file();
+    for (size_t slots = 2; slots <= VYDRULKA_SLOTS_MOST && slots * 4 <= most; slots *= 2) {
+        nest(&formula, pattern, most / slots, filled);
+        name_shape(pattern, slots);
+        take_states(slots);
+    }
+}
+
+// Of full size, and by halves down to the least, so that not every unfolding and layout is refused.
+static void take_sizes(const struct pattern *pattern, size_t least)
+{
+    take_nest(pattern, VYDRULKA_NODES_MOST, 1);
+    for (size_t most = VYDRULKA_NODES_MOST; most >= least; most /= 2)
+        take_nest(pattern, most, 0);
+}
+
+static void take_layers(size_t least)
+{
+    for (size_t layer = 0; layer < layer_count; layer++)
+        for (size_t core = 0; core < core_count; core++)
+            take_sizes(&(struct pattern){1, core, {layer}}, least);
+}
+
+static void take_pairs(size_t least)
+{
+    for (size_t first = 0; first < layer_count; first++)
+        for (size_t next = 0; next < layer_count; next++)
+            if (first != next)
+                take_sizes(&(struct pattern){2, 0, {first, next}}, least);
+}
+
+// A watch of the rule file, for a few ticks.
+static void take_watch(struct chance *chance)
+{
+    take(LOAD);
+    for (int ticks = 0; answer == 0 && ticks < 4; ticks++) {
+        memcpy(state, second, sizeof state);
+        take(ASK);
+        size_t slots = numbers[0];
+        event = below(chance, 4);
+        for (slot = 0; slot < 2; slot++)
+            take(SAMPLE);
+        for (slot = slots; slot-- > 0;)
+            take(STEP);
+        memcpy(state, second, sizeof state);
+        take(CLOSE);
+    }
+}
+
+static void take_chances(struct chance *chance, size_t count)
+{
+    void (*const any[])(struct formula *, struct chance *, size_t) = {any_nest, any_tree};
+    for (size_t i = 0; i < count; i++) {
+        snprintf(shape, sizeof shape, "input %zu by chance", i);
+        any[i % 2](&formula, chance, VYDRULKA_NODES_MOST);
+        take_central();
+        take_states(1);
+        any[i % 2](&formula, chance, 8 + below(chance, VYDRULKA_RULE_NODES_MOST - 8));
+        take_file();
+        take_watch(chance);
+    }
+}
+
+struct chances {
+    struct chance chance;
+    size_t count;
+};
+
+static void *measure_all(void *given)
+{
+    struct chances *chances = given;
+    take = measure;
+    paint_all();
+    take_layers(32);
+    take_pairs(32);
+    take_chances(&chances->chance, chances->count);
+    must(paint_all() < 8 * GAP, "painting, for a frame has a wider gap: it");
+    return NULL;
+}
+
+static void measure_and_print(uint64_t seed, size_t count)
+{
+    struct chances chances = {{seed}, count};
+    pthread_t thread;
+    must(pthread_attr_setstacksize(&attributes, PAINTED + (1 << 20)) == 0, "pthread_attr_setstacksize");
+    must(pthread_create(&thread, &attributes, measure_all, &chances) == 0, "pthread_create");
+    must(pthread_join(thread, NULL) == 0, "pthread_join");
+    printf("%-8s %8s %8s  %s\n", "call", "bytes", "inputs", "the deepest input");
+    for (enum call call = 0; call < CALLS; call++)
+        printf("%-8s %8zu %8zu  %s; answer %" PRIu32 "\n", calls[call].name, found[call].depth, found[call].inputs,
+               found[call].shape, found[call].answer);
+}
+
+static void hold_to_limits(void)
+{
+    take = limit;
+    for (limited = 0; limited < CALLS; limited++) {
+        size_t size = calls[limited].promised;
+        uint8_t *area = mmap(NULL, FORBIDDEN + size, PROT_NONE, MAP_PRIVATE | MAP_ANONYMOUS, -1, 0);
+        must(area != MAP_FAILED && mprotect(area + FORBIDDEN, size, PROT_READ | PROT_WRITE) == 0, "mmap");
+        must(pthread_attr_setstack(&attributes, area + FORBIDDEN, size) == 0, "pthread_attr_setstack");
+        printf("%-8s", calls[limited].name);
+        fflush(stdout);
+        take_layers(VYDRULKA_NODES_MOST);
+        printf(" %7zu bytes are enough for %zu inputs\n", size, found[limited].inputs);
+    }
+}
+
+int main(int argc, char **argv)
+{
+    must(pthread_attr_init(&attributes) == 0, "pthread_attr_init");
+    if (argc == 2 && !strcmp(argv[1], "limits"))
+        hold_to_limits();
+    else if (argc == 3)
+        measure_and_print(strtoull(argv[1], NULL, 10), strtoull(argv[2], NULL, 10));
+    else
+        must(0, "usage: stack SEED COUNT, or stack limits:");
+    return EXIT_SUCCESS;
+}
