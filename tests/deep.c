@@ -1,4 +1,4 @@
-// See deep.h.
+// Makes the formulas and states of deep.h.
 
 #include "deep.h"
 

@@ -1,7 +1,8 @@
 // How much stack the calls take; the script `stack` builds and runs this. With SEED and COUNT it makes each call with inputs that
 // are nested deep, and with COUNT by chance, and prints the most bytes that a call took below the frame of the function that made
 // it. With `limits` it makes the calls on threads that have as much stack as the header names for the call, and no more: a call
-// that takes more ends the program by a signal, and its name is the last that was printed.
+// that takes more ends the program by a signal, and its name is the last that was printed. So that this shows something, a call
+// that goes deep must use most of that stack.
 
 #define _GNU_SOURCE
 #include "deep.h"
@@ -139,15 +140,21 @@ static __attribute__((noinline)) size_t paint_all(void)
 }
 
 static struct {
-    size_t depth, inputs;
+    size_t depth, inputs, accepted;
     uint32_t answer;
     char shape[sizeof shape];
 } found[CALLS];
 
+static void count_input(enum call call)
+{
+    found[call].inputs++;
+    found[call].accepted += answer == VYDRULKA_ACCEPTED;
+}
+
 static void measure(enum call call)
 {
     size_t depth = depth_of(calls[call].make);
-    found[call].inputs++;
+    count_input(call);
     if (depth <= found[call].depth)
         return;
     found[call].depth = depth;
@@ -159,6 +166,7 @@ static void measure(enum call call)
 // hands out larger stacks that it has kept.
 
 enum { FORBIDDEN = 1 << 20 };
+enum { SMALL = 32 << 10 }; // of a stack this small a thread needs a part for itself, and no call follows a formula down
 static enum call limited;
 static pthread_attr_t attributes;
 
@@ -175,7 +183,7 @@ static void limit(enum call call)
         return;
     must(pthread_create(&thread, &attributes, make_limited, NULL) == 0, "pthread_create");
     must(pthread_join(thread, NULL) == 0, "pthread_join");
-    found[call].inputs++;
+    count_input(call);
 }
 
 // Inputs. A formula goes to the calls as it is, in a rule file, and in states.
@@ -318,10 +326,19 @@ static void measure_and_print(uint64_t seed, size_t count)
     must(pthread_attr_setstacksize(&attributes, PAINTED + (1 << 20)) == 0, "pthread_attr_setstacksize");
     must(pthread_create(&thread, &attributes, measure_all, &chances) == 0, "pthread_create");
     must(pthread_join(thread, NULL) == 0, "pthread_join");
-    printf("%-8s %8s %8s  %s\n", "call", "bytes", "inputs", "the deepest input");
+    printf("%-8s %8s %8s %8s  %s\n", "call", "bytes", "inputs", "accepted", "the deepest input");
     for (enum call call = 0; call < CALLS; call++)
-        printf("%-8s %8zu %8zu  %s; answer %" PRIu32 "\n", calls[call].name, found[call].depth, found[call].inputs,
-               found[call].shape, found[call].answer);
+        printf("%-8s %8zu %8zu %8zu  %s; answer %" PRIu32 "\n", calls[call].name, found[call].depth, found[call].inputs,
+               found[call].accepted, found[call].shape, found[call].answer);
+}
+
+// How much of a stack was used, all of which was 0 before.
+static size_t used(const uint8_t *stack, size_t size)
+{
+    size_t untouched = 0;
+    while (untouched < size && stack[untouched] == 0)
+        untouched++;
+    return size - untouched;
 }
 
 static void hold_to_limits(void)
@@ -329,13 +346,16 @@ static void hold_to_limits(void)
     take = limit;
     for (limited = 0; limited < CALLS; limited++) {
         size_t size = calls[limited].promised;
-        uint8_t *area = mmap(NULL, FORBIDDEN + size, PROT_NONE, MAP_PRIVATE | MAP_ANONYMOUS, -1, 0);
-        must(area != MAP_FAILED && mprotect(area + FORBIDDEN, size, PROT_READ | PROT_WRITE) == 0, "mmap");
-        must(pthread_attr_setstack(&attributes, area + FORBIDDEN, size) == 0, "pthread_attr_setstack");
+        uint8_t *area = mmap(NULL, FORBIDDEN + size, PROT_NONE, MAP_PRIVATE | MAP_ANONYMOUS, -1, 0), *stack = area + FORBIDDEN;
+        must(area != MAP_FAILED && mprotect(stack, size, PROT_READ | PROT_WRITE) == 0, "mmap");
+        must(pthread_attr_setstack(&attributes, stack, size) == 0, "pthread_attr_setstack");
         printf("%-8s", calls[limited].name);
         fflush(stdout);
         take_layers(VYDRULKA_NODES_MOST);
-        printf(" %7zu bytes are enough for %zu inputs\n", size, found[limited].inputs);
+        size_t most = used(stack, size);
+        printf(" %7zu of %7zu bytes used, the thread's own with them; %zu of %zu inputs accepted\n", most, size,
+               found[limited].accepted, found[limited].inputs);
+        must(found[limited].accepted > 0 && (size <= SMALL || most > size / 2), "going deep: the inputs or the figure");
     }
 }
 
@@ -347,6 +367,6 @@ int main(int argc, char **argv)
     else if (argc == 3)
         measure_and_print(strtoull(argv[1], NULL, 10), strtoull(argv[2], NULL, 10));
     else
-        must(0, "usage: stack SEED COUNT, or stack limits:");
+        return fprintf(stderr, "usage: stack SEED COUNT, or stack limits\n"), 2;
     return EXIT_SUCCESS;
 }
