@@ -31,7 +31,8 @@ use Rattle.counting.specs.Held.{heldOver, entryIn}
 use Rattle.counting.specs.Tables.{Tables, HeldBy, FormulaAsk, CountedOn, CountsOn}
 
 -- ---- a formula's bytes
-module _ {p : List ℕ} {board : ℕ} {owner slots nodes : List ℕ} (ask : FormulaAsk p board owner slots nodes) (x : Counted) (cut : Cutting owner p board x) where
+-- on whatever board its cuts were counted
+module _ {p : List ℕ} {board on : ℕ} {owner slots nodes : List ℕ} (ask : FormulaAsk p board owner slots nodes) (x : Counted) (cut : Cutting owner p on x) where
   pub cuts-few : x .part .cuts < 4100 * 4096
   cuts-few =
       let b = ask .begins in
@@ -41,19 +42,20 @@ module _ {p : List ℕ} {board : ℕ} {owner slots nodes : List ℕ} (ask : Form
       let c = cut (b .formula) (b .rest) (b .front) .parted .few in
       omega arith
 
-  module _ (read written : ℕ) (walk : unfolds.Counted p read written) where
-    pub own-few : x .part .cuts + written < 4101 * 4097
-    own-few = let b = ask .begins in let c = cuts-few in let w = walk (b .formula) (b .rest) (b .front) .1 in omega arith
+  pub own-few : (read written : ℕ) → unfolds.Counted p read written → x .part .cuts + written < 4101 * 4097
+  own-few read written walk = let b = ask .begins in let c = cuts-few in let w = walk (b .formula) (b .rest) (b .front) .1 in omega arith
 
-    pub counts-on : (held r : Totals) → HeldBy slots nodes p held → r .slots ≡ capped slotsMost (1 + x .part .cuts + held .slots)
-        → r .nodes ≡ capped nodesMost (x .part .cuts + written + held .nodes) → CountsOn p board owner slots nodes r
-    counts-on held r h es en f front n end masks owned within =
-        let c = cut f [] front .parted .cuts-are n end masks owned (unfolded-coded n end f within) board (inr (refl, ask .there)) in
-        let w = walk f [] front .1 in
-        let b : p ≡ encode f = front .bytes ∙ append-nil (encode f) in
-        let hs = h .slots-are ∙ ap (λ (l : List ℕ). capped slotsMost (heldOver (entryIn slots) l)) b in
-        let hn = h .nodes-are ∙ ap (λ (l : List ℕ). capped nodesMost (heldOver (entryIn nodes) l)) b in
-        record { slots-are = omega arith; nodes-are = omega arith }
+-- on its own board
+pub counts-on : {p : List ℕ} {board : ℕ} {owner slots nodes : List ℕ} → FormulaAsk p board owner slots nodes → (x : Counted) → Cutting owner p board x
+    → (read written : ℕ) → unfolds.Counted p read written → (held r : Totals) → HeldBy slots nodes p held → r .slots ≡ capped slotsMost (1 + x .part .cuts + held .slots)
+    → r .nodes ≡ capped nodesMost (x .part .cuts + written + held .nodes) → CountsOn p board owner slots nodes r
+counts-on {p} {board} {owner} {slots} {nodes} ask x cut read written walk held r h es en f front n end masks owned within =
+    let c = cut f [] front .parted .cuts-are n end masks owned (unfolded-coded n end f within) board (inr (refl, ask .there)) in
+    let w = walk f [] front .1 in
+    let b : p ≡ encode f = front .bytes ∙ append-nil (encode f) in
+    let hs = h .slots-are ∙ ap (λ (l : List ℕ). capped slotsMost (heldOver (entryIn slots) l)) b in
+    let hn = h .nodes-are ∙ ap (λ (l : List ℕ). capped nodesMost (heldOver (entryIn nodes) l)) b in
+    record { slots-are = omega arith; nodes-are = omega arith }
 
 -- ---- a slot of a state that passes
 module _ {s : List ℕ} {boards slots nodes k : ℕ} {owner : List ℕ} (known : Known s boards slots nodes owner) (l : k < slots) where

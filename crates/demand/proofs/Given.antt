@@ -96,14 +96,14 @@ module _ (n : ℕ) (t : List ℕ) (Given : ℕ → ℕ → Type 0) (h : Holds n 
             | no z ↦ let g = h .given b l (sym (sampling.sample-other-flag t (q .ok) board bits (q .there) (q .inside) (q .fresh) b z) ∙ f) in (g .0, inl (g .1))
           ]
 
-  -- after a refused sample
-  holds-refused : (why : Refusal) (board bits : ℕ) → Holds n t (λ b v. Given b v ⊎ ((Refused why ≡ Done) × (b ≡ board) × (v ≡ bits)))
-  holds-refused why board bits =
+  -- after a refused sample: nothing more was given
+  holds-refused : (Given′ : ℕ → ℕ → Type 0) → ((b v : ℕ) → Given b v → Given′ b v) → ((b v : ℕ) → Given′ b v → Given b v) → Holds n t Given′
+  holds-refused Given′ more same =
       record {
-        there = λ b v. ⊎-elim (h .there b v) (λ e. absurd (refused-not-done why (e .0)));
-        marked = λ b v. ⊎-elim (h .marked b v) (λ e. absurd (refused-not-done why (e .0)));
-        sample = λ b v. ⊎-elim (h .sample b v) (λ e. absurd (refused-not-done why (e .0)));
-        given = λ b l f. let g = h .given b l f in (g .0, inl (g .1));
+        there = λ b v g. h .there b v (same b v g);
+        marked = λ b v g. h .marked b v (same b v g);
+        sample = λ b v g. h .sample b v (same b v g);
+        given = λ b l f. let g = h .given b l f in (g .0, more b (g .0) (g .1));
       }
 
   -- after a call that touches no sample
@@ -141,8 +141,8 @@ module _ (p : ℕ) (masks : List ℕ) (rule : Formula) (us : List Event) (s : Li
       subst (λ (u : List ℕ). Held u (λ b v. Gave c b v ⊎ ((Done ≡ Done) × (b ≡ board) × (v ≡ bits)))) (sym (y .leaves ∙ accepted-leaves _ _ t (y .says)))
       (holds-more (boardsIn s) t (Gave c) (holding c) (as-many t c) board bits q)
   holding (sampled {t = t} c board bits (Refused why) y) =
-      subst (λ (u : List ℕ). Held u (λ b v. Gave c b v ⊎ ((Refused why ≡ Done) × (b ≡ board) × (v ≡ bits)))) (sym (y .leaves ∙ refused-leaves why _ _ t (y .says)))
-      (holds-refused (boardsIn s) t (Gave c) (holding c) why board bits)
+      subst (λ (u : List ℕ). Held u (Gave (sampled c board bits (Refused why) y))) (sym (y .leaves ∙ refused-leaves why _ _ t (y .says)))
+      (holds-refused (boardsIn s) t (Gave c) (holding c) (Gave (sampled c board bits (Refused why) y)) (λ b v g. inl g) (λ b v. ⊎-elim (λ g. g) (λ e. absurd (refused-not-done why (e .0)))))
   holding (stepped {t = t} c slot Done y) =
       let q = step-passed t slot (y .says) in
       let n = as-many t c in

@@ -248,9 +248,9 @@ module _ {out s : List ℕ} (p : Room out s × (kindOf (getD s 0 0) ≡ Two Unti
           let l = tail-length w out₁ in
           record { begins = front-begins (x .node .front); room = omega arith }
 
-      -- and the left one behind it
-      module _ {last₁ : List ℕ} {q v : ℕ} (h : UnfoldsBehind 3 (tail w out₁) (tail 1 s) last₁ q v) where
-        left-done : UnfoldedBehind 3 (until .node .left) (tail w out₁) last₁ q v
+      -- and the left one behind it, joined by any operator; that it is by and is asked at the end
+      module _ {op : ℕ} {last₁ : List ℕ} {q v : ℕ} (h : UnfoldsBehind op (tail w out₁) (tail 1 s) last₁ q v) where
+        left-done : UnfoldedBehind op (until .node .left) (tail w out₁) last₁ q v
         left-done = h _ _ (until .node .front)
 
         pub until-made : Bounded out s (1 + i + r) (w + v + 1 + (1 + i + r))
@@ -261,15 +261,15 @@ module _ {out s : List ℕ} (p : Room out s × (kindOf (getD s 0 0) ≡ Two Unti
             let z = left-done in
             record { reads = omega arith; writes = omega arith }
 
-        pub until-done : {out₂ last₂ : List ℕ} → out₂ ≡ tailAs w out₁ last₁
+        pub until-done : {out₂ last₂ : List ℕ} → op ≡ 3 → out₂ ≡ tailAs w out₁ last₁
             → last₂ ≡ (5 ∷ take (1 + i + r) s) ++ drop (1 + length (take (1 + i + r) s)) (tail (w + v) out₂)
             → Unfolds out s (tailAs (w + v) out₂ last₂) (1 + i + r) (w + v + 1 + (1 + i + r))
-        until-done {out₂} {last₂} o k =
+        until-done {out₂} {last₂} by o k =
             let x = until in
             let f = p .0 .begins .formula in
             let d = left-end in
             let y = right-done in
-            let z = left-done in
+            let z = subst (λ (n : ℕ). UnfoldedBehind n (x .node .left) (tail w out₁) last₁ q v) by left-done in
             let n = ap size (x .node .same) in
             let A : List ℕ = 4 ∷ encode (unfolded (x .node .right)) in
             let B : List ℕ = 3 ∷ encode (unfolded (x .node .left)) in

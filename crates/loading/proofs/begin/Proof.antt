@@ -24,7 +24,7 @@ counted c = c .before .before .before .before .before .before .before
 
 fits : (c : tie.Else2) {rule : Formula} (r : Ruled (first (counted c) .args .masks .now) (first (counted c) .args .rule .now) rule)
     → let k = counted c in Fitting r (k .before .before .before .owners .last .1 .0) (k .count-cuts .result .part) (c .before .before .before .count-unfolded .result .written)
-fits c {rule} r = record { cut = cut (counted c) r; few-slots = c .before .before .before .before .if1 .left; count-is = c .before .before .before .count-unfolded .ensures rule [] (r .front) .1; few-nodes = c .if2 .left }
+fits c {rule} r = record { cut = cut (counted c) r; few-slots = let l = c .before .before .before .before .if1 .left in omega arith; count-is = c .before .before .before .count-unfolded .ensures rule [] (r .front) .1; few-nodes = c .if2 .left }
 
 pub begin-spec : {M : Type 1} → statement M
 begin-spec =

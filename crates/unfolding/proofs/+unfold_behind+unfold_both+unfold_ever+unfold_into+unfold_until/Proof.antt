@@ -306,4 +306,4 @@ pub +unfold-behind+unfold-both+unfold-ever+unfold-into+unfold-until-spec : {M : 
     (λ c. omega arith)
     (λ c. let b = c .before .before .before .before .before in let d = right t b in
     until-done (until-start t (found t d) .pre .1) (found t d .operand-end .ensures) (d .before .before .before .unfold-behind .ensures)
-    (b .before .before .before .unfold-behind2 .ensures) refl (c .before .before .put-next .ensures))
+    (b .before .before .before .unfold-behind2 .ensures) refl refl (c .before .before .put-next .ensures))
