@@ -1,0 +1,2 @@
+-- What the contract of `ticking` cites.
+pub mod Tick

@@ -1,0 +1,14 @@
+// A whole tick, as the run program makes it: the network is settled under an event and then closed into a second buffer.
+ghost use Rattle.ticking.specs.Tick.{Ticks};
+use answers::Outcome;
+
+// A refusal on the way leaves the calls before it done; only an accepted close writes the second buffer.
+pub fn tick(state: &mut [u8], event: u64, second: &mut [u8]) -> Outcome
+    ensures { λ r. ⌜ Ticks (now (state .entry)) event (now (second .entry)) (now (state .exit)) (now (second .exit)) r ⌝ }
+{
+    let settled = settling::settle(state, event);
+    let Outcome::Done = settled else {
+        return settled;
+    };
+    closing::close(state, second)
+}
