@@ -35,12 +35,6 @@ struct Turned {
     hand: Hand,
 }
 
-// Reads the rule in a file.
-fn load(file: &[u8], formula: &mut [u8]) -> ReadAnswer {
-    let mut masks = [0u64; BOARDS_MOST];
-    rules::read(file, &mut masks, formula)
-}
-
 // The verdict before any event: only a rule that is a constant has one.
 fn verdict_before(first: u8, nodes: usize) -> Verdict
     ensures { λ r. ⌜ r ≡ verdictBefore first nodes ⌝ }
@@ -92,8 +86,9 @@ fn tick(held: &[u8], nodes: usize, event: u64, output: &mut [u8], ticks: u64) ->
     }
 }
 
+// Nothing waits, and nothing more is taken.
 fn over() -> Turned
-    ensures { λ r. ⌜ (r .hand .from ≡ 0) × (r .hand .end ≡ 0) ⌝ }
+    ensures { λ r. ⌜ (r .waiting ≡ 0) × (r .hand .from ≡ 0) × (r .hand .end ≡ 0) ⌝ }
 {
     Turned {
         waiting: 0,
@@ -162,7 +157,7 @@ fn run(piece: &mut [u8], behind: Hand, held: &mut [u8], nodes: usize, output: &m
 
 // The file is read from the front of the piece, behind which events may have come, and the rule into the front of the buffer from
 // which the first tick takes it.
-fn watch(piece: &mut [u8], held: &mut [u8], output: &mut [u8])
+fn watch(piece: &mut [u8], masks: &mut [u64], held: &mut [u8], output: &mut [u8])
     requires { do ⌜ (← ⟦piece.len()⟧) ≡ (← ⟦PIECE⟧) ⌝ }
     requires { do ⌜ (← ⟦held.len()⟧) ≡ (← ⟦ROOM⟧) ⌝ }
 {
@@ -173,7 +168,7 @@ fn watch(piece: &mut [u8], held: &mut [u8], output: &mut [u8])
     };
     let end = all.end;
     let length = came::file_in(&piece[0..end]);
-    let answer = load(&piece[0..length], &mut held[0..RULE_ROOM]);
+    let answer = rules::read(&piece[0..length], masks, &mut held[0..RULE_ROOM]);
     match answer {
         ReadAnswer::Refused(refusal) => output::refused(refusal),
         ReadAnswer::Rule(counts) => {
@@ -195,7 +190,8 @@ fn watch(piece: &mut [u8], held: &mut [u8], output: &mut [u8])
 
 fn main() {
     let mut piece = [0u8; PIECE];
+    let mut masks = [0u64; BOARDS_MOST];
     let mut held = [0u8; ROOM];
     let mut output = [0u8; ROOM];
-    watch(&mut piece, &mut held, &mut output);
+    watch(&mut piece, &mut masks, &mut held, &mut output);
 }

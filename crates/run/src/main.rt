@@ -2,6 +2,7 @@
 // for the load and for each close, until a verdict or the input's end. A refusal, of a call or of the input, is a last line
 // `refused N`, and a read that fails a last line `failed read`. Where a line cannot be written the program ends at once.
 ghost use mathlib.Core.Path.{_≡_};
+ghost use mathlib.Core.Bool.{false};
 ghost use Prim.Native.Nat.{_≤_};
 ghost use lib.ListN.{length};
 ghost use Rattle.programs.specs.Hand.{InHand};
@@ -59,8 +60,9 @@ fn report_after(outcome: Outcome, state: &[u8]) -> bool {
     }
 }
 
+// The watch is over: nothing more is taken.
 fn over() -> Turned
-    ensures { λ r. ⌜ (r .hand .from ≡ 0) × (r .hand .end ≡ 0) ⌝ }
+    ensures { λ r. ⌜ (r .on ≡ false) × (r .hand .from ≡ 0) × (r .hand .end ≡ 0) ⌝ }
 {
     Turned {
         on: false,
