@@ -1,6 +1,6 @@
 -- What the bytes that came are, as the code finds it: a law for each way out of `told`, `awaited`, `file_in` and `next_in`; and
 -- `event-whole`: where an event is next, its 8 bytes are there. Assumes nothing.
-use mathlib.Core.Path.{_≡_, refl, sym, ap, _∙_}
+use mathlib.Core.Path.{_≡_, sym, ap}
 use mathlib.Core.List.{List}
 use Prim.Native.Nat.{ℕ, _<_, _≤_}
 use native.Mathlib.Omega.{arith}

@@ -8,7 +8,7 @@ use lib.Seq.{length-take-le}
 use Rattle.programs.specs.declared.came.Next.the-variants.{Event}
 use Rattle.programs.specs.declared.input.Hand.{Hand}
 use Rattle.programs.specs.declared.input.Read.{Read}
-use Rattle.programs.specs.declared.input.Read.the-variants.{Some}
+use Rattle.programs.specs.declared.input.Read.the-variants.{More}
 use Rattle.programs.specs.declared.input.Came.{Came}
 use Rattle.programs.specs.declared.input.Came.the-variants.{Bytes}
 use Rattle.programs.specs.declared.input.Taking.{Taking}
@@ -18,8 +18,8 @@ use Rattle.programs.specs.Came.{nextIn}
 use Rattle.programs.specs.Hand.{InHand, ReadsWithin, CameWithin, TakenWithin}
 use Rattle.programs.proofs.Coming.{event-whole}
 
-pub read-within : (end piece some : ℕ) (r : Read) → r ≡ Some some → ReadsWithin end piece r → (0 < some) × (end + some ≤ piece)
-read-within end piece some r is w = subst (λ (x : Read). ReadsWithin end piece x) is w
+pub read-within : (end piece more : ℕ) (r : Read) → r ≡ More more → ReadsWithin end piece r → (0 < more) × (end + more ≤ piece)
+read-within end piece more r is w = subst (λ (x : Read). ReadsWithin end piece x) is w
 
 pub came-within : (piece : ℕ) (hand : Hand) (x : Came) → x ≡ Bytes hand → CameWithin piece x → InHand piece hand
 came-within piece hand x is w = subst (λ (y : Came). CameWithin piece y) is w

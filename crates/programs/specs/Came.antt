@@ -2,8 +2,8 @@
 use Prim.Native.Nat.{ℕ}
 use mathlib.Core.List.{List}
 use lib.ListN.{length}
-use lib.Dec.{eqb, leb, ltb}
-use Rattle.lists.specs.Tests.{pick, both}
+use lib.Dec.{eqb, ltb}
+use Rattle.lists.specs.Tests.{pick}
 use Rattle.le.specs.Le.{leAt}
 use Rattle.rules.specs.RuleFile.{masksAt, fileMost, totalIn}
 use Rattle.programs.specs.declared.came.Next.{Next}

@@ -1,7 +1,6 @@
 -- Where the bytes in hand stand in a piece of so many bytes. Assumes nothing: these are definitions.
 use Prim.Native.Nat.{ℕ, _+_, _≤_, _<_}
 use Rattle.programs.specs.declared.input.Hand.{Hand}
-use Rattle.programs.specs.declared.input.Taking.{Taking}
 use Rattle.programs.specs.declared.input.Read.{Read}
 use Rattle.programs.specs.declared.input.Read.the-variants as read
 use Rattle.programs.specs.declared.input.Came.{Came}
@@ -15,8 +14,8 @@ InHand piece hand = (hand .from ≤ hand .end) × (hand .end ≤ piece)
 
 -- a read from `end` on has brought some bytes, and none past the piece
 abbrev pub ReadsWithin : ℕ → ℕ → Read → Type 0
-ReadsWithin end piece (read.Some some) = (0 < some) × (end + some ≤ piece)
-ReadsWithin end piece read.None = Unit {0}
+ReadsWithin end piece (read.More more) = (0 < more) × (end + more ≤ piece)
+ReadsWithin end piece read.End = Unit {0}
 ReadsWithin end piece read.Failed = Unit {0}
 
 -- what came, and what is left behind an event, stands within the piece

@@ -2,7 +2,7 @@
 // No read is made while a whole event is in hand. A read that fails is told as such, also one that a signal broke off; it never
 // looks like the end of the input.
 ghost use mathlib.Core.Path.{_≡_};
-ghost use Prim.Native.Nat.{_+_, _≤_, _<_};
+ghost use Prim.Native.Nat.{_≤_};
 ghost use lib.ListN.{length};
 ghost use Rattle.programs.specs.Hand.{InHand, ReadsWithin, CameWithin, TakenWithin};
 use crate::came;
@@ -28,8 +28,8 @@ impl Hand {
 
 // What one read brought.
 pub enum Read {
-    Some(usize),
-    None,
+    More(usize),
+    End,
     Failed,
 }
 
@@ -62,11 +62,11 @@ fn read_at(piece: &mut [u8], end: usize) -> Read
     if got < 0 {
         return Read::Failed;
     }
-    let some = io::count(got, &piece[end..]);
-    if some == 0 {
-        return Read::None;
+    let more = io::count(got, &piece[end..]);
+    if more == 0 {
+        return Read::End;
     }
-    Read::Some(some)
+    Read::More(more)
 }
 
 // Reads until the file is in hand, in front of the piece, or cannot come any more.
@@ -81,11 +81,11 @@ pub fn await_file(piece: &mut [u8]) -> Came
             Read::Failed => {
                 return Came::Failed;
             }
-            Read::None => {
+            Read::End => {
                 return Came::Bytes(Hand { from: 0, end: end });
             }
-            Read::Some(some) => {
-                end += some;
+            Read::More(more) => {
+                end += more;
             }
         }
     }
@@ -104,11 +104,11 @@ fn fill(piece: &mut [u8], had: usize) -> Came
             Read::Failed => {
                 return Came::Failed;
             }
-            Read::None => {
+            Read::End => {
                 return Came::Bytes(Hand { from: 0, end: end });
             }
-            Read::Some(some) => {
-                end += some;
+            Read::More(more) => {
+                end += more;
             }
         }
     }
