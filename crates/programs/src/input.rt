@@ -1,54 +1,155 @@
-// A rule file and then events of 8 bytes, taken from standard input.
+// Standard input, read in pieces: one read takes whatever is there, up to the piece's end, and the events are taken from it one by one.
+// No read is made while a whole event is in hand. A read that fails is told as such, also one that a signal broke off; it never
+// looks like the end of the input.
 ghost use mathlib.Core.Path.{_≡_};
 ghost use Prim.Native.Nat.{_≤_};
 ghost use lib.ListN.{length};
+ghost use Rattle.programs.specs.Hand.{InHand, ReadsWithin, CameWithin, TakenWithin};
+use crate::came;
+use crate::came::EVENT;
+use crate::came::Next;
 
-// The length of a rule file's header, in which the file's own length stands at TOTAL_AT.
-const HEADER: usize = 16;
+// The length of a piece.
+pub const PIECE: usize = 4096;
 
-const TOTAL_AT: usize = 12;
+// The bytes in hand: those of the piece from `from` on and before `end`.
+pub struct Hand {
+    pub from: usize,
+    pub end: usize,
+}
 
-pub const FILE_MOST: usize = 1168;
+impl Hand {
+    pub fn empty() -> Hand
+        ensures { λ r. ⌜ (r .from ≡ 0) × (r .end ≡ 0) ⌝ }
+    {
+        Hand { from: 0, end: 0 }
+    }
+}
 
-const EVENT: usize = 8;
+// What one read brought.
+pub enum Read {
+    More(usize),
+    End,
+    Failed,
+}
 
-// What is left of the input: nothing, too few bytes for an event, or an event, which is taken.
-pub enum Next {
+// What is in hand once it is enough or the input has ended.
+pub enum Came {
+    Bytes(Hand),
+    Failed,
+}
+
+// An event, and what is in hand behind it.
+pub struct Taking {
+    pub event: u64,
+    pub rest: Hand,
+}
+
+// What was taken from the input.
+pub enum Taken {
+    Event(Taking),
     End,
     Leftover,
-    Event(u64),
+    Failed,
 }
 
-// Takes a rule file into the front of `file` and answers its length. Only the header says where the file ends, so the rest is
-// taken after it. Where the total cannot be, or the input ends before it, the answer is 0: a length that every call refuses.
-pub fn take_file(file: &mut [u8]) -> usize
-    requires { do ⌜ (← ⟦file.len()⟧) ≡ (← ⟦FILE_MOST⟧) ⌝ }
-    ensures { λ r. ⌜ r ≤ length (now (file .entry)) ⌝ }
+// One read into the piece, from `end` on.
+fn read_at(piece: &mut [u8], end: usize) -> Read
+    requires { ⌜ end ≤ length (now piece) ⌝ }
+    ensures { λ r. ⌜ ReadsWithin end (length (now (piece .entry))) r ⌝ }
 {
-    if io::read_full(0, &mut file[0..HEADER]) != HEADER {
-        return 0;
+    let got = libc::read(libc::STDIN_FILENO, &mut piece[end..]);
+    if got < 0 {
+        return Read::Failed;
     }
-    let total = le::u32_at(file, TOTAL_AT) as usize;
-    if total < HEADER {
-        return 0;
+    let more = io::count(got, &piece[end..]);
+    if more == 0 {
+        return Read::End;
     }
-    if FILE_MOST < total {
-        return 0;
-    }
-    if io::read_full(0, &mut file[HEADER..total]) != total - HEADER {
-        return 0;
-    }
-    total
+    Read::More(more)
 }
 
-pub fn take_event() -> Next {
-    let mut event = [0u8; EVENT];
-    let got = io::read_full(0, &mut event);
-    if got == 0 {
-        return Next::End;
+// Reads until the file is in hand, in front of the piece, or cannot come any more.
+pub fn await_file(piece: &mut [u8]) -> Came
+    requires { do ⌜ (← ⟦piece.len()⟧) ≡ (← ⟦PIECE⟧) ⌝ }
+    ensures { λ r. ⌜ CameWithin (length (now (piece .entry))) r ⌝ }
+{
+    let mut end: usize = 0;
+    while end < came::awaited(&piece[0..end]) {
+        let read = read_at(piece, end);
+        match read {
+            Read::Failed => {
+                return Came::Failed;
+            }
+            Read::End => {
+                return Came::Bytes(Hand { from: 0, end: end });
+            }
+            Read::More(more) => {
+                end += more;
+            }
+        }
     }
-    if got != EVENT {
-        return Next::Leftover;
+    Came::Bytes(Hand { from: 0, end: end })
+}
+
+// Reads behind the first `had` bytes until an event is in hand or the input has ended.
+fn fill(piece: &mut [u8], had: usize) -> Came
+    requires { ⌜ (had ≤ length (now piece)) × (8 ≤ length (now piece)) ⌝ }
+    ensures { λ r. ⌜ CameWithin (length (now (piece .entry))) r ⌝ }
+{
+    let mut end = had;
+    while end < EVENT {
+        let read = read_at(piece, end);
+        match read {
+            Read::Failed => {
+                return Came::Failed;
+            }
+            Read::End => {
+                return Came::Bytes(Hand { from: 0, end: end });
+            }
+            Read::More(more) => {
+                end += more;
+            }
+        }
     }
-    Next::Event(le::u64_at(&event, 0))
+    Came::Bytes(Hand { from: 0, end: end })
+}
+
+// Reads only where no whole event is in hand, with what is there of one moved to the front.
+fn await_event(piece: &mut [u8], hand: Hand) -> Came
+    requires { ⌜ InHand (length (now piece)) hand × (8 ≤ length (now piece)) ⌝ }
+    ensures { λ r. ⌜ CameWithin (length (now (piece .entry))) r ⌝ }
+{
+    let from = hand.from;
+    let rest = hand.end - from;
+    if EVENT <= rest {
+        return Came::Bytes(hand);
+    }
+    runs::slide(piece, from, rest);
+    fill(piece, rest)
+}
+
+// Takes the next event.
+pub fn take_event(piece: &mut [u8], hand: Hand) -> Taken
+    requires { ⌜ InHand (length (now piece)) hand × (8 ≤ length (now piece)) ⌝ }
+    ensures { λ r. ⌜ TakenWithin (length (now (piece .entry))) r ⌝ }
+{
+    let awaited = await_event(piece, hand);
+    let Came::Bytes(now) = awaited else {
+        return Taken::Failed;
+    };
+    let from = now.from;
+    let end = now.end;
+    let next = came::next_in(&piece[from..end]);
+    match next {
+        Next::End => Taken::End,
+        Next::Leftover => Taken::Leftover,
+        Next::Event(event) => Taken::Event(Taking {
+            event: event,
+            rest: Hand {
+                from: from + EVENT,
+                end: end,
+            },
+        }),
+    }
 }

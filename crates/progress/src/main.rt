@@ -1,14 +1,22 @@
 // Progresses a whole rule in one place: reads a rule file and then events of 8 bytes from standard input, and writes a line
 // `TICKS VERDICT NODES` for the rule as read and for each event, until a verdict or the input's end.
-// A refusal, of a call or of the input, is a last line `refused N`. Bits that are no proposition of the rule are ignored.
+// A refusal, of a call or of the input, is a last line `refused N`, and a read that fails a last line `failed read`. Where a line
+// cannot be written the program ends at once. Bits that are no proposition of the rule are ignored.
 ghost use mathlib.Core.Path.{_≡_};
+ghost use Prim.Native.Nat.{_≤_};
+ghost use lib.ListN.{length};
+ghost use Rattle.programs.specs.Hand.{InHand};
+ghost use Rattle.progress.specs.Before.{verdictBefore, ProgressedFrom};
 use answers::Refusal;
 use answers::Verdict;
 use central::CentralAnswer;
+use programs::came;
 use programs::input;
-use programs::input::FILE_MOST;
-use programs::input::Next;
-use programs::lines;
+use programs::input::Came;
+use programs::input::Hand;
+use programs::input::PIECE;
+use programs::input::Taken;
+use programs::output;
 use rules::ReadAnswer;
 
 const BOARDS_MOST: usize = 16;
@@ -21,17 +29,16 @@ const ROOM: usize = 4096;
 // Below this number two more ticks can be counted.
 const TICKS_MOST: u64 = 18446744073709551614;
 
-// Takes a rule file from the input and reads it.
-fn load(file: &mut [u8], formula: &mut [u8]) -> ReadAnswer
-    requires { do ⌜ (← ⟦file.len()⟧) ≡ (← ⟦FILE_MOST⟧) ⌝ }
-{
-    let mut masks = [0u64; BOARDS_MOST];
-    let length = input::take_file(file);
-    rules::read(&file[0..length], &mut masks, formula)
+// How many nodes wait for the next event, none where the program ends, and what is in hand behind the event that was taken.
+struct Turned {
+    waiting: usize,
+    hand: Hand,
 }
 
 // The verdict before any event: only a rule that is a constant has one.
-fn verdict_before(first: u8, nodes: usize) -> Verdict {
+fn verdict_before(first: u8, nodes: usize) -> Verdict
+    ensures { λ r. ⌜ r ≡ verdictBefore first nodes ⌝ }
+{
     if nodes != 1 {
         return Verdict::Pending;
     }
@@ -42,22 +49,22 @@ fn verdict_before(first: u8, nodes: usize) -> Verdict {
     }
 }
 
-// Writes a tick's line. Answers how many nodes wait for the next event: none after a verdict.
+// Writes a tick's line. Answers how many nodes wait for the next event: none after a verdict, or where the line was not written.
 fn report(ticks: u64, verdict: Verdict, nodes: usize) -> usize {
-    lines::first(ticks);
-    lines::verdict(verdict);
-    lines::field(nodes as u64);
-    lines::end();
-    match verdict {
-        Verdict::False => 0,
-        Verdict::True => 0,
-        Verdict::Pending => nodes,
+    if !output::progress(ticks, verdict, nodes as u64) {
+        return 0;
     }
+    if !programs::goes_on(verdict) {
+        return 0;
+    }
+    nodes
 }
 
 // Progresses the formula that the first `nodes` bytes of `held` are. There are always so many, since `read` or `central` put
 // the nodes there; the test spares a proof of that.
-fn progressed(held: &[u8], nodes: usize, event: u64, output: &mut [u8]) -> CentralAnswer {
+fn progressed(held: &[u8], nodes: usize, event: u64, output: &mut [u8]) -> CentralAnswer
+    ensures { λ r. ⌜ ProgressedFrom (now (held .entry)) nodes event (now (output .entry)) (now (output .exit)) r ⌝ }
+{
     if held.len() < nodes {
         return CentralAnswer::Refused(Refusal::Length);
     }
@@ -69,7 +76,7 @@ fn tick(held: &[u8], nodes: usize, event: u64, output: &mut [u8], ticks: u64) ->
     let answer = progressed(held, nodes, event, output);
     match answer {
         CentralAnswer::Refused(refusal) => {
-            lines::refused(refusal);
+            output::refused(refusal);
             0
         }
         CentralAnswer::Progressed(progress) => {
@@ -79,56 +86,112 @@ fn tick(held: &[u8], nodes: usize, event: u64, output: &mut [u8], ticks: u64) ->
     }
 }
 
-// Takes an event and ticks. Answers as `tick` does, and none at the input's end.
-fn turn(held: &[u8], nodes: usize, output: &mut [u8], ticks: u64) -> usize {
-    let next = input::take_event();
-    match next {
-        Next::End => 0,
-        Next::Leftover => {
-            lines::refused(Refusal::Length);
-            0
+// Nothing waits, and nothing more is taken.
+fn over() -> Turned
+    ensures { λ r. ⌜ (r .waiting ≡ 0) × (r .hand .from ≡ 0) × (r .hand .end ≡ 0) ⌝ }
+{
+    Turned {
+        waiting: 0,
+        hand: Hand::empty(),
+    }
+}
+
+// Takes an event and ticks.
+fn turn(
+    piece: &mut [u8],
+    hand: Hand,
+    held: &[u8],
+    nodes: usize,
+    output: &mut [u8],
+    ticks: u64,
+) -> Turned
+    requires { ⌜ InHand (length (now piece)) hand × (8 ≤ length (now piece)) ⌝ }
+    ensures { λ r. ⌜ InHand (length (now (piece .entry))) (r .hand) ⌝ }
+{
+    let taken = input::take_event(piece, hand);
+    match taken {
+        Taken::End => over(),
+        Taken::Leftover => {
+            output::refused(Refusal::Length);
+            over()
         }
-        Next::Event(event) => tick(held, nodes, event, output, ticks),
+        Taken::Failed => {
+            output::failed_read();
+            over()
+        }
+        Taken::Event(taking) => {
+            let rest = taking.rest;
+            let waiting = tick(held, nodes, taking.event, output, ticks);
+            Turned {
+                waiting: waiting,
+                hand: rest,
+            }
+        }
     }
 }
 
 // The buffers change places from tick to tick, so that no formula is copied: two ticks a turn.
 // Nothing says that the input ends, so the loop does where no more ticks can be counted.
-fn run(held: &mut [u8], nodes: usize, output: &mut [u8]) {
+fn run(piece: &mut [u8], behind: Hand, held: &mut [u8], nodes: usize, output: &mut [u8])
+    requires { ⌜ InHand (length (now piece)) behind × (8 ≤ length (now piece)) ⌝ }
+{
+    let mut hand = behind;
     let mut waiting = nodes;
     let mut ticks: u64 = 0;
     while ticks < TICKS_MOST {
         if waiting == 0 {
             return;
         }
-        waiting = turn(held, waiting, output, ticks + 1);
-        if waiting == 0 {
+        let first = turn(piece, hand, held, waiting, output, ticks + 1);
+        if first.waiting == 0 {
             return;
         }
-        waiting = turn(output, waiting, held, ticks + 2);
+        let between = first.hand;
+        let then = turn(piece, between, output, first.waiting, held, ticks + 2);
+        let rest = then.hand;
+        hand = rest;
+        waiting = then.waiting;
         ticks += 2;
     }
 }
 
-// The rule is read into the front of the buffer from which the first tick takes it.
-fn watch(file: &mut [u8], held: &mut [u8], output: &mut [u8])
-    requires { do ⌜ (← ⟦file.len()⟧) ≡ (← ⟦FILE_MOST⟧) ⌝ }
+// The file is read from the front of the piece, behind which events may have come, and the rule into the front of the buffer from
+// which the first tick takes it.
+fn watch(piece: &mut [u8], masks: &mut [u64], held: &mut [u8], output: &mut [u8])
+    requires { do ⌜ (← ⟦piece.len()⟧) ≡ (← ⟦PIECE⟧) ⌝ }
     requires { do ⌜ (← ⟦held.len()⟧) ≡ (← ⟦ROOM⟧) ⌝ }
 {
-    let answer = load(file, &mut held[0..RULE_ROOM]);
+    let awaited = input::await_file(piece);
+    let Came::Bytes(all) = awaited else {
+        output::failed_read();
+        return;
+    };
+    let end = all.end;
+    let length = came::file_in(&piece[0..end]);
+    let answer = rules::read(&piece[0..length], masks, &mut held[0..RULE_ROOM]);
     match answer {
-        ReadAnswer::Refused(refusal) => lines::refused(refusal),
+        ReadAnswer::Refused(refusal) => output::refused(refusal),
         ReadAnswer::Rule(counts) => {
             let nodes = counts.nodes as usize;
             let waiting = report(0, verdict_before(held[0], nodes), nodes);
-            run(held, waiting, output);
+            run(
+                piece,
+                Hand {
+                    from: length,
+                    end: end,
+                },
+                held,
+                waiting,
+                output,
+            );
         }
     }
 }
 
 fn main() {
-    let mut file = [0u8; FILE_MOST];
+    let mut piece = [0u8; PIECE];
+    let mut masks = [0u64; BOARDS_MOST];
     let mut held = [0u8; ROOM];
     let mut output = [0u8; ROOM];
-    watch(&mut file, &mut held, &mut output);
+    watch(&mut piece, &mut masks, &mut held, &mut output);
 }

@@ -1,7 +1,7 @@
 // How an answer line begins: with 0 or the refusal's number.
+use crate::lines;
 use answers::Outcome;
 use answers::Refusal;
-use programs::lines;
 
 pub fn accepted() {
     lines::first(0);

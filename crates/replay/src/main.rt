@@ -2,6 +2,7 @@
 // The stored stream `stdin` and the second program's answers to it, `stdout`, are made by tests/store.
 mod answer;
 mod lent;
+mod lines;
 mod payload;
 mod rule;
 mod watch;

@@ -2,10 +2,10 @@
 // Each answers whether the request was good: within the buffers, which are the limits, and not cut short.
 use crate::answer;
 use crate::lent;
+use crate::lines;
 use crate::payload;
 use crate::payload::MOST_FILE;
 use central::CentralAnswer;
-use programs::lines;
 use rules::ReadAnswer;
 use rules::WriteAnswer;
 

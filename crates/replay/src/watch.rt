@@ -2,11 +2,11 @@
 // b bytes are lent, and writes its answer line. Each answers whether the request was good, as the calls on a rule do.
 use crate::answer;
 use crate::lent;
+use crate::lines;
 use crate::payload;
 use crate::payload::MOST_FILE;
 use answers::Outcome;
 use asking::AskAnswer;
-use programs::lines;
 
 // Copies the c fresh bytes that an accepted call has left over the front of the kept state. There are always so many in both; the
 // test spares a proof of that.

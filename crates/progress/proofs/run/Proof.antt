@@ -1,17 +1,17 @@
--- `progress::run` is safe and ends: the buffers keep their lengths as they change places, and the ticks that can still be counted fall.
--- Assumes nothing.
+-- The buffers keep their lengths as they change places, what is in hand stays within the piece, and the ticks that can still be counted fall. Assumes nothing.
 use mathlib.Core.Path.{_≡_}
 use Prim.Native.Nat.{_-_, _^_}
 use lib.ListN.{length}
+use Rattle.programs.specs.Hand.{InHand}
 use borrow.Author.Needs.{needs}
 use Rattle.progress.proofs.run.Statement.{statement}
 use Rattle.progress.proofs.run.Tie as tie
 
 abbrev Inv-loop : tie.InvT-loop
-Inv-loop held₀ nodes output₀ waiting₀ ticks₀ held output waiting ticks = (length held ≡ length held₀) × (length output ≡ length output₀)
+Inv-loop piece₀ held₀ nodes output₀ hand₀ waiting₀ ticks₀ piece held output hand waiting ticks = (length piece ≡ length piece₀) × (length held ≡ length held₀) × (length output ≡ length output₀) × InHand (length piece₀) hand
 
 abbrev μ-loop : tie.MeasureT-loop
-μ-loop held₀ nodes output₀ waiting₀ ticks₀ held output waiting ticks = 2 ^ 64 - ticks
+μ-loop piece₀ held₀ nodes output₀ hand₀ waiting₀ ticks₀ piece held output hand waiting ticks = 2 ^ 64 - ticks
 
 pub run-spec : {M : Type 1} → statement M
 run-spec =
@@ -24,12 +24,15 @@ run-spec =
     (λ c. search needs)
     (λ c. search needs)
     (λ c. search needs)
-    (λ c κs. search needs)
-    (λ c. search needs)
-    (λ c. search needs)
-    (λ c. search needs)
     (λ c. search needs)
     (λ c κs. search needs)
+    (λ c. search needs)
+    (λ c. search needs)
+    (λ c. search needs)
+    (λ c. search needs)
+    (λ c. search needs)
+    (λ c κs. search needs)
+    (λ c. search needs)
     (λ c. search needs)
     (λ c. search needs)
     (λ c. search needs)

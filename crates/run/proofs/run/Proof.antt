@@ -1,15 +1,16 @@
--- `run::run` is safe and ends: the buffers keep their lengths as they change places, and the turns that are left fall. Assumes nothing.
+-- The buffers keep their lengths as they change places, what is in hand stays within the piece, and the turns that are left fall. Assumes nothing.
 use mathlib.Core.Path.{_≡_}
 use lib.ListN.{length}
+use Rattle.programs.specs.Hand.{InHand}
 use borrow.Author.Needs.{needs}
 use Rattle.run.proofs.run.Statement.{statement}
 use Rattle.run.proofs.run.Tie as tie
 
 abbrev Inv-loop : tie.InvT-loop
-Inv-loop state₀ second₀ turns₀ state second turns = (length state ≡ length state₀) × (length second ≡ length second₀)
+Inv-loop piece₀ state₀ second₀ hand₀ turns₀ piece state second hand turns = (length piece ≡ length piece₀) × (length state ≡ length state₀) × (length second ≡ length second₀) × InHand (length piece₀) hand
 
 abbrev μ-loop : tie.MeasureT-loop
-μ-loop state₀ second₀ turns₀ state second turns = turns
+μ-loop piece₀ state₀ second₀ hand₀ turns₀ piece state second hand turns = turns
 
 pub run-spec : {M : Type 1} → statement M
 run-spec =
@@ -22,7 +23,10 @@ run-spec =
     (λ c. search needs)
     (λ c. search needs)
     (λ c. search needs)
+    (λ c. search needs)
     (λ c κs. search needs)
+    (λ c. search needs)
+    (λ c. search needs)
     (λ c. search needs)
     (λ c. search needs)
     (λ c. search needs)

@@ -1,0 +1,84 @@
+-- What the bytes that came are, as the code finds it: a law for each way out of `told`, `awaited`, `file_in` and `next_in`; and
+-- `event-whole`: where an event is next, its 8 bytes are there. Assumes nothing.
+use mathlib.Core.Path.{_≡_, sym, ap}
+use mathlib.Core.List.{List}
+use Prim.Native.Nat.{ℕ, _<_, _≤_}
+use native.Mathlib.Omega.{arith}
+use lib.ListN.{length}
+use lib.Dec.{eqb, ltb}
+use borrow.Author.Tests.{lt-ltb, le-ltb, eq-eqb, ne-eqb, ltb-false}
+use Rattle.lists.specs.Tests.{pick}
+use Rattle.lists.proofs.Tests.{pick-elim}
+use Rattle.le.specs.Le.{leAt}
+use Rattle.rules.specs.RuleFile.{totalIn}
+use Rattle.programs.specs.declared.came.Next.{Next}
+use Rattle.programs.specs.declared.came.Next.the-variants.{End, Leftover, Event}
+use Rattle.programs.specs.Came.{toldLength, awaitedBy, fileLength, nextIn}
+
+-- ---- the length that the header tells
+pub told-short : (s : List ℕ) → length s < 16 → 0 ≡ toldLength s
+unfolding toldLength pick
+told-short s h = rw (lt-ltb (length s) 16 h)
+
+module _ (s : List ℕ) (t : ℕ) (whole : 16 ≤ length s) (is : t ≡ totalIn s) where
+  pub told-under : t < 16 → 0 ≡ toldLength s
+  unfolding toldLength pick
+  told-under h = rw (le-ltb (length s) 16 whole, sym is, lt-ltb t 16 h)
+
+  pub told-over : 16 ≤ t → 1168 < t → 0 ≡ toldLength s
+  unfolding toldLength pick
+  told-over h k = rw (le-ltb (length s) 16 whole, sym is, le-ltb t 16 h, lt-ltb 1168 t k)
+
+  pub told-is : 16 ≤ t → t ≤ 1168 → t ≡ toldLength s
+  unfolding toldLength pick
+  told-is h k = rw (le-ltb (length s) 16 whole, sym is, le-ltb t 16 h, le-ltb 1168 t k)
+
+pub told-few : (s : List ℕ) → toldLength s ≤ 1168
+unfolding toldLength
+told-few s =
+    pick-elim (λ (n : ℕ). n ≤ 1168) _ _ _ (λ q. omega arith)
+    (λ q. pick-elim (λ (n : ℕ). n ≤ 1168) _ _ _ (λ r. omega arith) (λ r. pick-elim (λ (n : ℕ). n ≤ 1168) _ _ _ (λ x. omega arith) (λ x. ltb-false 1168 (totalIn s) x)))
+
+-- ---- the bytes to wait for
+pub awaited-short : (s : List ℕ) → length s < 16 → 16 ≡ awaitedBy s
+unfolding awaitedBy pick
+awaited-short s h = rw (lt-ltb (length s) 16 h)
+
+pub awaited-told : (s : List ℕ) (t : ℕ) → 16 ≤ length s → t ≡ toldLength s → t ≡ awaitedBy s
+unfolding awaitedBy pick
+awaited-told s t h is = rw (le-ltb (length s) 16 h) is
+
+-- ---- the file in front
+pub file-cut : (s : List ℕ) (t : ℕ) → t ≡ toldLength s → length s < t → 0 ≡ fileLength s
+unfolding fileLength pick
+file-cut s t is h = rw (sym is, lt-ltb (length s) t h)
+
+pub file-whole : (s : List ℕ) (t : ℕ) → t ≡ toldLength s → t ≤ length s → t ≡ fileLength s
+unfolding fileLength pick
+file-whole s t is h = rw (sym is, le-ltb (length s) t h)
+
+-- ---- what is next
+pub next-end : (s : List ℕ) → length s ≡ 0 → End ≡ nextIn s
+unfolding nextIn pick
+next-end s h = rw (eq-eqb (length s) 0 h)
+
+module _ (s : List ℕ) (some : length s ≡ 0 → ⊥) where
+  pub next-leftover : length s < 8 → Leftover ≡ nextIn s
+  unfolding nextIn pick
+  next-leftover h = rw (ne-eqb (length s) 0 some, lt-ltb (length s) 8 h)
+
+  pub next-event : (e : ℕ) → 8 ≤ length s → e ≡ leAt s 0 8 → Event e ≡ nextIn s
+  unfolding nextIn pick
+  next-event e h is = rw (ne-eqb (length s) 0 some, le-ltb (length s) 8 h, sym is)
+
+-- the answers by a number, to tell an event from the others
+isEvent : Next → ℕ
+isEvent End = 0
+isEvent Leftover = 0
+isEvent (Event e) = 1
+
+pub event-whole : (s : List ℕ) (e : ℕ) → nextIn s ≡ Event e → 8 ≤ length s
+unfolding nextIn isEvent
+event-whole s e is =
+    pick-elim (λ (n : Next). isEvent n ≡ 1 → 8 ≤ length s) (eqb (length s) 0) _ _ (λ q h. absurd (omega arith))
+    (λ q. pick-elim (λ (n : Next). isEvent n ≡ 1 → 8 ≤ length s) (ltb (length s) 8) _ _ (λ r h. absurd (omega arith)) (λ r h. ltb-false (length s) 8 r)) (ap isEvent is)

@@ -1,0 +1,36 @@
+-- As for `await_file`: the room that is left falls. Assumes nothing.
+use mathlib.Core.Path.{_≡_}
+use Prim.Native.Nat.{_-_, _≤_}
+use native.Mathlib.Omega.{arith}
+use lib.ListN.{length}
+use Rattle.programs.proofs.Standing.{read-within}
+use borrow.Author.Needs.{needs}
+use Rattle.programs.proofs.input.fill.Statement.{statement}
+use Rattle.programs.proofs.input.fill.Tie as tie
+
+abbrev Inv-loop : tie.InvT-loop
+Inv-loop piece₀ had end₀ piece end = (length piece ≡ length piece₀) × (end ≤ length piece₀)
+
+abbrev μ-loop : tie.MeasureT-loop
+μ-loop piece₀ had end₀ piece end = length piece₀ - end
+
+pub fill-spec : {M : Type 1} → statement M
+fill-spec =
+    tie.close
+    (tie.spec
+    Inv-loop
+    μ-loop
+    (λ c. search needs)
+    (λ c κs. search needs)
+    (λ c. search needs)
+    (λ c. search needs)
+    (λ c. search needs)
+    (λ c. search needs)
+    (λ c. search needs)
+    (λ c. search needs)
+    (λ c. search needs)
+    (λ c. let w = read-within _ _ _ _ (c .before .read .given .1) (c .before .before .before .before .before .read-at .ensures) in search needs)
+    (λ c. let w = read-within _ _ _ _ (c .before .read .given .1) (c .before .before .before .before .before .read-at .ensures) in omega arith)
+    (λ c. let w = read-within _ _ _ _ (c .before .read .given .1) (c .before .before .before .before .before .read-at .ensures) in (omega arith, omega arith))
+    (λ c. search needs)
+    (λ c. search needs))

@@ -1,0 +1,36 @@
+-- What came stands within the piece, and an event that is next has its 8 bytes there. Assumes nothing.
+use mathlib.Core.Path.{sym, _∙_}
+use native.Mathlib.Omega.{arith}
+use Rattle.programs.proofs.Standing.{came-within, event-room}
+use borrow.Author.Needs.{needs}
+use Rattle.programs.proofs.input.take_event.Statement.{statement}
+use Rattle.programs.proofs.input.take_event.Tie as tie
+
+pub take-event-spec : {M : Type 1} → statement M
+take-event-spec =
+    tie.close
+    (tie.spec
+    (λ c κs. search needs)
+    (λ c. search needs)
+    (λ c. search needs)
+    (λ c. search needs)
+    (λ c. search needs)
+    (λ c.
+    let w = came-within _ _ _ (c .before .awaited .given .1) (c .before .before .before .before .before .await-event .ensures) in let k = c .before .before .before .before .before .await-event .kept .0 in omega arith)
+    (λ c.
+    let w = came-within _ _ _ (c .before .before .awaited .given .1) (c .before .before .before .before .before .before .await-event .ensures) in let k = c .before .before .before .before .before .before .await-event .kept .0 in omega arith)
+    (λ c.
+    let w = came-within _ _ _ (c .before .before .awaited .given .1) (c .before .before .before .before .before .before .await-event .ensures) in let k = c .before .before .before .before .before .before .await-event .kept .0 in omega arith)
+    (λ c κs. search needs)
+    (λ c. search needs)
+    (λ c. search needs)
+    (λ c. search needs)
+    (λ c.
+    let w = came-within _ _ _ (c .before .before .before .before .before .before .before .awaited .given .1) (c .before .before .before .before .before .before .before .before .before .before .before .await-event .ensures) in let k = c .before .before .before .before .before .before .before .before .before .before .before .await-event .kept .0 in let room = event-room _ _ _ _ (w .0) (omega arith) (sym (c .before .before .before .next-in .ensures) ∙ c .before .next .given .1) in search needs)
+    (λ c. search needs)
+    (λ c. search needs)
+    (λ c. search needs)
+    (λ c. search needs)
+    (λ c. search needs)
+    (λ c.
+    let w = came-within _ _ _ (c .before .before .before .before .before .before .before .awaited .given .1) (c .before .before .before .before .before .before .before .before .before .before .before .await-event .ensures) in let k = c .before .before .before .before .before .before .before .before .before .before .before .await-event .kept .0 in let room = event-room _ _ _ _ (w .0) (omega arith) (sym (c .before .before .before .next-in .ensures) ∙ c .before .next .given .1) in (omega arith, omega arith)))

@@ -1,0 +1,5 @@
+-- What the contracts of `programs` cite.
+pub mod Came
+pub mod Hand
+pub mod Lines
+pub mod Going

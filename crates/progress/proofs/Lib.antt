@@ -1,0 +1,2 @@
+-- Laws of the verdict before any event.
+pub mod Verdicts
