@@ -1,6 +1,6 @@
 -- What the bytes that came are, as the code finds it: a law for each way out of `told`, `awaited`, `file_in` and `next_in`; and
--- `event-whole`: where an event is next, its 8 bytes are there. Assumes nothing.
-use mathlib.Core.Path.{_≡_, sym, ap}
+-- `event-whole`, `event-is`: where an event is next, its 8 bytes are there and it is their number. Assumes nothing.
+use mathlib.Core.Path.{_≡_, refl, sym, ap, _∙_}
 use mathlib.Core.List.{List}
 use Prim.Native.Nat.{ℕ, _<_, _≤_}
 use native.Mathlib.Omega.{arith}
@@ -82,3 +82,15 @@ unfolding nextIn isEvent
 event-whole s e is =
     pick-elim (λ (n : Next). isEvent n ≡ 1 → 8 ≤ length s) (eqb (length s) 0) _ _ (λ q h. absurd (omega arith))
     (λ q. pick-elim (λ (n : Next). isEvent n ≡ 1 → 8 ≤ length s) (ltb (length s) 8) _ _ (λ r h. absurd (omega arith)) (λ r h. ltb-false (length s) 8 r)) (ap isEvent is)
+
+eventOf : Next → ℕ
+eventOf End = 0
+eventOf Leftover = 0
+eventOf (Event e) = e
+
+pub event-is : (s : List ℕ) (e : ℕ) → nextIn s ≡ Event e → e ≡ leAt s 0 8
+unfolding eventOf
+event-is s e is =
+    let whole = event-whole s e is in
+    let next : Event (leAt s 0 8) ≡ nextIn s = next-event s (λ q. omega arith) (leAt s 0 8) whole refl in
+    sym (ap eventOf (next ∙ is))

@@ -3,8 +3,9 @@
 // looks like the end of the input.
 ghost use mathlib.Core.Path.{_≡_};
 ghost use Prim.Native.Nat.{_≤_};
-ghost use lib.ListN.{length};
-ghost use Rattle.programs.specs.Hand.{InHand, ReadsWithin, CameWithin, TakenWithin};
+ghost use mathlib.Core.List.{[]};
+ghost use lib.ListN.{length, take};
+ghost use Rattle.programs.specs.Hand.{InHand, bytesOf, ReadsWithin, CameBehind, TakenBehind};
 use crate::came;
 use crate::came::EVENT;
 use crate::came::Next;
@@ -53,10 +54,10 @@ pub enum Taken {
     Failed,
 }
 
-// One read into the piece, from `end` on.
+// One read into the piece, from `end` on; what stands before stays.
 fn read_at(piece: &mut [u8], end: usize) -> Read
     requires { ⌜ end ≤ length (now piece) ⌝ }
-    ensures { λ r. ⌜ ReadsWithin end (length (now (piece .entry))) r ⌝ }
+    ensures { λ r. ⌜ ReadsWithin end (length (now (piece .entry))) r × (take end (now (piece .exit)) ≡ take end (now (piece .entry))) ⌝ }
 {
     let got = libc::read(libc::STDIN_FILENO, &mut piece[end..]);
     if got < 0 {
@@ -72,7 +73,7 @@ fn read_at(piece: &mut [u8], end: usize) -> Read
 // Reads until the file is in hand, in front of the piece, or cannot come any more.
 pub fn await_file(piece: &mut [u8]) -> Came
     requires { do ⌜ (← ⟦piece.len()⟧) ≡ (← ⟦PIECE⟧) ⌝ }
-    ensures { λ r. ⌜ CameWithin (length (now (piece .entry))) r ⌝ }
+    ensures { λ r. ⌜ CameBehind [] (now (piece .exit)) r ⌝ }
 {
     let mut end: usize = 0;
     while end < came::awaited(&piece[0..end]) {
@@ -95,7 +96,7 @@ pub fn await_file(piece: &mut [u8]) -> Came
 // Reads behind the first `had` bytes until an event is in hand or the input has ended.
 fn fill(piece: &mut [u8], had: usize) -> Came
     requires { ⌜ (had ≤ length (now piece)) × (8 ≤ length (now piece)) ⌝ }
-    ensures { λ r. ⌜ CameWithin (length (now (piece .entry))) r ⌝ }
+    ensures { λ r. ⌜ CameBehind (take had (now (piece .entry))) (now (piece .exit)) r ⌝ }
 {
     let mut end = had;
     while end < EVENT {
@@ -118,7 +119,7 @@ fn fill(piece: &mut [u8], had: usize) -> Came
 // Reads only where no whole event is in hand, with what is there of one moved to the front.
 fn await_event(piece: &mut [u8], hand: Hand) -> Came
     requires { ⌜ InHand (length (now piece)) hand × (8 ≤ length (now piece)) ⌝ }
-    ensures { λ r. ⌜ CameWithin (length (now (piece .entry))) r ⌝ }
+    ensures { λ r. ⌜ CameBehind (bytesOf (now (piece .entry)) hand) (now (piece .exit)) r ⌝ }
 {
     let from = hand.from;
     let rest = hand.end - from;
@@ -132,7 +133,7 @@ fn await_event(piece: &mut [u8], hand: Hand) -> Came
 // Takes the next event.
 pub fn take_event(piece: &mut [u8], hand: Hand) -> Taken
     requires { ⌜ InHand (length (now piece)) hand × (8 ≤ length (now piece)) ⌝ }
-    ensures { λ r. ⌜ TakenWithin (length (now (piece .entry))) r ⌝ }
+    ensures { λ r. ⌜ TakenBehind (bytesOf (now (piece .entry)) hand) (now (piece .exit)) r ⌝ }
 {
     let awaited = await_event(piece, hand);
     let Came::Bytes(now) = awaited else {

@@ -1,5 +1,6 @@
 -- What is in hand behind an event stands within the piece; where the program ends nothing is in hand. Assumes nothing.
-use Rattle.programs.proofs.Standing.{taken-within}
+use native.Mathlib.Omega.{arith}
+use Rattle.programs.proofs.Standing.{taken-takes}
 use borrow.Author.Needs.{needs}
 use Rattle.progress.proofs.turn.Statement.{statement}
 use Rattle.progress.proofs.turn.Tie as tie
@@ -27,4 +28,4 @@ turn-spec =
     (λ c. search needs)
     (λ c. search needs)
     (λ c. search needs)
-    (λ c. taken-within _ _ _ (c .before .before .before .before .before .before .taken .given .1) (c .before .before .before .before .before .before .before .before .before .before .take-event .ensures)))
+    (λ c. let i = taken-takes _ _ _ _ (c .before .before .before .before .before .before .taken .given .1) (c .before .before .before .before .before .before .before .before .before .before .take-event .ensures) .within in let k = c .before .before .before .before .before .before .before .before .before .before .take-event .kept .0 in (i .0, omega arith)))

@@ -3,13 +3,13 @@ use Prim.Native.Nat.{_≤_}
 use native.Mathlib.Omega.{arith}
 use lib.ListN.{length}
 use Rattle.programs.specs.Hand.{InHand}
-use Rattle.programs.proofs.Standing.{came-within, front-room}
+use Rattle.programs.proofs.Standing.{came-brings, front-room}
 use borrow.Author.Needs.{needs}
 use Rattle.run.proofs.watch.Statement.{statement}
 use Rattle.run.proofs.watch.Tie as tie
 
-came : (c : tie.After-awaited) → InHand (length (c .before .before .before .before .before .before .before .before .before .args .piece .now)) (c .awaited .given .0 .0)
-came c = came-within _ _ _ (c .awaited .given .1) (c .before .before .before .before .await-file .ensures)
+came : (c : tie.After-awaited) → InHand (length (c .before .before .before .before .await-file .last .0)) (c .awaited .given .0 .0)
+came c = came-brings _ _ _ _ (c .awaited .given .1) (c .before .before .before .before .await-file .ensures) .within
 
 found : (c : tie.After-file-in) → c .file-in .result ≤ c .before .before .before .before .awaited .given .0 .0 .end
 found c = let w = came (c .before .before .before .before) in front-room (c .before .before .before .before .before .before .before .before .await-file .last .0) (c .before .before .before .before .awaited .given .0 .0 .end) _ (omega arith) (c .file-in .ensures .1)

@@ -1,5 +1,5 @@
 -- The piece keeps its length, what came stays within it, and the room that is left falls, since a read that goes on has brought some bytes. Assumes nothing.
-use mathlib.Core.Path.{_≡_}
+use mathlib.Core.Path.{_≡_, refl}
 use Prim.Native.Nat.{_-_, _≤_}
 use native.Mathlib.Omega.{arith}
 use lib.ListN.{length}
@@ -28,13 +28,16 @@ await-file-spec =
     (λ c κs. search needs)
     (λ c. search needs)
     (λ c. search needs)
+    (λ c. tt)
     (λ c. search needs)
     (λ c. search needs)
+    (λ c. record { within = (omega arith, omega arith); leads = refl })
     (λ c. search needs)
+    (λ c.
+    let w = read-within _ _ _ _ (c .before .read .given .1) (c .before .before .before .before .before .read-at .ensures .0) in search needs)
+    (λ c.
+    let w = read-within _ _ _ _ (c .before .read .given .1) (c .before .before .before .before .before .read-at .ensures .0) in omega arith)
+    (λ c.
+    let w = read-within _ _ _ _ (c .before .read .given .1) (c .before .before .before .before .before .read-at .ensures .0) in (omega arith, omega arith))
     (λ c. search needs)
-    (λ c. search needs)
-    (λ c. let w = read-within _ _ _ _ (c .before .read .given .1) (c .before .before .before .before .before .read-at .ensures) in search needs)
-    (λ c. let w = read-within _ _ _ _ (c .before .read .given .1) (c .before .before .before .before .before .read-at .ensures) in omega arith)
-    (λ c. let w = read-within _ _ _ _ (c .before .read .given .1) (c .before .before .before .before .before .read-at .ensures) in (omega arith, omega arith))
-    (λ c. search needs)
-    (λ c. search needs))
+    (λ c. record { within = (omega arith, omega arith); leads = refl }))
