@@ -1,5 +1,5 @@
--- What the bytes that came are, as the code finds it: a law for each way out of `told`, `awaited`, `file_in` and `next_in`; and
--- `event-whole`, `event-is`: where an event is next, its 8 bytes are there and it is their number. Assumes nothing.
+-- What the bytes that came are, as the code finds it: a law for each way out of `told`, `file_in` and `next_in`; and
+-- `event-whole`: where an event is next, its 8 bytes are there. Assumes nothing.
 use mathlib.Core.Path.{_≡_, refl, sym, ap, _∙_}
 use mathlib.Core.List.{List}
 use Prim.Native.Nat.{ℕ, _<_, _≤_}
@@ -13,7 +13,7 @@ use Rattle.le.specs.Le.{leAt}
 use Rattle.rules.specs.RuleFile.{totalIn}
 use Rattle.programs.specs.declared.came.Next.{Next}
 use Rattle.programs.specs.declared.came.Next.the-variants.{End, Leftover, Event}
-use Rattle.programs.specs.Came.{toldLength, awaitedBy, fileLength, nextIn}
+use Rattle.programs.specs.Came.{toldLength, fileLength, nextIn}
 
 -- ---- the length that the header tells
 pub told-short : (s : List ℕ) → length s < 16 → 0 ≡ toldLength s
@@ -32,21 +32,6 @@ module _ (s : List ℕ) (t : ℕ) (whole : 16 ≤ length s) (is : t ≡ totalIn 
   pub told-is : 16 ≤ t → t ≤ 1168 → t ≡ toldLength s
   unfolding toldLength pick
   told-is h k = rw (le-ltb (length s) 16 whole, sym is, le-ltb t 16 h, le-ltb 1168 t k)
-
-pub told-few : (s : List ℕ) → toldLength s ≤ 1168
-unfolding toldLength
-told-few s =
-    pick-elim (λ (n : ℕ). n ≤ 1168) _ _ _ (λ q. omega arith)
-    (λ q. pick-elim (λ (n : ℕ). n ≤ 1168) _ _ _ (λ r. omega arith) (λ r. pick-elim (λ (n : ℕ). n ≤ 1168) _ _ _ (λ x. omega arith) (λ x. ltb-false 1168 (totalIn s) x)))
-
--- ---- the bytes to wait for
-pub awaited-short : (s : List ℕ) → length s < 16 → 16 ≡ awaitedBy s
-unfolding awaitedBy pick
-awaited-short s h = rw (lt-ltb (length s) 16 h)
-
-pub awaited-told : (s : List ℕ) (t : ℕ) → 16 ≤ length s → t ≡ toldLength s → t ≡ awaitedBy s
-unfolding awaitedBy pick
-awaited-told s t h is = rw (le-ltb (length s) 16 h) is
 
 -- ---- the file in front
 pub file-cut : (s : List ℕ) (t : ℕ) → t ≡ toldLength s → length s < t → 0 ≡ fileLength s
@@ -82,15 +67,3 @@ unfolding nextIn isEvent
 event-whole s e is =
     pick-elim (λ (n : Next). isEvent n ≡ 1 → 8 ≤ length s) (eqb (length s) 0) _ _ (λ q h. absurd (omega arith))
     (λ q. pick-elim (λ (n : Next). isEvent n ≡ 1 → 8 ≤ length s) (ltb (length s) 8) _ _ (λ r h. absurd (omega arith)) (λ r h. ltb-false (length s) 8 r)) (ap isEvent is)
-
-eventOf : Next → ℕ
-eventOf End = 0
-eventOf Leftover = 0
-eventOf (Event e) = e
-
-pub event-is : (s : List ℕ) (e : ℕ) → nextIn s ≡ Event e → e ≡ leAt s 0 8
-unfolding eventOf
-event-is s e is =
-    let whole = event-whole s e is in
-    let next : Event (leAt s 0 8) ≡ nextIn s = next-event s (λ q. omega arith) (leAt s 0 8) whole refl in
-    sym (ap eventOf (next ∙ is))

@@ -1,8 +1,8 @@
 -- Where bytes in hand stand in the piece, and that none is lost: what an answer of the input says where it holds bytes (`read-within`,
--- `came-brings`, `taken-takes`), the front of a piece that more is read behind (`front-kept`, `front-less`, `front-leads`) or that is moved
+-- `came-brings`, `came-behind`, `taken-takes`), the front of a piece that more is read behind (`front-kept`, `front-less`, `front-leads`) or that is moved
 -- there (`slid-front`), and the bytes behind an event (`event-room`, `event-takes`). Assumes nothing.
-use mathlib.Core.Path.{_≡_, sym, ap, subst, _∙_}
-use mathlib.Core.List.{List, _++_}
+use mathlib.Core.Path.{_≡_, refl, sym, ap, subst, _∙_}
+use mathlib.Core.List.{List, [], _++_}
 use Prim.Native.Nat.{ℕ, _+_, _-_, _<_, _≤_}
 use native.Mathlib.Omega.{arith}
 use lib.ListN.{length, take, drop, length-drop}
@@ -14,13 +14,13 @@ use Rattle.programs.specs.declared.input.Hand.{Hand}
 use Rattle.programs.specs.declared.input.Read.{Read}
 use Rattle.programs.specs.declared.input.Read.the-variants.{More}
 use Rattle.programs.specs.declared.input.Came.{Came}
-use Rattle.programs.specs.declared.input.Came.the-variants.{Bytes}
+use Rattle.programs.specs.declared.input.Came.the-variants.{Bytes, Failed}
 use Rattle.programs.specs.declared.input.Taking.{Taking}
 use Rattle.programs.specs.declared.input.Taken.{Taken}
 use Rattle.programs.specs.declared.input.Taken.the-variants as taken
 use Rattle.programs.specs.Came.{nextIn}
 use Rattle.programs.specs.Hand.{ReadsWithin, Brings, CameBehind, Takes, TakenBehind}
-use Rattle.programs.proofs.Coming.{event-whole, event-is}
+use Rattle.programs.proofs.Coming.{event-whole}
 
 -- ---- answers that hold bytes
 pub read-within : (end piece more : ℕ) (r : Read) → r ≡ More more → ReadsWithin end piece r → (0 < more) × (end + more ≤ piece)
@@ -28,6 +28,11 @@ read-within end piece more r is w = subst (λ (x : Read). ReadsWithin end piece 
 
 pub came-brings : (before piece : List ℕ) (hand : Hand) (x : Came) → x ≡ Bytes hand → CameBehind before piece x → Brings before piece hand
 came-brings before piece hand x is w = subst (λ (y : Came). CameBehind before piece y) is w
+
+-- whatever was there before, nothing was there before that
+pub came-behind : (before piece : List ℕ) (x : Came) → CameBehind before piece x → CameBehind [] piece x
+came-behind before piece (Bytes hand) w = record { within = w .within; leads = refl }
+came-behind before piece Failed w = tt
 
 pub taken-takes : (before piece : List ℕ) (taking : Taking) (x : Taken) → x ≡ taken.Event taking → TakenBehind before piece x → Takes before piece taking
 taken-takes before piece taking x is w = subst (λ (y : Taken). TakenBehind before piece y) is w
@@ -81,9 +86,7 @@ module _ (s : List ℕ) (from end e : ℕ) (h : from ≤ end) (k : end ≤ lengt
   pub event-takes : (before : List ℕ) → Brings before s (record { from = from; end = end }) → Takes before s (record { event = e; rest = record { from = from + 8; end = end } })
   event-takes before b =
       record {
-        all = take (end - from) (drop from s);
-        leads = b .leads;
-        event-is = event-is (take (end - from) (drop from s)) e is;
+        tells = record { all = take (end - from) (drop from s); leads = b .leads; next-is = is };
         within = (event-room, k);
         rest-is = event-rest;
       }

@@ -13,10 +13,6 @@ use Rattle.programs.specs.declared.came.Next.the-variants.{End, Leftover
 unfoldable pub toldLength : List ℕ → ℕ
 toldLength s = pick (ltb (length s) masksAt) 0 (pick (ltb (totalIn s) masksAt) 0 (pick (ltb fileMost (totalIn s)) 0 (totalIn s)))
 
--- the bytes to wait for: those of the header, then those that it tells
-unfoldable pub awaitedBy : List ℕ → ℕ
-awaitedBy s = pick (ltb (length s) masksAt) masksAt (toldLength s)
-
 -- the length of the file in front of the bytes that came: 0 where it is not all there
 unfoldable pub fileLength : List ℕ → ℕ
 fileLength s = pick (ltb (length s) (toldLength s)) 0 (toldLength s)

@@ -3,7 +3,8 @@ use mathlib.Core.Path.{_≡_}
 use mathlib.Core.List.{List}
 use Prim.Native.Nat.{ℕ, _+_, _-_, _≤_, _<_}
 use lib.ListN.{length, take, drop}
-use Rattle.le.specs.Le.{leAt}
+use Rattle.programs.specs.declared.came.Next.{Next}
+use Rattle.programs.specs.declared.came.Next.the-variants as next
 use Rattle.programs.specs.declared.input.Hand.{Hand}
 use Rattle.programs.specs.declared.input.Taking.{Taking}
 use Rattle.programs.specs.declared.input.Read.{Read}
@@ -12,6 +13,7 @@ use Rattle.programs.specs.declared.input.Came.{Came}
 use Rattle.programs.specs.declared.input.Came.the-variants as came
 use Rattle.programs.specs.declared.input.Taken.{Taken}
 use Rattle.programs.specs.declared.input.Taken.the-variants as taken
+use Rattle.programs.specs.Came.{nextIn}
 
 -- they stand within a piece of so many bytes
 abbrev pub InHand : ℕ → Hand → Type 0
@@ -40,16 +42,21 @@ abbrev pub CameBehind : List ℕ → List ℕ → Came → Type 0
 CameBehind before piece (came.Bytes hand) = Brings before piece hand
 CameBehind before piece came.Failed = Unit {0}
 
--- an event was taken: of the bytes that came, which begin with what was in hand before, it is the first 8, and the others are in hand
-pub record Takes (before piece : List ℕ) (taking : Taking) : Type 0 where
+-- of the bytes that came, which begin with what was in hand before, this is next
+pub record Tells (before : List ℕ) (next : Next) : Type 0 where
   pub all : List ℕ
   pub leads : Leads before all
-  pub event-is : taking .event ≡ leAt all 0 8
-  pub within : InHand (length piece) (taking .rest)
-  pub rest-is : bytesOf piece (taking .rest) ≡ drop 8 all
+  pub next-is : nextIn all ≡ next
 
+-- an event was taken: the 8 bytes of it are the first of those that came, and the others are in hand
+pub record Takes (before piece : List ℕ) (taking : Taking) : Type 0 where
+  pub tells : Tells before (next.Event (taking .event))
+  pub within : InHand (length piece) (taking .rest)
+  pub rest-is : bytesOf piece (taking .rest) ≡ drop 8 (tells .all)
+
+-- what was taken is what is next in the bytes that came, where no read has failed
 abbrev pub TakenBehind : List ℕ → List ℕ → Taken → Type 0
 TakenBehind before piece (taken.Event taking) = Takes before piece taking
-TakenBehind before piece taken.End = Unit {0}
-TakenBehind before piece taken.Leftover = Unit {0}
+TakenBehind before piece taken.End = Tells before next.End
+TakenBehind before piece taken.Leftover = Tells before next.Leftover
 TakenBehind before piece taken.Failed = Unit {0}

@@ -2,10 +2,10 @@
 ghost use mathlib.Core.Path.{_≡_};
 ghost use Prim.Native.Nat.{_≤_};
 ghost use lib.ListN.{length};
-ghost use Rattle.programs.specs.Came.{toldLength, awaitedBy, fileLength, nextIn};
+ghost use Rattle.programs.specs.Came.{toldLength, fileLength, nextIn};
 
 // The length of a rule file's header, in which the file's own length stands at TOTAL_AT.
-const HEADER: usize = 16;
+pub const HEADER: usize = 16;
 
 const TOTAL_AT: usize = 12;
 
@@ -21,8 +21,8 @@ pub enum Next {
 }
 
 // The file's length by its header: 0 where the total cannot be, or the header is not whole.
-fn told(bytes: &[u8]) -> usize
-    ensures { λ r. ⌜ r ≡ toldLength (now (bytes .entry)) ⌝ }
+pub fn told(bytes: &[u8]) -> usize
+    ensures { λ r. ⌜ (r ≡ toldLength (now (bytes .entry))) × (r ≤ 1168) ⌝ }
 {
     if bytes.len() < HEADER {
         return 0;
@@ -35,16 +35,6 @@ fn told(bytes: &[u8]) -> usize
         return 0;
     }
     total
-}
-
-// How many bytes must be in hand before more can be said of the file: its header, and then as many as that tells.
-pub fn awaited(bytes: &[u8]) -> usize
-    ensures { λ r. ⌜ (r ≡ awaitedBy (now (bytes .entry))) × (r ≤ 1168) ⌝ }
-{
-    if bytes.len() < HEADER {
-        return HEADER;
-    }
-    told(bytes)
 }
 
 // The length of the file that the bytes begin with. Where they begin with none the answer is 0, a length that every call refuses.

@@ -8,6 +8,7 @@ ghost use lib.ListN.{length, take};
 ghost use Rattle.programs.specs.Hand.{InHand, bytesOf, ReadsWithin, CameBehind, TakenBehind};
 use crate::came;
 use crate::came::EVENT;
+use crate::came::HEADER;
 use crate::came::Next;
 
 // The length of a piece.
@@ -70,13 +71,13 @@ fn read_at(piece: &mut [u8], end: usize) -> Read
     Read::More(more)
 }
 
-// Reads until the file is in hand, in front of the piece, or cannot come any more.
-pub fn await_file(piece: &mut [u8]) -> Came
-    requires { do ⌜ (← ⟦piece.len()⟧) ≡ (← ⟦PIECE⟧) ⌝ }
-    ensures { λ r. ⌜ CameBehind [] (now (piece .exit)) r ⌝ }
+// Reads behind the first `had` bytes until so many are in hand as are wanted, or the input has ended.
+fn fill(piece: &mut [u8], had: usize, wanted: usize) -> Came
+    requires { ⌜ (had ≤ length (now piece)) × (wanted ≤ length (now piece)) ⌝ }
+    ensures { λ r. ⌜ CameBehind (take had (now (piece .entry))) (now (piece .exit)) r ⌝ }
 {
-    let mut end: usize = 0;
-    while end < came::awaited(&piece[0..end]) {
+    let mut end = had;
+    while end < wanted {
         let read = read_at(piece, end);
         match read {
             Read::Failed => {
@@ -93,27 +94,18 @@ pub fn await_file(piece: &mut [u8]) -> Came
     Came::Bytes(Hand { from: 0, end: end })
 }
 
-// Reads behind the first `had` bytes until an event is in hand or the input has ended.
-fn fill(piece: &mut [u8], had: usize) -> Came
-    requires { ⌜ (had ≤ length (now piece)) × (8 ≤ length (now piece)) ⌝ }
-    ensures { λ r. ⌜ CameBehind (take had (now (piece .entry))) (now (piece .exit)) r ⌝ }
+// Reads until the file is in hand, in front of the piece, or cannot come any more: its header, and then as much as that tells.
+pub fn await_file(piece: &mut [u8]) -> Came
+    requires { do ⌜ (← ⟦piece.len()⟧) ≡ (← ⟦PIECE⟧) ⌝ }
+    ensures { λ r. ⌜ CameBehind [] (now (piece .exit)) r ⌝ }
 {
-    let mut end = had;
-    while end < EVENT {
-        let read = read_at(piece, end);
-        match read {
-            Read::Failed => {
-                return Came::Failed;
-            }
-            Read::End => {
-                return Came::Bytes(Hand { from: 0, end: end });
-            }
-            Read::More(more) => {
-                end += more;
-            }
-        }
-    }
-    Came::Bytes(Hand { from: 0, end: end })
+    let header = fill(piece, 0, HEADER);
+    let Came::Bytes(hand) = header else {
+        return Came::Failed;
+    };
+    let had = hand.end;
+    let total = came::told(&piece[0..had]);
+    fill(piece, had, total)
 }
 
 // Reads only where no whole event is in hand, with what is there of one moved to the front.
@@ -127,7 +119,7 @@ fn await_event(piece: &mut [u8], hand: Hand) -> Came
         return Came::Bytes(hand);
     }
     runs::slide(piece, from, rest);
-    fill(piece, rest)
+    fill(piece, rest, EVENT)
 }
 
 // Takes the next event.

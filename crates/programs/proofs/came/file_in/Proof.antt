@@ -6,4 +6,4 @@ use Rattle.programs.proofs.came.file_in.Statement.{statement}
 use Rattle.programs.proofs.came.file_in.Tie as tie
 
 pub file-in-spec : {M : Type 1} → statement M
-file-in-spec = tie.close (tie.spec (λ c κs. search needs) (λ c. (file-cut _ _ (c .before .told .ensures) (c .if1 .taken), omega arith)) (λ c. (file-whole _ _ (c .before .told .ensures) (c .if1 .left), c .if1 .left)))
+file-in-spec = tie.close (tie.spec (λ c κs. search needs) (λ c. (file-cut _ _ (c .before .told .ensures .0) (c .if1 .taken), omega arith)) (λ c. (file-whole _ _ (c .before .told .ensures .0) (c .if1 .left), c .if1 .left)))

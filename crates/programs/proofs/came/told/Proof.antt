@@ -7,4 +7,12 @@ use Rattle.programs.proofs.came.told.Statement.{statement}
 use Rattle.programs.proofs.came.told.Tie as tie
 
 pub told-spec : {M : Type 1} → statement M
-told-spec = tie.close (tie.spec (λ c. told-short _ (c .if1 .taken)) (λ c κs. search needs) (λ c. search needs) (λ c. told-under _ _ (c .before .before .if1 .left) (c .before .u32-at .ensures) (c .if2 .taken)) (λ c. told-over _ _ (c .before .before .before .if1 .left) (c .before .before .u32-at .ensures) (c .before .if2 .left) (omega arith)) (λ c. told-is _ _ (c .before .before .before .if1 .left) (c .before .before .u32-at .ensures) (c .before .if2 .left) (omega arith)))
+told-spec =
+    tie.close
+    (tie.spec
+    (λ c. (told-short _ (c .if1 .taken), omega arith))
+    (λ c κs. search needs)
+    (λ c. search needs)
+    (λ c. (told-under _ _ (c .before .before .if1 .left) (c .before .u32-at .ensures) (c .if2 .taken), omega arith))
+    (λ c. (told-over _ _ (c .before .before .before .if1 .left) (c .before .before .u32-at .ensures) (c .before .if2 .left) (omega arith), omega arith))
+    (λ c. (told-is _ _ (c .before .before .before .if1 .left) (c .before .before .u32-at .ensures) (c .before .if2 .left) (omega arith), omega arith)))

@@ -1,4 +1,5 @@
--- As for `await_file`; the bytes that were there stay in front. Assumes nothing.
+-- The piece keeps its length, what came stays within it, and the bytes that were there stay in front. The room that is left falls, since a
+-- read that goes on has brought some bytes. Assumes nothing.
 use mathlib.Core.Path.{_≡_, refl, _∙_}
 use Prim.Native.Nat.{_-_, _≤_}
 use native.Mathlib.Omega.{arith}
@@ -9,10 +10,10 @@ use Rattle.programs.proofs.input.fill.Statement.{statement}
 use Rattle.programs.proofs.input.fill.Tie as tie
 
 abbrev Inv-loop : tie.InvT-loop
-Inv-loop piece₀ had end₀ piece end = (length piece ≡ length piece₀) × (had ≤ end) × (end ≤ length piece₀) × (take had piece ≡ take had piece₀)
+Inv-loop piece₀ had wanted end₀ piece end = (length piece ≡ length piece₀) × (had ≤ end) × (end ≤ length piece₀) × (take had piece ≡ take had piece₀)
 
 abbrev μ-loop : tie.MeasureT-loop
-μ-loop piece₀ had end₀ piece end = length piece₀ - end
+μ-loop piece₀ had wanted end₀ piece end = length piece₀ - end
 
 pub fill-spec : {M : Type 1} → statement M
 fill-spec =
