@@ -2,3 +2,4 @@
 pub mod Same
 pub mod Watches
 pub mod Demand
+pub mod Sentences
