@@ -1,20 +1,14 @@
 -- Whatever calls do that meet their promises, they do to the state what the definitions say that the promises cite (`called`). And the
--- other way for accepted samples and steps (`made`). `refused-leaves`: what a refused call was lent stays. Assumes nothing.
-use mathlib.Core.Path.{_≡_, refl, sym, ap, _∙_, subst}
+-- other way for accepted samples and steps (`made`). Assumes nothing.
+use mathlib.Core.Path.{refl, sym, _∙_, subst}
 use mathlib.Core.List.{List}
 use Prim.Native.Nat.{ℕ}
-use Rattle.answers.specs.declared.Refusal.{Refusal}
 use Rattle.answers.specs.declared.Outcome.the-variants.{Done}
-use Rattle.answers.specs.Said.{Said, refused, left, numberOf}
-use Rattle.answers.proofs.Answers.{left-refused}
 use Rattle.watching.specs.Watch.{Calls, none, sample, step}
 use Rattle.watching.specs.Claims.{Accepted}
 use Rattle.demand.specs.Called.{Called, nothing, sampled, stepped, asked, closed, load-refused, close-refused, write-refused, central-refused, read-refused}
 use Rattle.demand.specs.Claims.{AllAccepted}
-
--- what a refused call leaves
-pub refused-leaves : (why : Refusal) (a : Said) (output before : List ℕ) → refused (numberOf why) ≡ a → left a output before ≡ before
-refused-leaves why a output before e = ap (λ (b : Said). left b output before) (sym e) ∙ left-refused why output before
+use Rattle.demand.proofs.Passed.{refused-leaves}
 
 pub called : {s t : List ℕ} → Called s t → Calls s t
 called nothing = none

@@ -3,18 +3,18 @@
 -- board has sampled. Assumes nothing.
 use mathlib.Core.Path.{_≡_, refl, sym, ap, _∙_}
 use mathlib.Core.Bool.{true}
-use mathlib.Core.List.{List, []}
+use mathlib.Core.List.{List}
 use mathlib.Core.Logic.{inl, inr}
 use Prim.Native.Nat.{ℕ, _<_}
 use native.Mathlib.Omega.{arith}
 use lib.Dec.{eqb}
-use borrow.Author.Tests.{eqb-true, ltb-true}
+use borrow.Author.Tests.{eqb-true}
 use Rattle.lists.proofs.Tests.{both-0, both-1}
 use Rattle.answers.specs.declared.Refusal.the-variants.{Slots, Nodes, Ticks}
 use Rattle.answers.specs.declared.Outcome.{Outcome}
 use Rattle.answers.specs.declared.Outcome.the-variants.{Refused, Done}
-use Rattle.answers.specs.Said.{Said, accepted, refused, saidOutcome}
-use Rattle.answers.proofs.Answers.{saidOutcome-injective, order-passed}
+use Rattle.answers.specs.Said.{refused, saidOutcome}
+use Rattle.answers.proofs.Answers.{saidOutcome-injective}
 use Rattle.state.specs.Fields.{stateLength, boardsIn, slotsIn, sampledIn, steppedIn}
 use Rattle.state.specs.Calls.{askSays, sampleSays, sampleLeaves, stepSays, stepLeaves, doneIn, closeSays, closeLeaves}
 use Rattle.checking.proofs.Each.{each-at}
@@ -26,6 +26,7 @@ use Rattle.asking.proofs.Determined.{saidAsk-injective}
 use Rattle.sampling.specs.Sample.{Samples}
 use Rattle.stepping.specs.Step.{StepsSlot}
 use Rattle.demand.specs.Claims.{Gets, CloseGets, Closing, accepts, too-many-slots, too-many-nodes, no-more-ticks, CloseLeft, GoesOn, samples, steps, closes, AskGets}
+use Rattle.demand.proofs.Passed.{sample-passed, step-passed}
 
 module _ (t : List ℕ) where
   sample-gets : (board bits : ℕ) (wanted : Outcome) → saidOutcome wanted ≡ sampleSays t board bits → Gets (Samples t board bits) wanted
@@ -51,19 +52,6 @@ module _ (t : List ℕ) where
   closing (definition.refuses n (inr (inl h)) e) = too-many-nodes (close-gets (Refused Nodes) (sym (e ∙ ap refused h)))
   closing (definition.refuses n (inr (inr h)) e) = no-more-ticks (close-gets (Refused Ticks) (sym (e ∙ ap refused h)))
 
-  -- an accepted sample is a board's first, and an accepted step a slot's
-  sample-fresh : (board bits : ℕ) → sampleSays t board bits ≡ accepted [] → (board < boardsIn t) × (sampledIn t board ≡ 0)
-  unfolding sampleSays
-  sample-fresh board bits e =
-      let q = order-passed _ (accepted []) (omega arith, (omega arith, (omega arith, (omega arith, (omega arith, tt))))) (ap (λ (a : Said). a .number) e) in
-      (ltb-true _ _ (q .1 .1 .0), eqb-true _ _ (q .1 .1 .1 .1 .0))
-
-  step-fresh : (slot : ℕ) → stepSays t slot ≡ accepted [] → (slot < slotsIn t) × (steppedIn t slot ≡ 0)
-  unfolding stepSays
-  step-fresh slot e =
-      let q = order-passed _ (accepted []) (omega arith, (omega arith, (omega arith, (omega arith, (omega arith, tt))))) (ap (λ (a : Said). a .number) e) in
-      (ltb-true _ _ (q .1 .1 .0), eqb-true _ _ (q .1 .1 .1 .0))
-
   pub done-boards : doneIn t ≡ true → (b : ℕ) → b < boardsIn t → sampledIn t b ≡ 1
   unfolding doneIn
   done-boards done b l = eqb-true _ _ (each-at (λ i. eqb (sampledIn t i) 1) (boardsIn t) b (both-0 _ _ done) l)
@@ -76,8 +64,8 @@ module _ (t : List ℕ) where
   close-left done =
       record {
         done = done;
-        no-sample = λ board bits t′ p. let f = sample-fresh board bits (sym (p .says)) in omega (arith, done-boards done board (f .0));
-        no-step = λ slot t′ p. let f = step-fresh slot (sym (p .says)) in omega (arith, done-slots done slot (f .0));
+        no-sample = λ board bits t′ p. let f = sample-passed t board bits (p .says) in omega (arith, done-boards done board (f .there));
+        no-step = λ slot t′ p. let f = step-passed t slot (p .says) in omega (arith, done-slots done slot (f .there));
       }
 
   pub going-on : definition.GoesOn t → GoesOn t

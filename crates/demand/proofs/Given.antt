@@ -3,22 +3,18 @@
 -- event have left a state that saw the event (`given-saw`, by `sample-given`), and the other way round (`saw-given`). Assumes nothing.
 use mathlib.Core.Path.{_≡_, refl, sym, ap, _∙_, subst}
 use mathlib.Core.Bool.{true}
-use mathlib.Core.List.{List, []}
+use mathlib.Core.List.{List}
 use mathlib.Core.Logic.{_⊎_, inl, inr, ⊎-elim}
 use Prim.Native.Nat.{ℕ, _<_}
 use native.Mathlib.Decide.{ℕ-discrete}
 use native.Mathlib.Omega.{arith}
-use borrow.Author.Tests.{eqb-true, ltb-true}
-use Rattle.answers.specs.declared.Refusal.{Refusal}
 use Rattle.answers.specs.declared.Outcome.the-variants.{Refused, Done}
-use Rattle.answers.specs.Said.{Said, accepted, left}
-use Rattle.answers.proofs.Answers.{order-passed, left-accepted}
+use Rattle.answers.specs.Said.{accepted, left}
 use Rattle.ltl.specs.Formula.{Formula}
 use Rattle.ltl.specs.Meaning.{Event}
 use Rattle.network.specs.Scores.{sampleOf}
-use Rattle.state.specs.Fields.{boardsIn, slotsIn, maskIn, sampleIn, sampledIn}
-use Rattle.state.specs.Clauses.{inMask, stateOk}
-use Rattle.state.specs.Calls.{sampleSays, stepSays, doneIn}
+use Rattle.state.specs.Fields.{boardsIn, sampleIn, sampledIn}
+use Rattle.state.specs.Calls.{doneIn}
 use Rattle.watching.specs.Watch.{Saw}
 use Rattle.watching.proofs.InTick.{InTick, boards-kept}
 use Rattle.watching.proofs.Started.{Started, started-laid}
@@ -26,37 +22,9 @@ use Rattle.watching.proofs.Ticked.{started-in-tick}
 use Rattle.watching.proofs.Sampling as sampling
 use Rattle.watching.proofs.Stepping as stepping
 use Rattle.demand.specs.Called.{Called, nothing, sampled, stepped, asked, closed, load-refused, close-refused, write-refused, central-refused, read-refused, Gave, GivenBy}
-use Rattle.demand.proofs.Calls.{called, refused-leaves}
+use Rattle.demand.proofs.Passed.{refused-not-done, refused-leaves, accepted-leaves, SamplePassed, sample-passed, step-passed}
+use Rattle.demand.proofs.Calls.{called}
 use Rattle.demand.proofs.Getting.{done-boards}
-
--- ---- what an accepted call leaves, and what its checks have told
-accepted-leaves : (a : Said) (output before : List ℕ) → accepted [] ≡ a → left a output before ≡ output
-accepted-leaves a output before e = ap (λ (b : Said). left b output before) (sym e) ∙ left-accepted [] output before
-
-record SamplePassed (t : List ℕ) (b bits : ℕ) : Type 0 where
-  ok : stateOk t ≡ true
-  there : b < boardsIn t
-  inside : inMask bits (maskIn t b) ≡ true
-  fresh : sampledIn t b ≡ 0
-
-sample-passed : (t : List ℕ) (b bits : ℕ) → accepted [] ≡ sampleSays t b bits → SamplePassed t b bits
-unfolding sampleSays
-sample-passed t b bits e =
-    let q = order-passed _ (accepted []) (omega arith, (omega arith, (omega arith, (omega arith, (omega arith, tt))))) (ap (λ (a : Said). a .number) (sym e)) in
-    record { ok = q .0; there = ltb-true _ _ (q .1 .1 .0); inside = q .1 .1 .1 .0; fresh = eqb-true _ _ (q .1 .1 .1 .1 .0) }
-
-record StepPassed (t : List ℕ) (k : ℕ) : Type 0 where
-  ok : stateOk t ≡ true
-  there : k < slotsIn t
-
-step-passed : (t : List ℕ) (k : ℕ) → accepted [] ≡ stepSays t k → StepPassed t k
-unfolding stepSays
-step-passed t k e =
-    let q = order-passed _ (accepted []) (omega arith, (omega arith, (omega arith, (omega arith, (omega arith, tt))))) (ap (λ (a : Said). a .number) (sym e)) in
-    record { ok = q .0; there = ltb-true _ _ (q .1 .1 .0) }
-
-pub refused-not-done : (why : Refusal) → Refused why ≡ Done → ⊥
-refused-not-done why e = let z : _≡_ {A = ℕ} 0 1 = cc in omega arith
 
 -- ---- the boards of a state, and what was given
 -- of the n boards, those that were given bits have them as their sample, and those that have sampled were given something

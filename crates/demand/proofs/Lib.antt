@@ -1,5 +1,6 @@
 -- From the calls' promises to a watch over their definitions, and the third demand.
 pub mod Loaded
+pub mod Passed
 pub mod Calls
 pub mod Given
 pub mod Watches

@@ -20,8 +20,7 @@ use Rattle.loading.specs.Load.{ruleIn, loadSays}
 use Rattle.stars.proofs.States.{LoadGives, SampleGives, StepGives, CloseGives, LoadRefuses, CloseRefuses, AskGives}
 use Rattle.demand.specs.Called as call
 use Rattle.demand.specs.Called.{Called, GivenBy, SameGiven, Ticked, Watched}
-use Rattle.demand.proofs.Calls.{refused-leaves}
-use Rattle.demand.proofs.Given.{refused-not-done}
+use Rattle.demand.proofs.Passed.{refused-not-done, refused-leaves}
 
 -- some buffer of a state's length
 abbrev pub buffer : List ℕ

@@ -24,7 +24,7 @@ use Rattle.ticking.proofs.Outcomes.{tick-refused, tick-closed}
 use Rattle.demand.specs.Called.{Ticked, Watched}
 use Rattle.demand.specs.Claims.{standing, Reaches}
 use Rattle.demand.proofs.Allowed.{close-outcome}
-use Rattle.demand.proofs.Given.{refused-not-done}
+use Rattle.demand.proofs.Passed.{refused-not-done}
 use Rattle.demand.proofs.Settled.{settle-gets, settle-reaches, settle-stays}
 
 module _ (file : List ℕ) (us : List Event) (s : List ℕ) (w : Watched file us s) (pending : standing file us s .verdict ≡ Pending) (e : Event) where
