@@ -1,20 +1,17 @@
 -- The run program's tick. Until a verdict, settling under an event that the boards' masks cover is accepted (`settle-gets`), and any other
--- event gets 12 (`settle-outside`, `settle-stays`). Where it is accepted each board was given its part of the event and the close is all that is left (`settle-reaches`).
--- So settling that was accepted and a close that was accepted are a tick under that event (`settle-ticks`). Assumes nothing.
-use mathlib.Core.Path.{_≡_, refl, sym, ap, _∙_, subst}
+-- event gets 12 (`settle-outside`, `settle-stays`). Where it is accepted each board was given its part of the event and the close is all that
+-- is left (`settle-reaches`). Assumes nothing.
+use mathlib.Core.Path.{_≡_, refl, sym, _∙_, subst}
 use mathlib.Core.Bool.{true, false}
-use mathlib.Core.List.{List, []}
+use mathlib.Core.List.{List}
 use Prim.Native.Nat.{ℕ, zero, suc, _+_, _-_, _≤_}
 use native.Mathlib.Omega.{arith}
-use lib.Dec.{eqb}
 use borrow.Author.Tests.{eqb-true, eqb-false}
-use Rattle.lists.proofs.Tests.{pick-elim}
 use Rattle.answers.specs.declared.Outcome.{Outcome}
 use Rattle.answers.specs.declared.Refusal.the-variants.{Outside}
 use Rattle.answers.specs.declared.Outcome.the-variants.{Refused, Done}
 use Rattle.answers.specs.declared.Verdict.the-variants.{Pending}
-use Rattle.answers.specs.Said.{Said, accepted}
-use Rattle.answers.proofs.Answers.{order-passed}
+use Rattle.answers.specs.Said.{accepted}
 use Rattle.ltl.specs.Formula.{Formula}
 use Rattle.ltl.specs.Meaning.{Event}
 use Rattle.masks.specs.Masks.{unionWith}
@@ -23,8 +20,7 @@ use Rattle.state.specs.Fields.{boardsIn, slotsIn, masksIn}
 use Rattle.state.specs.Clauses.{inMask}
 use Rattle.state.specs.Calls.{finishedIn, sampleLeaves, stepLeaves}
 use Rattle.loading.specs.Load.{ruleIn}
-use Rattle.closing.specs.Close.{Closes}
-use Rattle.settling.specs.Settle.{After, follow, sampledFrom, steppedBelow, takenBy, settledUnder, Comes}
+use Rattle.settling.specs.Settle.{After, sampledFrom, steppedBelow, settledUnder, Comes}
 use Rattle.settling.proofs.Determined.{comes-determined}
 use Rattle.settling.proofs.Following.{sampled-more, sampled-all, stepped-more, stepped-all, settled-outside, settled-stepped}
 use Rattle.watching.specs.Watch.{Calls, none, sample, step}
@@ -34,7 +30,7 @@ use Rattle.watching.proofs.Ticked.{watch-started}
 use Rattle.watching.proofs.Asking.{pending-unfinished}
 use Rattle.watching.proofs.Demand.{watch-verdict}
 use Rattle.watching.proofs.Existing.{due, Progress, due-is, sample-says, sample-more, step-says, step-more, progress-none, progress-saw, progress-done, progress-closing}
-use Rattle.demand.specs.Called.{Ticked, Watched}
+use Rattle.demand.specs.Called.{Watched}
 use Rattle.demand.specs.Claims.{standing, Gets, Reaches}
 use Rattle.demand.proofs.Calls.{made}
 use Rattle.demand.proofs.Given.{saw-given}
@@ -105,16 +101,6 @@ module _ (p : ℕ) (masks : List ℕ) (rule : Formula) (us : List Event) (s : Li
         closing = closing (r .last) (progress-closing p masks rule us s x unfinished e (r .last) (r .calls) (r .progress));
       }
 
--- ---- an accepted call's checks
-follow-first : (a : After) (next : List ℕ → After) → follow a next .says .number ≡ 0 → a .says .number ≡ 0
-unfolding follow
-follow-first a next = pick-elim (λ (b : After). b .says .number ≡ 0 → a .says .number ≡ 0) (eqb (a .says .number) 0) (next (a .leaves)) a (λ q h. eqb-true _ _ q) (λ q h. h)
-
--- settling that was accepted has found the event within the masks
-settle-taken : (s : List ℕ) (e : Event) → settledUnder s e .says ≡ accepted [] → inMask e (unionWith 0 (masksIn s)) ≡ true
-unfolding settledUnder takenBy
-settle-taken s e h = order-passed _ (accepted []) (omega arith, (omega arith, tt)) (follow-first _ _ (follow-first _ _ (ap (λ (a : Said). a .number) h))) .1 .0
-
 -- ---- of a watch, until a verdict
 module _ (file : List ℕ) (us : List Event) (s : List ℕ) (w : Watched file us s) (pending : standing file us s .verdict ≡ Pending) (e : Event) where
   abbrev p : ℕ
@@ -148,8 +134,3 @@ module _ (file : List ℕ) (us : List Event) (s : List ℕ) (w : Watched file us
   settle-outside outside =
       let c = settle-stays outside in
       record { leaves = s; allowed = c; only = λ t answer d. comes-determined (settledUnder s e) t s answer (Refused Outside) d c .0 }
-
-  pub settle-ticks : (t second s′ : List ℕ) → Comes (settledUnder s e) t Done → Closes t second s′ Done → Ticked masks s e s′
-  settle-ticks t second s′ c k =
-      let r = settle-reaches (settle-taken s e (sym (c .says))) t Done c in
-      record { last = t; calls = r .calls; given = r .given; second = second; closes = k }
