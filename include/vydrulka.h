@@ -6,8 +6,8 @@
 // numbers. What it answers and writes follows from what it is given, and from nothing else.
 //
 // Memory: a call allocates nothing and keeps nothing. It has no memory of its own but the stack, of which it takes more the
-// deeper a formula is nested. By measure, not by proof, a thread with 1 MiB of stack can make every call but close, and one with
-// 4 MiB can close too, whatever bytes they are handed: see the stack figures below.
+// deeper a formula is nested. On the deepest inputs that are known a thread with 1 MiB of stack can make every call but close,
+// and one with 4 MiB can close too. That is measured and not proved: see the stack figures below.
 //
 // Threads: calls share nothing. Any thread may make any call at any time, as long as no other call writes what it is given.
 //
