@@ -7,6 +7,7 @@ use Prim.Native.Nat.{ℕ, _<_, _≤_, min}
 use native.Mathlib.Omega.{arith}
 use lib.ListN.{length}
 use borrow.Author.Tests.{le-leb, lt-leb, leb-true, eqb-true}
+use Rattle.limits.specs.Limits.{propositionsMost, holderCodes}
 use Rattle.lists.specs.Runs.{padded}
 use Rattle.answers.specs.declared.Refusal.{Refusal}
 use Rattle.answers.specs.declared.Refusal.the-variants.{Length, Formula, Nodes}
@@ -17,13 +18,13 @@ use Rattle.ltl.specs.Formula.{size, encode}
 use Rattle.ltl.specs.Formula as formula
 use Rattle.ltl.specs.Meaning.{Event}
 use Rattle.ltl.specs.Progression.{unfolded, progressed, verdictOf}
-use Rattle.ltl.specs.Text.{textOf, ruleText, formulaOf, someFormula}
+use Rattle.ltl.specs.Decode.{decoded, isRule, formulaOf, someFormula}
 use Rattle.lists.proofs.Tests.{both-0, both-1}
-use Rattle.ltl.proofs.Texts.{rule-is, text-of, wider}
+use Rattle.ltl.proofs.Decoding.{rule-is, decoded-of, wider}
 use Rattle.nodes.specs.Begins.{Front}
 use Rattle.unfolding.specs.Unfolds.{Counted}
 use Rattle.central.specs.declared.CentralAnswer.the-variants.{Refused, Progressed}
-use Rattle.central.specs.Central.{lengthsOk, answerOf, centralSays, Centrally, ProgressedTo}
+use Rattle.central.specs.Central.{centralLengthsOk, answerOf, centralSays, Centrally, ProgressedTo}
 
 -- ---- what the checks tell
 pub record Sized (n room : ℕ) : Type 0 where
@@ -31,8 +32,8 @@ pub record Sized (n room : ℕ) : Type 0 where
   pub few : n ≤ 4096
   pub room-is : room ≡ 4096
 
-pub sized : (n room : ℕ) → lengthsOk n room ≡ true → Sized n room
-unfolding lengthsOk
+pub sized : (n room : ℕ) → centralLengthsOk n room ≡ true → Sized n room
+unfolding centralLengthsOk
 sized n room e =
     let a = both-1 _ _ e in
     record { some = leb-true _ _ (both-0 _ _ e); few = leb-true _ _ (both-0 _ _ a); room-is = eqb-true _ _ (both-1 _ _ a) }
@@ -43,15 +44,15 @@ pub record Whole (s : List ℕ) : Type 0 where
   pub front : Front s formula-is []
   pub same : formulaOf s ≡ formula-is
 
-pub whole : (s : List ℕ) → ruleText 64 s ≡ true → Whole s
+pub whole : (s : List ℕ) → isRule 64 s ≡ true → Whole s
 whole s e =
     let t = rule-is 64 s e in
     let f = t .formula in
-    let c = wider 64 0 64 64 (omega arith) (omega arith) f (t .within) in
+    let c = wider 64 0 propositionsMost holderCodes (omega arith) (omega arith) f (t .within) in
     record {
       formula-is = f;
       front = record { coded = c; bytes = t .bytes ∙ sym (append-nil (encode f)) };
-      same = ap someFormula (ap textOf (t .bytes) ∙ text-of f c);
+      same = ap someFormula (ap decoded (t .bytes) ∙ decoded-of f c);
     }
 
 module _ (s : List ℕ) (event : Event) (out : List ℕ) where
@@ -61,16 +62,16 @@ module _ (s : List ℕ) (event : Event) (out : List ℕ) where
       let o = padded 4096 (encode (progressed event (formulaOf s))) in
       record { says = sym e; leaves = sym (ap (λ (x : Said). left x o out) e ∙ left-refused why o out) }
 
-  pub refused-length : lengthsOk (length s) (length out) ≡ false → Centrally s event out out (Refused Length)
+  pub refused-length : centralLengthsOk (length s) (length out) ≡ false → Centrally s event out out (Refused Length)
   unfolding centralSays
   refused-length e = refusal Length (order-refused 1 _ _ _ e)
 
-  module _ (l : lengthsOk (length s) (length out) ≡ true) where
-    pub refused-formula : ruleText 64 s ≡ false → Centrally s event out out (Refused Formula)
+  module _ (l : centralLengthsOk (length s) (length out) ≡ true) where
+    pub refused-formula : isRule 64 s ≡ false → Centrally s event out out (Refused Formula)
     unfolding centralSays
     refused-formula e = refusal Formula (order-ok 1 _ _ _ l ∙ order-refused 6 _ _ _ e)
 
-    module _ (r : ruleText 64 s ≡ true) (read count : ℕ) (n : Counted s read count) where
+    module _ (r : isRule 64 s ≡ true) (read count : ℕ) (n : Counted s read count) where
       counted : count ≡ min (size (unfolded (formulaOf s))) 4097
       counted = let w = whole s r in n (w .formula-is) [] (w .front) .1 ∙ ap (λ (f : formula.Formula). min (size (unfolded f)) 4097) (sym (w .same))
 

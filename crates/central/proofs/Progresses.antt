@@ -7,6 +7,7 @@ use Prim.Native.Nat.{ℕ, _+_}
 use native.Mathlib.Omega.{arith}
 use lib.ListN.{length, getD, drop}
 use borrow.Author.Tests.{ne-eqb}
+use Rattle.limits.specs.Limits.{propositionsMost, holderCodes}
 use Rattle.lists.specs.Tests.{pick}
 use Rattle.lists.specs.Runs.{padded}
 use Rattle.kinds.specs.declared.Leaf.the-variants.{Const, Prop, Hold}
@@ -15,10 +16,10 @@ use Rattle.kinds.specs.declared.Binary.the-variants.{Joined, Until}
 use Rattle.answers.specs.declared.Verdict.{Verdict}
 use Rattle.answers.specs.declared.Verdict.the-variants.{Pending}
 use Rattle.lists.proofs.Tests.{no-bits}
-use Rattle.ltl.specs.Formula.{Formula, leaf, one, two, join, size, encode, Within}
+use Rattle.ltl.specs.Formula.{Formula, leaf, one, two, join, size, encode, Coded}
 use Rattle.ltl.specs.Meaning.{Event}
 use Rattle.ltl.specs.Progression.{unfolded, resolved, progressed, verdictOf, filled, filledBy}
-use Rattle.ltl.proofs.Texts.{unfolded-coded}
+use Rattle.ltl.proofs.Decoding.{unfolded-coded}
 use Rattle.nodes.specs.Begins.{Front, Begins}
 use Rattle.resolving.specs.declared.Seen.{Seen}
 use Rattle.resolving.specs.Settles.{heldBy, settled, Rewritten}
@@ -60,9 +61,9 @@ unfolding pick
 settled-alone event f = ap (resolved event) (filled-none (heldBy (alone event)) (λ k. rw (no-bits k)) f)
 
 -- ---- from the unfolded formula in the output to the progressed one, and zeros
-module _ (f : Formula) {out out₁ : List ℕ} {read written : ℕ} (coded : Within 64 64 f) (u : UnfoldedTo f out out₁ read written) where
+module _ (f : Formula) {out out₁ : List ℕ} {read written : ℕ} (coded : Coded f) (u : UnfoldedTo f out out₁ read written) where
   unfolded-front : Front out₁ (unfolded f) (drop (size (unfolded f)) out)
-  unfolded-front = record { coded = unfolded-coded 64 64 f coded; bytes = u .leaves }
+  unfolded-front = record { coded = unfolded-coded propositionsMost holderCodes f coded; bytes = u .leaves }
 
   pub unfolded-begins : Begins out₁
   unfolded-begins = record { formula = unfolded f; rest = drop (size (unfolded f)) out; front = unfolded-front }

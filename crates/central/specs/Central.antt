@@ -10,18 +10,18 @@ use Rattle.lists.specs.Runs.{padded}
 use Rattle.answers.specs.Said.{Said, accepted, refused, left, numberOf, verdictNumber, check, inOrder}
 use Rattle.answers.specs.declared.Verdict.{Verdict}
 use Rattle.answers.specs.declared.Verdict.the-variants.{False, True, Pending}
-use Rattle.ltl.specs.Limits.{propositionsMost, nodesMost}
+use Rattle.limits.specs.Limits.{propositionsMost, centralNodesMost}
 use Rattle.ltl.specs.Formula.{Formula, size, encode}
 use Rattle.ltl.specs.Meaning.{Event}
 use Rattle.ltl.specs.Progression.{unfolded, progressed, verdictOf}
-use Rattle.ltl.specs.Text.{formulaOf, ruleText}
+use Rattle.ltl.specs.Decode.{formulaOf, isRule}
 use Rattle.nodes.specs.Begins.{Front}
 use Rattle.central.specs.declared.CentralAnswer.{CentralAnswer}
 use Rattle.central.specs.declared.CentralAnswer.the-variants.{Refused, Progressed}
 
 -- 1: the formula has 1 to 4,096 bytes and the output 4,096
-unfoldable pub lengthsOk : ℕ → ℕ → Bool
-lengthsOk formula room = both (leb 1 formula) (both (leb formula nodesMost) (eqb room nodesMost))
+unfoldable pub centralLengthsOk : ℕ → ℕ → Bool
+centralLengthsOk formula room = both (leb 1 formula) (both (leb formula centralNodesMost) (eqb room centralNodesMost))
 
 -- what the call answers of the progressed formula
 abbrev pub answerOf : Formula → List ℕ
@@ -30,9 +30,9 @@ answerOf g = verdictNumber (verdictOf g) ∷ size g ∷ []
 unfoldable pub centralSays : List ℕ → Event → ℕ → Said
 centralSays formula event room =
     inOrder
-    (check 1 (lengthsOk (length formula) room)
-    ∷ check 6 (ruleText propositionsMost formula)
-    ∷ check 8 (leb (size (unfolded (formulaOf formula))) nodesMost)
+    (check 1 (centralLengthsOk (length formula) room)
+    ∷ check 6 (isRule propositionsMost formula)
+    ∷ check 8 (leb (size (unfolded (formulaOf formula))) centralNodesMost)
     ∷ [])
     (accepted (answerOf (progressed event (formulaOf formula))))
 
@@ -44,7 +44,7 @@ saidCentral (Progressed p) = accepted (verdictNumber (p .verdict) ∷ p .length 
 -- the promise: the answer, and the lent output, zero past the formula
 pub record Centrally (formula : List ℕ) (event : Event) (output output′ : List ℕ) (answer : CentralAnswer) : Type 0 where
   pub says : saidCentral answer ≡ centralSays formula event (length output)
-  pub leaves : output′ ≡ left (centralSays formula event (length output)) (padded nodesMost (encode (progressed event (formulaOf formula)))) output
+  pub leaves : output′ ≡ left (centralSays formula event (length output)) (padded centralNodesMost (encode (progressed event (formulaOf formula)))) output
 
 -- ---- what the functions below the call ask and give
 -- the verdict of a formula by its first byte

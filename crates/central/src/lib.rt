@@ -2,7 +2,7 @@
 // output, and one resolves it there.
 ghost use mathlib.Core.Path.{_≡_};
 ghost use lib.ListN.{length};
-ghost use Rattle.central.specs.Central.{lengthsOk, verdictByte, Progressable, ProgressedTo, Centrally};
+ghost use Rattle.central.specs.Central.{centralLengthsOk, verdictByte, Progressable, ProgressedTo, Centrally};
 use answers::Refusal;
 use answers::Verdict;
 use resolving::Seen;
@@ -23,7 +23,7 @@ const PROPOSITIONS_MOST: u64 = 64;
 
 // A formula of 1 to 4,096 bytes, and an output of 4,096.
 fn lengths_ok(formula: usize, output: usize) -> bool
-    ensures { λ r. ⌜ r ≡ lengthsOk formula output ⌝ }
+    ensures { λ r. ⌜ r ≡ centralLengthsOk formula output ⌝ }
 {
     if formula < 1 {
         return false;
@@ -70,7 +70,7 @@ pub fn central(formula: &[u8], event: u64, output: &mut [u8]) -> CentralAnswer
     if !lengths_ok(formula.len(), output.len()) {
         return CentralAnswer::Refused(Refusal::Length);
     }
-    if !texts::is_rule(formula, PROPOSITIONS_MOST) {
+    if !owing::is_rule(formula, PROPOSITIONS_MOST) {
         return CentralAnswer::Refused(Refusal::Formula);
     }
     let unfolded = unfolding::count_unfolded(formula);

@@ -11,8 +11,8 @@ use Rattle.lists.proofs.Tests.{both-0, both-1, both-true}
 use Rattle.kinds.specs.declared.Leaf.the-variants.{Const, Prop, Hold}
 use Rattle.kinds.specs.declared.Unary.the-variants.{Not, Next, Eventually, Always}
 use Rattle.kinds.specs.declared.Binary.the-variants.{Joined, Until}
-use Rattle.ltl.specs.Formula.{Formula, leaf, one, two, size, Within, leafOver, over}
-use Rattle.ltl.proofs.Texts.{size-some}
+use Rattle.ltl.specs.Formula.{Formula, leaf, one, two, size, Within, leafOver, over, Coded}
+use Rattle.ltl.proofs.Decoding.{size-some}
 use Rattle.masks.proofs.Exact.{below, low-bits-bit}
 use Rattle.network.specs.Tick.{holdsOnly}
 use Rattle.state.specs.Clauses.{tidy, unfoldedOwn, loneOther}
@@ -134,7 +134,7 @@ module _ (a : Allowed) where
 
 -- ---- the clauses of a slot
 -- a test that holds of every slot, and of the slots below a number
-pub holds-all : (t : ℕ → Bool) (f : Formula) → Within 64 64 f → ((m : ℕ) → m < 64 → t m ≡ true) → holdsOnly t f ≡ true
+pub holds-all : (t : ℕ → Bool) (f : Formula) → Coded f → ((m : ℕ) → m < 64 → t m ≡ true) → holdsOnly t f ≡ true
 unfolding holdsOnly
 holds-all t (leaf (Const v)) w h = refl
 holds-all t (leaf (Prop i)) w h = refl
@@ -151,7 +151,7 @@ holds-same p s t u (one o f) w h = holds-same p s t u f w h
 holds-same p s t u (two o f g) w h = ap₂ both (holds-same p s t u f (w .0) h) (holds-same p s t u g (w .1) h)
 
 -- every proposition, and temporal operators too
-own-all : (own : ℕ) (f : Formula) → Within 64 64 f → ((i : ℕ) → i < 64 → bit own i ≡ true) → outsideOwn true own f ≡ true
+own-all : (own : ℕ) (f : Formula) → Coded f → ((i : ℕ) → i < 64 → bit own i ≡ true) → outsideOwn true own f ≡ true
 unfolding outsideOwn
 own-all own (leaf (Const v)) w h = refl
 own-all own (leaf (Prop i)) w h = h i w
@@ -192,11 +192,11 @@ double-not true = refl
 double-not false = refl
 
 -- a stepped slot of one node has its own board's propositions alone, a longer one any
-own-longer : (mask n : ℕ) (f : Formula) → Within 64 64 f → (n ≡ 1 → ⊥) → outsideOwn true (pick (eqb n 1) mask (2 ^ 64 - 1)) f ≡ true
+own-longer : (mask n : ℕ) (f : Formula) → Coded f → (n ≡ 1 → ⊥) → outsideOwn true (pick (eqb n 1) mask (2 ^ 64 - 1)) f ≡ true
 unfolding pick
 own-longer mask n f w h = rw (ne-eqb n 1 h) (own-all (2 ^ 64 - 1) f w all-bits)
 
-pub own-stepped : (mask n : ℕ) (f : Formula) → Within 64 64 f → n ≡ size f → outsideOwn true (pick (eqb n 1) mask (2 ^ 64 - 1)) f ≡ not (loneOther mask f)
+pub own-stepped : (mask n : ℕ) (f : Formula) → Coded f → n ≡ size f → outsideOwn true (pick (eqb n 1) mask (2 ^ 64 - 1)) f ≡ not (loneOther mask f)
 unfolding loneOther outsideOwn pick
 own-stepped mask n (leaf (Const v)) w e = refl
 own-stepped mask n (leaf (Prop i)) w e = rw (eq-eqb n 1 e) (double-not (bit mask i))
@@ -205,7 +205,7 @@ own-stepped mask n (one o f) w e = let z = size-some f in own-longer mask n (one
 own-stepped mask n (two o f g) w e = let z = size-some f in own-longer mask n (two o f g) w (λ q. omega arith)
 
 -- the clauses of the state check, of which the last two are those of a stepped slot or of one that is not
-module _ (a : Allowed) (f : Formula) (coded : Within 64 64 f) (held-last own-last : Bool) where
+module _ (a : Allowed) (f : Formula) (coded : Coded f) (held-last own-last : Bool) where
   pub stands-so : (over (a .propositions) (a .slots) f ≡ true → holdsOnly (held a) f ≡ held-last) → outsideOwn (a .temporal) (a .own) f ≡ own-last
       → stands a f ≡ both (both (over (a .propositions) (a .slots) f) (both (tidy f) (holdsOnly (above a) f))) (both held-last own-last)
   unfolding both

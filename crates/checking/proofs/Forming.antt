@@ -14,9 +14,9 @@ use lib.Dec.{eqb}
 use borrow.Author.Tests.{lt-ltb}
 use Rattle.lists.specs.Tests.{pick, both, either, bit}
 use Rattle.lists.proofs.Tests.{no-true, pick-elim}
-use Rattle.ltl.specs.Formula.{Formula, size, Within}
-use Rattle.ltl.specs.Text.{textOf}
-use Rattle.ltl.proofs.Texts.{text-is, length-encode, over-within}
+use Rattle.ltl.specs.Formula.{Formula, size, Coded}
+use Rattle.ltl.specs.Decode.{decoded}
+use Rattle.ltl.proofs.Decoding.{decoded-is, length-encode, over-within}
 use Rattle.network.specs.Tick.{holdsOnly}
 use Rattle.state.specs.Fields.{slotsIn, maskIn, sampledIn, boardOfIn, steppedIn, lengthIn, slotBytes, formulaIn}
 use Rattle.state.specs.Clauses.{eachBelow, distinct, shapeOk, unfoldedOwn, loneOther, formulaOk, heldBy, heldOf, holdersIn}
@@ -52,7 +52,7 @@ module _ (s : List ℕ) (p k seen : ℕ) where
       go true false e q h f = ap (λ (b : Bool). pick b (noted (heldOf f) seen) Wrong) (fails f e q)
       go false y e q h f = absurd (no-true (sym h))
 
-  module _ (settled : ℕ) (are : Settled s settled) (f : Formula) (coded : Within 64 64 f) (long : lengthIn s k ≡ size f) where
+  module _ (settled : ℕ) (are : Settled s settled) (f : Formula) (coded : Coded f) (long : lengthIn s k ≡ size f) where
     abbrev mask : ℕ
     mask = maskIn s (boardOfIn s k)
 
@@ -88,12 +88,12 @@ module _ (s : List ℕ) (p k seen : ℕ) where
   pub held-passed : (settled : ℕ) → Settled s settled → length (slotBytes s k) ≡ lengthIn s k → sampledFor s k ≡ true → {a : Allowed} → a ≡ allowedIn s p settled k
       → pass a (slotBytes s k) (at 1 0 seen) ≡ heldIn s p k seen
   unfolding heldIn pick
-  held-passed settled are long h so = ap (λ (x : Allowed). pass x (slotBytes s k) (at 1 0 seen)) so ∙ pass-is (allowedIn s p settled k) (slotBytes s k) seen ∙ go (textOf (slotBytes s k)) refl
+  held-passed settled are long h so = ap (λ (x : Allowed). pass x (slotBytes s k) (at 1 0 seen)) so ∙ pass-is (allowedIn s p settled k) (slotBytes s k) seen ∙ go (decoded (slotBytes s k)) refl
     where
-      go : (x : Option Formula) → textOf (slotBytes s k) ≡ x → checkedText (allowedIn s p settled k) x seen ≡ pick (formulaOk s p k x) (noted (heldOf x) seen) Wrong
+      go : (x : Option Formula) → decoded (slotBytes s k) ≡ x → checkedText (allowedIn s p settled k) x seen ≡ pick (formulaOk s p k x) (noted (heldOf x) seen) Wrong
       go none e = refl
       go (some f) e =
-          let t = text-is (slotBytes s k) f e in
+          let t = decoded-is (slotBytes s k) f e in
           let l : lengthIn s k ≡ size f = sym long ∙ ap length (t .1) ∙ length-encode f in
           ap (λ (b : Bool). pick b (noted (heldBy f) seen) Wrong) (clause-is settled are f (t .0) l h)
 

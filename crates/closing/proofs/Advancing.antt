@@ -11,7 +11,7 @@ use Rattle.answers.specs.declared.Refusal.the-variants.{Slots, Nodes}
 use Rattle.answers.specs.declared.Outcome.the-variants.{Refused, Done}
 use Rattle.answers.specs.Said.{Said, accepted, refused, left, numberOf}
 use Rattle.answers.proofs.Answers.{left-refused, left-accepted, order-ok, order-refused, order-done}
-use Rattle.ltl.specs.Limits.{nodesMost}
+use Rattle.limits.specs.Limits.{nodesMost}
 use Rattle.masks.specs.Masks.{sumOnes}
 use Rattle.state.specs.Fields.{ticksIn, masksIn}
 use Rattle.state.specs.Bytes.{nodesOf, stateOf}
@@ -19,7 +19,7 @@ use Rattle.state.specs.Calls.{nextIn}
 use Rattle.state.proofs.Rows.{masks-length}
 use Rattle.scores.specs.Owned.{Owns}
 use Rattle.storing.specs.Stores.{Counts, StateAsk, Stores}
-use Rattle.passing.proofs.Passing.{passing}
+use Rattle.checked.proofs.Passing.{passing}
 use Rattle.counting.specs.declared.Totals as counted
 use Rattle.counting.specs.Known.{Known}
 use Rattle.counting.specs.Totals.{Totalled}
@@ -27,15 +27,15 @@ use Rattle.spreading.specs.Spreads.{SpreadAsk, Spreads}
 use Rattle.closing.specs.Close.{nextState, AdvanceAsk, advanceSays, Advances, NextAsk}
 
 -- ---- the next state
-module _ {s second masks owner u marks : List ℕ} {boards slots nodes next-slots next-nodes : ℕ}
-    (ask : NextAsk s second boards slots nodes masks owner next-slots next-nodes u marks) where
-  pub spread-ask : SpreadAsk s boards slots nodes owner u marks
+module _ {s second masks owner u tags : List ℕ} {boards slots nodes next-slots next-nodes : ℕ}
+    (ask : NextAsk s second boards slots nodes masks owner next-slots next-nodes u tags) where
+  pub spread-ask : SpreadAsk s boards slots nodes owner u tags
   spread-ask =
       let c = ask .counts in
-      record { known = ask .known; few = omega arith; u-long = ask .u-long; marks-long = ask .marks-long }
+      record { known = ask .known; few = omega arith; u-long = ask .u-long; tags-long = ask .tags-long }
 
-  module _ {u′ marks′ : List ℕ} {n : ℕ} (h : Spreads s u′ marks′ n) where
-    pub state-ask : StateAsk second masks next-slots next-nodes (take n u′) marks′
+  module _ {u′ tags′ : List ℕ} {n : ℕ} (h : Spreads s u′ tags′ n) where
+    pub state-ask : StateAsk second masks next-slots next-nodes (take n u′) tags′
     state-ask =
         record {
           network = nextIn s;
@@ -45,7 +45,7 @@ module _ {s second masks owner u marks : List ℕ} {boards slots nodes next-slot
           few-boards = let e = ap length (ask .masks-are) ∙ masks-length s in let f = passing s (ask .known .passes) .header .few-boards in omega arith;
         }
 
-    pub next-put : {ticks : ℕ} {second′ : List ℕ} → ticks ≡ ticksIn s + 1 → Stores masks next-slots next-nodes ticks (take n u′) marks′ second′ → second′ ≡ nextState s
+    pub next-put : {ticks : ℕ} {second′ : List ℕ} → ticks ≡ ticksIn s + 1 → Stores masks next-slots next-nodes ticks (take n u′) tags′ second′ → second′ ≡ nextState s
     next-put {ticks} {second′} e x =
         subst (λ (m : List ℕ). second′ ≡ stateOf m (nextIn s) (ticksIn s + 1)) (ask .masks-are)
         (subst (λ (t : ℕ). second′ ≡ stateOf masks (nextIn s) t) e (x (nextIn s) (h .laid-out) (ask .counts)))
@@ -87,9 +87,9 @@ module _ {s second : List ℕ} {boards slots nodes : ℕ} (ask : AdvanceAsk s se
 
   -- within the limits
   module _ {next-slots next-nodes : ℕ} (counts : Counts (nextIn s) next-slots next-nodes) where
-    pub next-ask : {masks owner u marks : List ℕ} → masks ≡ masksIn s → Known s boards slots nodes owner → length u ≡ nodesMost → length marks ≡ nodesMost
-        → NextAsk s second boards slots nodes masks owner next-slots next-nodes u marks
-    next-ask e k lu lm = record { known = k; counted = ask .counted; long = ask .long; masks-are = e; counts = counts; u-long = lu; marks-long = lm }
+    pub next-ask : {masks owner u tags : List ℕ} → masks ≡ masksIn s → Known s boards slots nodes owner → length u ≡ nodesMost → length tags ≡ nodesMost
+        → NextAsk s second boards slots nodes masks owner next-slots next-nodes u tags
+    next-ask e k lu lm = record { known = k; counted = ask .counted; long = ask .long; masks-are = e; counts = counts; u-long = lu; tags-long = lm }
 
     pub advanced-done : {second′ : List ℕ} → second′ ≡ nextState s → Advances s second second′ Done
     advanced-done h =

@@ -7,7 +7,7 @@ use lib.ListN.{length}
 use lib.Dec.{leb, eqb}
 use Rattle.answers.specs.Said.{Said, accepted, left, check, inOrder, saidOutcome}
 use Rattle.answers.specs.declared.Outcome.{Outcome}
-use Rattle.ltl.specs.Limits.{nodesMost}
+use Rattle.limits.specs.Limits.{nodesMost}
 use Rattle.state.specs.Fields.{stateLength, boardsIn, slotsIn, ticksIn, masksIn, sampledIn, steppedIn}
 use Rattle.state.specs.Clauses.{slotsMost, eachBelow, stateOk}
 use Rattle.state.specs.Bytes.{nodesOf, stateOf}
@@ -49,11 +49,11 @@ pub record Advances (s second second′ : List ℕ) (answer : Outcome) : Type 0 
   pub leaves : second′ ≡ left (advanceSays s) (nextState s) second
 
 -- the new layout is within the limits
-pub record NextAsk (s second : List ℕ) (boards slots nodes : ℕ) (masks owner : List ℕ) (next-slots next-nodes : ℕ) (u marks : List ℕ) : Type 0 where
+pub record NextAsk (s second : List ℕ) (boards slots nodes : ℕ) (masks owner : List ℕ) (next-slots next-nodes : ℕ) (u tags : List ℕ) : Type 0 where
   pub known : Known s boards slots nodes owner
   pub counted : ticksIn s + 1 < 2 ^ 32
   pub long : length second ≡ stateLength
   pub masks-are : masks ≡ masksIn s
   pub counts : Counts (nextIn s) next-slots next-nodes
   pub u-long : length u ≡ nodesMost
-  pub marks-long : length marks ≡ nodesMost
+  pub tags-long : length tags ≡ nodesMost

@@ -1,5 +1,5 @@
 // The call `close`: when all boards have sampled and all slots are stepped, the network is laid out again into a second buffer. Its
-// slots and nodes are counted first, and only where they are within the limits it is spread out, marked and laid.
+// slots and nodes are counted first, and only where they are within the limits it is spread out, tagged and laid.
 ghost use mathlib.Core.Path.{_≡_};
 ghost use Rattle.checking.specs.Header.{Sized};
 ghost use Rattle.closing.specs.Close.{Closes, allSampled, allStepped, nextState, AdvanceAsk, Advances, NextAsk};
@@ -55,14 +55,14 @@ fn put_next(
     slots: usize,
     nodes: usize,
     u: &mut [u8],
-    marks: &mut [u32],
+    tags: &mut [u32],
 )
-    requires { ⌜ NextAsk (now state) (now second) (c .boards) (c .slots) (c .nodes) (now masks) (now owner) slots nodes (now u) (now marks) ⌝ }
+    requires { ⌜ NextAsk (now state) (now second) (c .boards) (c .slots) (c .nodes) (now masks) (now owner) slots nodes (now u) (now tags) ⌝ }
     ensures { λ _. ⌜ now (second .exit) ≡ nextState (now (state .entry)) ⌝ }
 {
     let ticks = le::u32_at(state, 12) + 1;
-    let n = spreading::spread(state, c, owner, u, marks);
-    storing::put_state(second, masks, slots, nodes, ticks, &u[..n], marks);
+    let n = spreading::spread(state, c, owner, u, tags);
+    storing::put_state(second, masks, slots, nodes, ticks, &u[..n], tags);
 }
 
 // Closes a tick that is done: 7 and 8 by the whole new layout, however large, then the next state.
@@ -83,7 +83,7 @@ fn advance(state: &[u8], c: Counts, second: &mut [u8]) -> Outcome
         return Outcome::Refused(Refusal::Nodes);
     }
     let mut u = [0u8; NODES_MOST];
-    let mut marks = [0u32; NODES_MOST];
+    let mut tags = [0u32; NODES_MOST];
     put_next(
         state,
         c,
@@ -93,7 +93,7 @@ fn advance(state: &[u8], c: Counts, second: &mut [u8]) -> Outcome
         next.slots,
         next.nodes,
         &mut u,
-        &mut marks,
+        &mut tags,
     );
     Outcome::Done
 }

@@ -5,7 +5,7 @@ use mathlib.Core.List.{List}
 use Prim.Native.Nat.{ℕ, _+_, _-_, _<_, _≤_}
 use native.Mathlib.Omega.{arith}
 use lib.ListN.{length, getD, drop, drop-of-length-le}
-use Rattle.ltl.specs.Limits.{nodesMost}
+use Rattle.limits.specs.Limits.{nodesMost}
 use Rattle.state.specs.Clauses.{slotsMost}
 use Rattle.counting.specs.declared.Totals.{Totals}
 use Rattle.counting.specs.Totals.{capped}

@@ -9,7 +9,7 @@ use native.Mathlib.Nat.{eq-or-lt-of-le}
 use native.Mathlib.Omega.{arith}
 use lib.ListN.{length, getD, set, length-set}
 use lib.Seq.{getD-set-same, getD-set-other}
-use Rattle.ltl.specs.Limits.{nodesMost}
+use Rattle.limits.specs.Limits.{nodesMost}
 use Rattle.ltl.specs.Formula.{encode}
 use Rattle.ltl.specs.Progression.{unfolded}
 use Rattle.network.specs.Scores.{chosen}
@@ -19,7 +19,7 @@ use Rattle.state.specs.Clauses.{slotsMost, stateOk}
 use Rattle.state.specs.Bytes.{formulaAt}
 use Rattle.state.specs.Calls.{nextIn}
 use Rattle.laying.proofs.Counting.{held}
-use Rattle.passing.proofs.Passing.{passing}
+use Rattle.checked.proofs.Passing.{passing}
 use Rattle.counting.specs.declared.Totals.{Totals}
 use Rattle.counting.specs.Known.{Known}
 use Rattle.counting.specs.Totals.{capped, Totalled}

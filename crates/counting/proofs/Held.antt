@@ -16,7 +16,7 @@ use Rattle.kinds.specs.declared.Leaf.the-variants.{Const, Prop, Hold}
 use Rattle.kinds.specs.declared.Unary.the-variants.{Not, Next, Eventually, Always}
 use Rattle.kinds.specs.declared.Binary.the-variants.{Joined, Until}
 use Rattle.kinds.specs.Kinds.{unaryCode, binaryCode}
-use Rattle.ltl.specs.Formula.{Formula, leaf, one, two, encode, Within}
+use Rattle.ltl.specs.Formula.{Formula, leaf, one, two, encode, Coded}
 use Rattle.network.proofs.Owned.{Free, Clean}
 use Rattle.laying.proofs.Counting.{held}
 use Rattle.counting.specs.Held.{heldAt, heldOver}
@@ -40,7 +40,7 @@ module _ (entry : ℕ → ℕ) where
 
   -- ---- by the formula
   module _ (choose : Formula → Option ℕ) where
-    free-over : (f : Formula) → Within 64 64 f → Free choose f → heldOver entry (encode f) ≡ 0
+    free-over : (f : Formula) → Coded f → Free choose f → heldOver entry (encode f) ≡ 0
     free-over (leaf (Const true)) w x = omega (arith, held-low 1 (omega arith))
     free-over (leaf (Const false)) w x = omega (arith, held-low 0 (omega arith))
     free-over (leaf (Prop i)) w x = omega (arith, held-low (64 + i) (omega arith))
@@ -49,7 +49,7 @@ module _ (entry : ℕ → ℕ) where
     free-over (two o f g) w x =
         omega (arith, held-low (binaryCode o) (binary-low o), over-append (encode f) (encode g), free-over f (w .0) (x .0), free-over g (w .1) (x .1))
 
-    pub clean-held : (f : Formula) → Within 64 64 f → Clean choose f → heldOver entry (encode f) ≡ held entry f
+    pub clean-held : (f : Formula) → Coded f → Clean choose f → heldOver entry (encode f) ≡ held entry f
     clean-held (leaf (Const v)) w x = free-over (leaf (Const v)) w x
     clean-held (leaf (Prop i)) w x = free-over (leaf (Prop i)) w x
     clean-held (leaf (Hold m)) w x =

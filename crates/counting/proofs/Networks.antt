@@ -23,9 +23,9 @@ use Rattle.state.specs.Calls.{nextIn}
 use Rattle.state.proofs.Rows.{network-length, network-at}
 use Rattle.cutting.specs.Cuts.{cutsOn}
 use Rattle.laying.proofs.Counting.{held}
-use Rattle.passing.proofs.Passing.{passing}
-use Rattle.passing.proofs.Held.{slot-holds}
-use Rattle.passing.proofs.Tidy.{tidy-clean}
+use Rattle.checked.proofs.Passing.{passing}
+use Rattle.checked.proofs.Held.{slot-holds}
+use Rattle.checked.proofs.Tidy.{tidy-clean}
 use Rattle.counting.proofs.Levels.{slotsFor, nodesFor, slots-again, nodes-again, close-slots, close-nodes}
 
 module _ (s : List ℕ) where

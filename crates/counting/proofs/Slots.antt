@@ -7,9 +7,9 @@ use mathlib.Core.Logic.{inr}
 use Prim.Native.Nat.{ℕ, _+_, _-_, _*_, _<_}
 use native.Mathlib.Omega.{arith}
 use lib.ListN.{getD, take, drop}
-use Rattle.ltl.specs.Limits.{nodesMost}
+use Rattle.limits.specs.Limits.{nodesMost}
 use Rattle.ltl.specs.Formula.{encode}
-use Rattle.ltl.proofs.Texts.{unfolded-coded}
+use Rattle.ltl.proofs.Decoding.{unfolded-coded}
 use Rattle.masks.specs.Masks.{sumOnes}
 use Rattle.state.specs.Fields.{slotsIn, masksIn, boardOfIn}
 use Rattle.state.specs.Clauses.{slotsMost}
@@ -22,8 +22,8 @@ use Rattle.cutting.proofs.Nodes.{unfolded-few}
 use Rattle.unfolding.specs.Unfolds as unfolds
 use Rattle.checking.proofs.Records as records
 use Rattle.checking.specs.Slotted.{Placed, Spans}
-use Rattle.passing.proofs.Passing.{SlotPassing}
-use Rattle.passing.proofs.Lying.{Lying, placed, slot-passing, lying, lent-is, lent-holds}
+use Rattle.checked.proofs.Passing.{SlotPassing}
+use Rattle.checked.proofs.Lying.{Lying, placed, slot-passing, lying, lent-is, lent-holds}
 use Rattle.counting.specs.declared.Totals.{Totals}
 use Rattle.counting.specs.Known.{Known}
 use Rattle.counting.specs.Totals.{capped}

@@ -3,7 +3,7 @@ use mathlib.Core.Path.{_≡_}
 use Prim.Native.Nat.{ℕ, _+_, _<_, _≤_}
 use mathlib.Core.List.{List, []}
 use lib.ListN.{length}
-use Rattle.ltl.specs.Limits.{boardsMost, nodesMost}
+use Rattle.limits.specs.Limits.{boardsMost, nodesMost}
 use Rattle.ltl.specs.Formula.{Formula, size, encode, Within}
 use Rattle.ltl.specs.Progression.{unfolded}
 use Rattle.network.specs.Scores.{chosen}
@@ -11,7 +11,7 @@ use Rattle.state.specs.Clauses.{slotsMost}
 use Rattle.nodes.specs.Begins.{Front, Begins}
 use Rattle.scores.specs.Owned.{Table, Owned}
 use Rattle.cutting.specs.Cuts.{cutsOn}
-use Rattle.passing.specs.Holds.{Holds}
+use Rattle.checked.specs.Holds.{Holds}
 use Rattle.counting.specs.declared.Totals.{Totals}
 use Rattle.counting.specs.Totals.{capped}
 use Rattle.counting.specs.Held.{heldOver, entryIn}

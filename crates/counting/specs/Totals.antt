@@ -3,7 +3,7 @@ use mathlib.Core.Path.{_≡_}
 use Prim.Native.Nat.{ℕ, _+_, min}
 use mathlib.Core.List.{List}
 use lib.ListN.{length}
-use Rattle.ltl.specs.Limits.{nodesMost}
+use Rattle.limits.specs.Limits.{nodesMost}
 use Rattle.network.specs.Layout.{Slot}
 use Rattle.state.specs.Clauses.{slotsMost}
 use Rattle.state.specs.Bytes.{nodesOf}

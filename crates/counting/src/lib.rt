@@ -2,12 +2,12 @@
 // numbers alone, so the last one is counted first: each counts its own cuts and nodes, and what the slots count that it holds.
 ghost use mathlib.Core.Path.{_≡_};
 ghost use Prim.Native.Nat.{_+_, _<_, _≤_, _^_};
-ghost use Rattle.ltl.specs.Limits.{nodesMost};
+ghost use Rattle.limits.specs.Limits.{nodesMost};
 ghost use Rattle.state.specs.Fields.{masksIn, boardOfIn};
 ghost use Rattle.state.specs.Clauses.{slotsMost};
 ghost use Rattle.state.specs.Bytes.{formulaAt};
 ghost use Rattle.state.specs.Calls.{nextIn};
-ghost use Rattle.passing.specs.Holds.{Holds};
+ghost use Rattle.checked.specs.Holds.{Holds};
 ghost use Rattle.counting.specs.Known.{Known};
 ghost use Rattle.counting.specs.Totals.{capped, Totalled};
 ghost use Rattle.counting.specs.Held.{heldAt, entryIn};

@@ -12,7 +12,7 @@ use lib.Dec.{eqb}
 use borrow.Author.Tests.{eq-eqb, ne-eqb, eqb-true, eqb-false}
 use Rattle.lists.proofs.Tests.{either-right}
 use Rattle.lists.specs.Tests.{pick, either}
-use Rattle.ltl.specs.Limits.{boardsMost}
+use Rattle.limits.specs.Limits.{boardsMost}
 use Rattle.ltl.specs.Formula.{Formula}
 use Rattle.network.specs.Scores.{highest}
 use Rattle.scores.specs.Scored.{oneScored}

@@ -10,7 +10,7 @@ use Rattle.kinds.specs.declared.Leaf.{Leaf}
 use Rattle.kinds.specs.declared.Unary.the-variants.{Not, Next, Eventually, Always}
 use Rattle.kinds.specs.declared.Join.{Join}
 use Rattle.kinds.specs.declared.Binary.the-variants.{Joined, Until}
-use Rattle.ltl.specs.Limits.{boardsMost}
+use Rattle.limits.specs.Limits.{boardsMost}
 use Rattle.ltl.specs.Formula.{Formula, leaf, one, two, size, Within}
 use Rattle.ltl.specs.Progression.{unfolded}
 use Rattle.network.specs.Scores.{highest, chosen}

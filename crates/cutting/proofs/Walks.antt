@@ -14,7 +14,7 @@ use Rattle.kinds.specs.declared.Join.the-variants.{And, Or}
 use Rattle.kinds.specs.declared.Binary.{Binary}
 use Rattle.kinds.specs.declared.Binary.the-variants.{Joined, Until}
 use Rattle.kinds.specs.declared.Kind.the-variants.{Zero}
-use Rattle.ltl.specs.Limits.{boardsMost}
+use Rattle.limits.specs.Limits.{boardsMost}
 use Rattle.ltl.specs.Formula.{Formula, one, two, join, size}
 use Rattle.ltl.specs.Progression.{unfolded}
 use Rattle.nodes.proofs.Fronts.{Parts, isZero, Single, Double}

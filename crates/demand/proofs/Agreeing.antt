@@ -36,10 +36,10 @@ close-done t second s′ x = close-passed t _ (sym (x .says)) .done
 
 module _ (file : List ℕ) (us : List Event) (s : List ℕ) (w : Watched file us s) where
   abbrev p : ℕ
-  p = rule-file.propositionsIn file
+  p = rule-file.propositionsInFile file
 
   abbrev masks : List ℕ
-  masks = rule-file.masksIn file
+  masks = rule-file.masksInFile file
 
   abbrev rule : Formula
   rule = ruleIn file
@@ -58,9 +58,9 @@ module _ (file : List ℕ) (us : List Event) (s : List ℕ) (w : Watched file us
       → doneIn t ≡ true → doneIn u ≡ true → SameGiven c d → (b : ℕ) → b < boardsIn s → sampleIn t b ≡ sampleIn u b
   samples-same other vs r v one t u c d done-t done-u same b l =
       let n = ap length one in
-      let z = watch-started (rule-file.propositionsIn other) (rule-file.masksIn other) (ruleIn other) (watched v) in
+      let z = watch-started (rule-file.propositionsInFile other) (rule-file.masksInFile other) (ruleIn other) (watched v) in
       let g = sample-given p masks rule us s started t c done-t b l in
-      let k = sample-given (rule-file.propositionsIn other) (rule-file.masksIn other) (ruleIn other) vs r z u d done-u b (omega (arith, masks-length s, masks-length r)) in
+      let k = sample-given (rule-file.propositionsInFile other) (rule-file.masksInFile other) (ruleIn other) vs r z u d done-u b (omega (arith, masks-length s, masks-length r)) in
       g .2 ∙ same b (g .0) (k .0) (g .1) (k .1) ∙ sym (k .2)
 
   pub bytes-same : (d e : Event) (a b : List ℕ) (x : Ticked masks s d a) (y : Ticked masks s e b) → SameGiven (x .calls) (y .calls) → a ≡ b
@@ -81,13 +81,13 @@ module _ (file : List ℕ) (us : List Event) (s : List ℕ) (w : Watched file us
       (saidOutcome-injective x y (k .says ∙ says ∙ sym (l .says)), k .leaves ∙ (λ i. left (says i) (next i) second) ∙ sym (l .leaves))
 
 pub networks-same : (file : List ℕ) (us : List Event) (s : List ℕ) → Watched file us s → (other : List ℕ) (vs : List Event) (r : List ℕ) → Watched other vs r → OneNetwork s r
-    → (d e : Event) (a b : List ℕ) (x : Ticked (rule-file.masksIn file) s d a) (y : Ticked (rule-file.masksIn other) r e b) → SameGiven (x .calls) (y .calls) → OneNetwork a b
+    → (d e : Event) (a b : List ℕ) (x : Ticked (rule-file.masksInFile file) s d a) (y : Ticked (rule-file.masksInFile other) r e b) → SameGiven (x .calls) (y .calls) → OneNetwork a b
 networks-same file us s w other vs r v one d e a b x y same =
-    let m : rule-file.masksIn other ≡ rule-file.masksIn file = sym (masks-are other vs r v) ∙ sym (one .masks) ∙ masks-are file us s w in
-    let z = subst (λ (ms : List ℕ). Watch (rule-file.propositionsIn other) ms (ruleIn other) vs r) m (watched v) in
+    let m : rule-file.masksInFile other ≡ rule-file.masksInFile file = sym (masks-are other vs r v) ∙ sym (one .masks) ∙ masks-are file us s w in
+    let z = subst (λ (ms : List ℕ). Watch (rule-file.propositionsInFile other) ms (ruleIn other) vs r) m (watched v) in
     record {
       masks = masks-are file _ a (ticked w d x) ∙ sym m ∙ sym (masks-are other _ b (ticked v e y));
-      slots = networks-agree (rule-file.propositionsIn file) (rule-file.masksIn file) (ruleIn file) us s (watched w) (rule-file.propositionsIn other) (ruleIn other) vs r z (one .slots) d e a b
+      slots = networks-agree (rule-file.propositionsInFile file) (rule-file.masksInFile file) (ruleIn file) us s (watched w) (rule-file.propositionsInFile other) (ruleIn other) vs r z (one .slots) d e a b
           (tick file us s w x) (tick other vs r v y)
           (samples-same file us s w other vs r v (one .masks) (x .last) (y .last) (x .calls) (y .calls) (close-done (x .last) _ a (x .closes)) (close-done (y .last) _ b (y .closes)) same);
     }

@@ -4,7 +4,7 @@ use mathlib.Core.Path.{sym, _∙_}
 use mathlib.Core.List.{List}
 use Prim.Native.Nat.{ℕ}
 use Rattle.ltl.specs.Meaning.{Event}
-use Rattle.rules.specs.RuleFile.{propositionsIn, masksIn}
+use Rattle.rules.specs.RuleFile.{propositionsInFile, masksInFile}
 use Rattle.loading.specs.Load.{ruleIn}
 use Rattle.watching.proofs.Demand.{watch-verdict, watch-asks, watch-true, watch-false, tick-asks, tick-goes-on}
 use Rattle.demand.specs.Called.{Watched}
@@ -17,8 +17,8 @@ use Rattle.demand.proofs.Agreeing.{networks-same, bytes-same, close-sam
 
 pub demanded : {file : List ℕ} {us : List Event} {s : List ℕ} → Watched file us s → Demanded file us s
 demanded {file} {us} {s} w =
-    let p = propositionsIn file in
-    let masks = masksIn file in
+    let p = propositionsInFile file in
+    let masks = masksInFile file in
     let rule = ruleIn file in
     let watch = watched w in
     let verdict = watch-verdict p masks rule us s watch in

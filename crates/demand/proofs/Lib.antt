@@ -12,8 +12,8 @@ pub mod Sentences
 pub mod Ticks
 pub mod OnePlace
 pub mod Allowed
-pub mod Settling
-pub mod Settled
+pub mod Giving
+pub mod AllGiven
 pub mod Ticking
 pub mod Rows
 pub mod Worked

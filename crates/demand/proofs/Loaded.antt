@@ -11,29 +11,29 @@ use Rattle.lists.proofs.Tests.{both-1, both-true}
 use Rattle.answers.specs.declared.Outcome.the-variants.{Done}
 use Rattle.answers.specs.Said.{Said, accepted, left}
 use Rattle.answers.proofs.Answers.{left-accepted, order-passed}
-use Rattle.ltl.specs.Limits.{boardsMost, ruleNodesMost, nodesMost}
+use Rattle.limits.specs.Limits.{boardsMost, ruleNodesMost, nodesMost}
 use Rattle.nodes.specs.Begins.{Front}
-use Rattle.rules.specs.RuleFile.{boardsIn, propositionsIn, nodesIn, maskIn, masksIn, formulaIn}
+use Rattle.rules.specs.RuleFile.{boardsInFile, propositionsInFile, nodesInFile, maskInFile, masksInFile, formulaInFile}
 use Rattle.rules.specs.Read as read
 use Rattle.lists.proofs.Listed.{listed-length}
 use Rattle.rules.proofs.Outcomes.{counted, ReadPassed}
 use Rattle.state.specs.Clauses.{slotsMost}
 use Rattle.state.specs.Bytes.{nodesOf}
 use Rattle.state.specs.Calls.{firstOf, loadedState}
-use Rattle.loading.specs.Load.{ruleIn, lengthsOk, loadSays, LoadsRule}
+use Rattle.loading.specs.Load.{ruleIn, loadLengthsOk, loadSays, LoadsRule}
 use Rattle.loading.proofs.Outcomes.{read-within, read-ruled}
 use Rattle.watching.specs.Watch.{Loads}
 
 -- the lengths that loading checks are those that reading checks, with outputs of their lengths
-lengths-read : (file : List ℕ) (room : ℕ) → lengthsOk file room ≡ true → read.lengthsOk file boardsMost ruleNodesMost ≡ true
-unfolding lengthsOk read.lengthsOk
+lengths-read : (file : List ℕ) (room : ℕ) → loadLengthsOk file room ≡ true → read.readLengthsOk file boardsMost ruleNodesMost ≡ true
+unfolding loadLengthsOk read.readLengthsOk
 lengths-read file room e = both-true _ _ refl (both-true _ _ refl (both-1 _ _ e))
 
 -- what an accepted load's checks told
 record LoadPassed (file : List ℕ) : Type 0 where
   file-passed : ReadPassed file boardsMost ruleNodesMost
-  few-slots : length (firstOf (masksIn file) (ruleIn file)) ≤ slotsMost
-  few-nodes : nodesOf (firstOf (masksIn file) (ruleIn file)) ≤ nodesMost
+  few-slots : length (firstOf (masksInFile file) (ruleIn file)) ≤ slotsMost
+  few-nodes : nodesOf (firstOf (masksInFile file) (ruleIn file)) ≤ nodesMost
 
 load-passed : (file : List ℕ) (room : ℕ) → loadSays file room ≡ accepted [] → LoadPassed file
 unfolding loadSays
@@ -45,10 +45,10 @@ load-passed file room e =
       few-nodes = leb-true _ _ (q .1 .1 .1 .1 .1 .1 .1 .0);
     }
 
-loads-of : (file : List ℕ) → LoadPassed file → Loads (propositionsIn file) (masksIn file) (ruleIn file)
+loads-of : (file : List ℕ) → LoadPassed file → Loads (propositionsInFile file) (masksInFile file) (ruleIn file)
 loads-of file x =
-    let c = counted (boardsIn file) (propositionsIn file) (nodesIn file) (x .file-passed .counts) in
-    let n = listed-length (maskIn file) (boardsIn file) in
+    let c = counted (boardsInFile file) (propositionsInFile file) (nodesInFile file) (x .file-passed .counts) in
+    let n = listed-length (maskInFile file) (boardsInFile file) in
     let a = c .boards-some in
     let b = c .boards-few in
     record {
@@ -63,15 +63,15 @@ loads-of file x =
     }
 
 pub record LoadAccepted (file s : List ℕ) : Type 0 where
-  pub loads : Loads (propositionsIn file) (masksIn file) (ruleIn file)
-  pub spelt : Front (formulaIn file) (ruleIn file) []
-  pub state-is : s ≡ loadedState (masksIn file) (ruleIn file)
+  pub loads : Loads (propositionsInFile file) (masksInFile file) (ruleIn file)
+  pub spelt : Front (formulaInFile file) (ruleIn file) []
+  pub state-is : s ≡ loadedState (masksInFile file) (ruleIn file)
 
 pub load-accepted : (file before s : List ℕ) → LoadsRule file before s Done → LoadAccepted file s
 load-accepted file before s l =
     let e = sym (l .says) in
     let x = load-passed file (length before) e in
-    let next = loadedState (masksIn file) (ruleIn file) in
+    let next = loadedState (masksInFile file) (ruleIn file) in
     record {
       loads = loads-of file x;
       spelt = read-ruled file (x .file-passed) .front;

@@ -9,20 +9,20 @@ use lib.Seq.{take-at}
 use Rattle.lists.specs.Runs.{padded}
 use Rattle.answers.specs.Said.{Said, accepted, left}
 use Rattle.answers.proofs.Answers.{left-accepted, verdict-injective, order-ok, order-done, order-passed}
-use Rattle.ltl.specs.Limits.{nodesMost}
-use Rattle.ltl.specs.Formula.{Formula, size, encode, Within}
+use Rattle.limits.specs.Limits.{nodesMost, propositionsMost, holderCodes}
+use Rattle.ltl.specs.Formula.{Formula, size, encode, Coded}
 use Rattle.ltl.specs.Meaning.{Event}
 use Rattle.ltl.specs.Progression as ltl
 use Rattle.ltl.specs.Progression.{unfolded, progressedOver, verdictOf}
-use Rattle.ltl.specs.Text.{textOf, someFormula, formulaOf}
-use Rattle.ltl.proofs.Texts.{length-encode, text-of, unfolded-coded}
+use Rattle.ltl.specs.Decode.{decoded, someFormula, formulaOf}
+use Rattle.ltl.proofs.Decoding.{length-encode, decoded-of, unfolded-coded}
 use Rattle.nodes.specs.Begins.{Front}
 use Rattle.resolving.proofs.Coded.{settled-coded}
 use Rattle.central.specs.declared.Progress.{Progress}
 use Rattle.central.specs.declared.CentralAnswer.the-variants.{Progressed}
 use Rattle.central.specs.Central.{answerOf, centralSays, Centrally}
 use Rattle.central.proofs.Progresses.{alone, settled-alone}
-use Rattle.rules.specs.RuleFile.{formulaIn}
+use Rattle.rules.specs.RuleFile.{formulaInFile}
 use Rattle.asking.specs.declared.Standing.{Standing}
 use Rattle.asking.specs.declared.AskAnswer.the-variants.{Told}
 use Rattle.asking.specs.Ask.{Asks}
@@ -39,8 +39,8 @@ over-more : (us : List Event) (e : Event) (f : Formula) → progressedOver (us +
 over-more [] e f = refl
 over-more (u ∷ us) e f = over-more us e (ltl.progressed u f)
 
-progressed-coded : (e : Event) (f : Formula) → Within 64 64 f → Within 64 64 (ltl.progressed e f)
-progressed-coded e f w = subst (λ (g : Formula). Within 64 64 g) (settled-alone e (unfolded f)) (settled-coded (alone e) (unfolded f) (unfolded-coded 64 64 f w))
+progressed-coded : (e : Event) (f : Formula) → Coded f → Coded (ltl.progressed e f)
+progressed-coded e f w = subst (λ (g : Formula). Coded g) (settled-alone e (unfolded f)) (settled-coded (alone e) (unfolded f) (unfolded-coded propositionsMost holderCodes f w))
 
 -- ---- an accepted call on a formula's bytes
 record Tells (f : Formula) (e : Event) (output′ : List ℕ) (p : Progress) : Type 0 where
@@ -54,10 +54,10 @@ central-says bytes e room h =
     let q = order-passed _ _ (omega arith, (omega arith, (omega arith, tt))) h in
     order-ok 1 _ _ _ (q .0) ∙ order-ok 6 _ _ _ (q .1 .0) ∙ order-ok 8 _ _ _ (q .1 .1 .0) ∙ order-done _
 
-tells : (f : Formula) → Within 64 64 f → (bytes : List ℕ) → bytes ≡ encode f → (e : Event) (output output′ : List ℕ) (p : Progress) → Centrally bytes e output output′ (Progressed p) → Tells f e output′ p
+tells : (f : Formula) → Coded f → (bytes : List ℕ) → bytes ≡ encode f → (e : Event) (output output′ : List ℕ) (p : Progress) → Centrally bytes e output output′ (Progressed p) → Tells f e output′ p
 tells f w bytes b e output output′ p c =
     let g = ltl.progressed e f in
-    let same : formulaOf bytes ≡ f = ap someFormula (ap textOf b ∙ text-of f w) in
+    let same : formulaOf bytes ≡ f = ap someFormula (ap decoded b ∙ decoded-of f w) in
     let says = central-says bytes e (length output) (ap (λ (a : Said). a .number) (sym (c .says))) ∙ ap (λ (x : Formula). accepted (answerOf (ltl.progressed e x))) same in
     let long : p .length ≡ size g = ap (λ (a : Said). getD (a .values) 1 0) (c .says ∙ says) in
     let next : output′ ≡ padded nodesMost (encode g) =
@@ -72,10 +72,10 @@ tells f w bytes b e output output′ p c =
 
 -- ---- the whole rule
 record Spells (file : List ℕ) (us : List Event) (bytes : List ℕ) : Type 0 where
-  coded : Within 64 64 (progressedOver us (ruleIn file))
+  coded : Coded (progressedOver us (ruleIn file))
   bytes-are : bytes ≡ encode (progressedOver us (ruleIn file))
 
-spells : {file : List ℕ} {us : List Event} {bytes : List ℕ} → Front (formulaIn file) (ruleIn file) [] → InOnePlace file us bytes → Spells file us bytes
+spells : {file : List ℕ} {us : List Event} {bytes : List ℕ} → Front (formulaInFile file) (ruleIn file) [] → InOnePlace file us bytes → Spells file us bytes
 spells {file} l given = record { coded = l .coded; bytes-are = l .bytes ∙ append-nil (encode (ruleIn file)) }
 spells {file} l (progressed {us = us} {bytes = bytes} x e output output′ p c) =
     let f = progressedOver us (ruleIn file) in
@@ -83,12 +83,12 @@ spells {file} l (progressed {us = us} {bytes = bytes} x e output output′ p c) 
     let t = tells f (i .coded) bytes (i .bytes-are) e output output′ p c in
     let more = over-more us e (ruleIn file) in
     record {
-      coded = subst (λ (g : Formula). Within 64 64 g) (sym more) (progressed-coded e f (i .coded));
+      coded = subst (λ (g : Formula). Coded g) (sym more) (progressed-coded e f (i .coded));
       bytes-are = t .bytes-are ∙ ap encode (sym more);
     }
 
 -- a watch's file was loaded
-watch-spelt : {file : List ℕ} {us : List Event} {s : List ℕ} → Watched file us s → Front (formulaIn file) (ruleIn file) []
+watch-spelt : {file : List ℕ} {us : List Event} {s : List ℕ} → Watched file us s → Front (formulaInFile file) (ruleIn file) []
 watch-spelt {file} (begun {before = before} {s = s} l) = load-accepted file before s l .spelt
 watch-spelt (ticked w e t) = watch-spelt w
 

@@ -6,7 +6,7 @@ use Prim.Native.Nat.{ℕ}
 use native.Mathlib.Omega.{arith}
 use lib.ListN.{length, getD, drop, length-append}
 use Rattle.ltl.specs.Meaning.{Event}
-use Rattle.rules.specs.RuleFile.{masksIn}
+use Rattle.rules.specs.RuleFile.{masksInFile}
 use Rattle.demand.specs.Called.{Ticked, Watched, begun, ticked}
 use Rattle.demand.proofs.Loaded.{load-accepted}
 use Rattle.demand.proofs.Agreeing.{event-same}
@@ -31,5 +31,5 @@ watches-same (begun l) (ticked {us = vs} v e y) h = absurd (none-more vs e h)
 watches-same (ticked {us = us} w d x) (begun m) h = absurd (none-more us d (sym h))
 watches-same {file} (ticked {us = us} {s = s} {s′ = a} w d x) (ticked {us = vs} {s = r} {s′ = b} v e y) h =
     let q = last-same us vs d e h in
-    let z = subst (λ (t : List ℕ). Ticked (masksIn file) t e b) (sym (watches-same w v (q .0))) y in
-    event-same file us s w d a b x (subst (λ (f : Event). Ticked (masksIn file) s f b) (sym (q .1)) z)
+    let z = subst (λ (t : List ℕ). Ticked (masksInFile file) t e b) (sym (watches-same w v (q .0))) y in
+    event-same file us s w d a b x (subst (λ (f : Event). Ticked (masksInFile file) s f b) (sym (q .1)) z)

@@ -12,7 +12,7 @@ use Rattle.answers.specs.declared.Verdict.{Verdict}
 use Rattle.answers.specs.Said.{Said, refused, left, numberOf}
 use Rattle.ltl.specs.Meaning.{Event}
 use Rattle.network.specs.Scores.{sampleOf}
-use Rattle.rules.specs.RuleFile.{masksIn}
+use Rattle.rules.specs.RuleFile.{masksInFile}
 use Rattle.state.specs.Fields.{stateLength}
 use Rattle.state.specs.Calls.{sampleSays, stepSays, closeSays, loadedState}
 use Rattle.asking.specs.declared.AskAnswer.the-variants.{Told}
@@ -33,7 +33,7 @@ buffer-long = length-replicate {A = ℕ} stateLength 7
 pub load-watches : (file s : List ℕ) → LoadGives file s → Watched file [] s
 load-watches file s g =
     let e = ap (loadSays file) buffer-long in
-    let leaves = ap (λ (a : Said). left a (loadedState (masksIn file) (ruleIn file)) buffer) e ∙ g .leaves buffer in
+    let leaves = ap (λ (a : Said). left a (loadedState (masksInFile file) (ruleIn file)) buffer) e ∙ g .leaves buffer in
     call.begun {before = buffer} (record { says = sym (e ∙ g .says); leaves = sym leaves })
 
 -- ---- a tick
@@ -74,7 +74,7 @@ module _ {masks : List ℕ} {e : Event} {s t : List ℕ} (p : Part masks e s t) 
   pub part-load-refused : length t ≡ stateLength → (file : List ℕ) (why : Refusal) → LoadRefuses file (numberOf why) → Part masks e s t
   part-load-refused long file why r =
       let x = ap (loadSays file) long in
-      let leaves = ap (λ (a : Said). left a (loadedState (masksIn file) (ruleIn file)) t) x ∙ r .leaves t in
+      let leaves = ap (λ (a : Said). left a (loadedState (masksInFile file) (ruleIn file)) t) x ∙ r .leaves t in
       record { calls = call.load-refused (p .calls) file why (record { says = sym (x ∙ r .says); leaves = sym leaves }); given = p .given }
 
   -- a close of another state into it

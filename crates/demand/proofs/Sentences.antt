@@ -8,7 +8,7 @@ use Rattle.answers.specs.declared.Outcome.{Outcome}
 use Rattle.answers.specs.declared.Verdict.the-variants.{False, True, Pending}
 use Rattle.ltl.specs.Meaning.{Event, Trace, Satisfies, continued}
 use Rattle.ltl.specs.Progression.{progressedOver, verdictOf}
-use Rattle.rules.specs.RuleFile.{masksIn}
+use Rattle.rules.specs.RuleFile.{masksInFile}
 use Rattle.state.specs.Calls.{doneIn}
 use Rattle.closing.specs.Close.{Closes}
 use Rattle.loading.specs.Load.{ruleIn}
@@ -19,11 +19,11 @@ use Rattle.demand.proofs.Demand.{demanded}
 module _ (file : List ℕ) (us : List Event) (s : List ℕ) (w : Watched file us s) where
   -- equal samples close to the same next network: from one network, in two watches
   pub one-network-closes-alike : (other : List ℕ) (vs : List Event) (r : List ℕ) → Watched other vs r → OneNetwork s r
-      → (d e : Event) (a b : List ℕ) (x : Ticked (masksIn file) s d a) (y : Ticked (masksIn other) r e b) → SameGiven (x .calls) (y .calls) → OneNetwork a b
+      → (d e : Event) (a b : List ℕ) (x : Ticked (masksInFile file) s d a) (y : Ticked (masksInFile other) r e b) → SameGiven (x .calls) (y .calls) → OneNetwork a b
   one-network-closes-alike = demanded w .same-network
 
   -- from one state, whatever the order of the calls: byte by byte
-  pub any-order-closes-alike : (d e : Event) (a b : List ℕ) (x : Ticked (masksIn file) s d a) (y : Ticked (masksIn file) s e b) → SameGiven (x .calls) (y .calls) → a ≡ b
+  pub any-order-closes-alike : (d e : Event) (a b : List ℕ) (x : Ticked (masksInFile file) s d a) (y : Ticked (masksInFile file) s e b) → SameGiven (x .calls) (y .calls) → a ≡ b
   any-order-closes-alike = demanded w .same-bytes
 
   -- also where the close is refused

@@ -16,7 +16,7 @@ use Rattle.answers.proofs.Answers.{verdict-injective}
 use Rattle.le.specs.Le.{le, leAt}
 use Rattle.ltl.specs.Meaning.{Trace, Satisfies, continued}
 use Rattle.network.specs.Scores.{sampleOf}
-use Rattle.rules.specs.RuleFile.{masksIn, maskBytes, fileOf}
+use Rattle.rules.specs.RuleFile.{masksInFile, maskBytes, fileOf}
 use Rattle.asking.specs.Ask.{Asks}
 use Rattle.asking.specs.declared.AskAnswer.{AskAnswer}
 use Rattle.asking.specs.declared.AskAnswer.the-variants.{Told}
@@ -36,7 +36,7 @@ alwaysFile =
 
 -- the masks by which the boards' parts are taken
 abbrev masks : List ℕ
-masks = masksIn ruleFile
+masks = masksInFile ruleFile
 
 -- the watch as it begins
 abbrev start : List ℕ

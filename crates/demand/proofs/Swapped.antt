@@ -9,7 +9,7 @@ use Rattle.lists.specs.Listed.{listed}
 use Rattle.answers.specs.declared.Refusal.the-variants.{Unready}
 use Rattle.le.specs.Le.{le, leAt}
 use Rattle.network.specs.Scores.{sampleOf}
-use Rattle.rules.specs.RuleFile.{masksIn, maskBytes, fileOf}
+use Rattle.rules.specs.RuleFile.{masksInFile, maskBytes, fileOf}
 use Rattle.stars.proofs.Renumbered.{ruleFile, unsampled, firstSampled, secondSampled, sampled, three, slot0, slot1, slot2, slot0Stepped, slot1Stepped, slot2Stepped, renumberedState, renumbered}
 use Rattle.demand.specs.Called.{Ticked, Watched}
 use Rattle.demand.proofs.Demand.{demanded}
@@ -17,7 +17,7 @@ use Rattle.demand.proofs.Rows.{load-watches, part-nothing, part-samples
 
 -- the masks by which the boards' parts are taken
 abbrev masks : List ℕ
-masks = masksIn ruleFile
+masks = masksInFile ruleFile
 
 -- the watch as it begins
 abbrev start : List ℕ

@@ -25,21 +25,21 @@ use Rattle.demand.specs.Called.{Ticked, Watched}
 use Rattle.demand.specs.Claims.{standing, Reaches}
 use Rattle.demand.proofs.Allowed.{close-outcome}
 use Rattle.demand.proofs.Passed.{refused-not-done}
-use Rattle.demand.proofs.Settled.{settle-gets, settle-reaches, settle-stays}
+use Rattle.demand.proofs.AllGiven.{give-gets, give-reaches, give-stays}
 
 module _ (file : List ℕ) (us : List Event) (s : List ℕ) (w : Watched file us s) (pending : standing file us s .verdict ≡ Pending) (e : Event) where
   abbrev masks : List ℕ
-  masks = rule-file.masksIn file
+  masks = rule-file.masksInFile file
 
   module _ (second t s′ : List ℕ) (answer : Outcome) (x : Ticks s e second t s′ answer) where
     pub tick-closes : inMask e (unionWith 0 (masksIn s)) ≡ true → Reaches masks s e t × Closes t second s′ answer
     tick-closes inside =
-        let g = settle-gets file us s w pending e inside in
+        let g = give-gets file us s w pending e inside in
         let last = g .leaves in
         let o = close-outcome last (length second) in
         let closes : Closes last second (closeLeaves last second) (o .0) = record { says = o .1; leaves = refl } in
         let d = ticks-determined s e second t last s′ (closeLeaves last second) answer (o .0) x (tick-closed s e second last Done (g .allowed) refl (closeLeaves last second) (o .0) closes) in (
-          settle-reaches file us s w pending e inside t Done (record { says = g .allowed .says; leaves = d .1 ∙ g .allowed .leaves }),
+          give-reaches file us s w pending e inside t Done (record { says = g .allowed .says; leaves = d .1 ∙ g .allowed .leaves }),
           record {
             says = ap (λ (a : Outcome). saidOutcome a) (d .0) ∙ o .1 ∙ ap (λ (u : List ℕ). closeSays u (length second)) (sym (d .1));
             leaves = d .2 ∙ ap (λ (u : List ℕ). closeLeaves u second) (sym (d .1));
@@ -49,7 +49,7 @@ module _ (file : List ℕ) (us : List Event) (s : List ℕ) (w : Watched file us
     pub tick-outside : inMask e (unionWith 0 (masksIn s)) ≡ false → (answer ≡ Refused Outside) × (t ≡ s) × (s′ ≡ second)
     tick-outside outside =
         ticks-determined s e second t s s′ second answer (Refused Outside) x
-        (tick-refused s e second s (Refused Outside) (settle-stays file us s w pending e outside) Outside refl)
+        (tick-refused s e second s (Refused Outside) (give-stays file us s w pending e outside) Outside refl)
 
   pub tick-ticks : (second t s′ : List ℕ) → Ticks s e second t s′ Done → Ticked masks s e s′
   tick-ticks second t s′ x = go (inMask e (unionWith 0 (masksIn s))) refl

@@ -5,7 +5,7 @@ use mathlib.Core.List.{List, []}
 use Prim.Native.Nat.{ℕ}
 use Rattle.ltl.specs.Formula.{Formula}
 use Rattle.ltl.specs.Meaning.{Event}
-use Rattle.rules.specs.RuleFile.{propositionsIn, masksIn}
+use Rattle.rules.specs.RuleFile.{propositionsInFile, masksInFile}
 use Rattle.loading.specs.Load.{ruleIn}
 use Rattle.watching.specs.Watch.{Tick, Watch}
 use Rattle.watching.specs.Watch as watch
@@ -26,8 +26,8 @@ tick-of p masks rule us s w {e} x =
       leaves = x .closes .leaves;
     }
 
-pub watched : {file : List ℕ} {us : List Event} {s : List ℕ} → Watched file us s → Watch (propositionsIn file) (masksIn file) (ruleIn file) us s
+pub watched : {file : List ℕ} {us : List Event} {s : List ℕ} → Watched file us s → Watch (propositionsInFile file) (masksInFile file) (ruleIn file) us s
 watched {file} (begun {before = before} {s = s} l) =
     let x = load-accepted file before s l in
-    subst (λ (t : List ℕ). Watch (propositionsIn file) (masksIn file) (ruleIn file) [] t) (sym (x .state-is)) (watch.begun (x .loads))
-watched {file} (ticked {us = us} {s = s} w e t) = watch.ticked (watched w) e (tick-of (propositionsIn file) (masksIn file) (ruleIn file) us s (watched w) t)
+    subst (λ (t : List ℕ). Watch (propositionsInFile file) (masksInFile file) (ruleIn file) [] t) (sym (x .state-is)) (watch.begun (x .loads))
+watched {file} (ticked {us = us} {s = s} w e t) = watch.ticked (watched w) e (tick-of (propositionsInFile file) (masksInFile file) (ruleIn file) us s (watched w) t)

@@ -13,7 +13,7 @@ use Rattle.answers.proofs.Answers.{verdict-injective}
 use Rattle.le.specs.Le.{le, leAt}
 use Rattle.ltl.specs.Meaning.{Event, Trace, Satisfies, continued}
 use Rattle.network.specs.Scores.{sampleOf}
-use Rattle.rules.specs.RuleFile.{masksIn, maskBytes, fileOf}
+use Rattle.rules.specs.RuleFile.{masksInFile, maskBytes, fileOf}
 use Rattle.asking.specs.Ask.{Asks}
 use Rattle.asking.specs.declared.AskAnswer.{AskAnswer}
 use Rattle.asking.specs.declared.AskAnswer.the-variants.{Told}
@@ -34,7 +34,7 @@ untilFile =
 -- ---- the watch
 -- the masks by which the boards' parts are taken
 abbrev masks : List ℕ
-masks = masksIn ruleFile
+masks = masksInFile ruleFile
 
 -- board 1 is given a bit outside its mask, and slot 0 is stepped too early; else as the run program does it
 tick-calls : (ticks x y : ℕ) (half last : List ℕ) (e : Event) → x ≡ sampleOf masks e 0 → y ≡ sampleOf masks e 1

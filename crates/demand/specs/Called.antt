@@ -10,7 +10,7 @@ use Rattle.answers.specs.declared.Outcome.{Outcome}
 use Rattle.answers.specs.declared.Outcome.the-variants.{Refused, Done}
 use Rattle.ltl.specs.Meaning.{Event}
 use Rattle.network.specs.Scores.{sampleOf}
-use Rattle.rules.specs.RuleFile.{masksIn}
+use Rattle.rules.specs.RuleFile.{masksInFile}
 use Rattle.rules.specs.declared.reading.ReadAnswer.the-variants as read-said
 use Rattle.rules.specs.declared.writing.WriteAnswer.the-variants as write-said
 use Rattle.rules.specs.Read.{Reads}
@@ -71,4 +71,4 @@ pub record Ticked (masks : List ℕ) (s : List ℕ) (e : Event) (s′ : List ℕ
 -- a watch: begun by an accepted load of the file, whatever the state's buffer held before, then ticks; its events and its state
 pub data Watched (file : List ℕ) : List Event → List ℕ → Type 0 where
   begun : {before s : List ℕ} → LoadsRule file before s Done → Watched file [] s
-  ticked : {us : List Event} {s s′ : List ℕ} → Watched file us s → (e : Event) → Ticked (masksIn file) s e s′ → Watched file (us ++ (e ∷ [])) s′
+  ticked : {us : List Event} {s s′ : List ℕ} → Watched file us s → (e : Event) → Ticked (masksInFile file) s e s′ → Watched file (us ++ (e ∷ [])) s′

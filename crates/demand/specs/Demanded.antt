@@ -7,7 +7,7 @@ use Prim.Native.Nat.{ℕ}
 use Rattle.answers.specs.declared.Outcome.{Outcome}
 use Rattle.answers.specs.declared.Verdict.the-variants.{False, True, Pending}
 use Rattle.ltl.specs.Meaning.{Event, Trace, Satisfies, continued}
-use Rattle.rules.specs.RuleFile.{masksIn}
+use Rattle.rules.specs.RuleFile.{masksInFile}
 use Rattle.state.specs.Calls.{doneIn}
 use Rattle.closing.specs.Close.{Closes}
 use Rattle.loading.specs.Load.{ruleIn}
@@ -17,9 +17,9 @@ use Rattle.demand.specs.Claims.{OneNetwork, GoesOn, AskGets, standing}
 pub record Demanded (file : List ℕ) (us : List Event) (s : List ℕ) : Type 0 where
   -- from one network equal samples close to the same next one, whatever was called on the way, in whatever order, accepted or refused
   pub same-network : (other : List ℕ) (vs : List Event) (r : List ℕ) → Watched other vs r → OneNetwork s r
-      → (d e : Event) (a b : List ℕ) (x : Ticked (masksIn file) s d a) (y : Ticked (masksIn other) r e b) → SameGiven (x .calls) (y .calls) → OneNetwork a b
+      → (d e : Event) (a b : List ℕ) (x : Ticked (masksInFile file) s d a) (y : Ticked (masksInFile other) r e b) → SameGiven (x .calls) (y .calls) → OneNetwork a b
   -- from one state they close to the same next one, byte by byte
-  pub same-bytes : (d e : Event) (a b : List ℕ) (x : Ticked (masksIn file) s d a) (y : Ticked (masksIn file) s e b) → SameGiven (x .calls) (y .calls) → a ≡ b
+  pub same-bytes : (d e : Event) (a b : List ℕ) (x : Ticked (masksInFile file) s d a) (y : Ticked (masksInFile file) s e b) → SameGiven (x .calls) (y .calls) → a ≡ b
   -- where the close is all that is left it answers the same, and leaves the same
   pub same-close : (t u : List ℕ) (c : Called s t) (d : Called s u) → doneIn t ≡ true → doneIn u ≡ true → SameGiven c d
       → (second a b : List ℕ) (x y : Outcome) → Closes t second a x → Closes u second b y → (x ≡ y) × (a ≡ b)

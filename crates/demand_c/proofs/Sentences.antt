@@ -7,7 +7,7 @@ use Prim.Native.Nat.{ℕ}
 use Rattle.answers.specs.declared.Verdict.the-variants.{False, True, Pending}
 use Rattle.ltl.specs.Meaning.{Event, Trace, Satisfies, continued}
 use Rattle.ltl.specs.Progression.{progressedOver, verdictOf}
-use Rattle.rules.specs.RuleFile.{masksIn}
+use Rattle.rules.specs.RuleFile.{masksInFile}
 use Rattle.state.specs.Calls.{doneIn}
 use Rattle.loading.specs.Load.{ruleIn}
 use Rattle.exports.specs.Exported.{CloseExported, AskExported}
@@ -19,11 +19,11 @@ use Rattle.demand_c.proofs.Demand.{demanded-from-c}
 module _ (file : List ℕ) (us : List Event) (s : List ℕ) (w : WatchedFromC file us s) where
   -- equal samples close to the same next network: from one network, in two watches
   pub c-network-closes-alike : (other : List ℕ) (vs : List Event) (r : List ℕ) → WatchedFromC other vs r → OneNetwork s r
-      → (d e : Event) (a b : List ℕ) (x : TickedFromC (masksIn file) s d a) (y : TickedFromC (masksIn other) r e b) → SameGivenFromC (x .calls) (y .calls) → OneNetwork a b
+      → (d e : Event) (a b : List ℕ) (x : TickedFromC (masksInFile file) s d a) (y : TickedFromC (masksInFile other) r e b) → SameGivenFromC (x .calls) (y .calls) → OneNetwork a b
   c-network-closes-alike = demanded-from-c w .same-network
 
   -- from one state, whatever the order of the calls: byte by byte
-  pub c-order-closes-alike : (d e : Event) (a b : List ℕ) (x : TickedFromC (masksIn file) s d a) (y : TickedFromC (masksIn file) s e b) → SameGivenFromC (x .calls) (y .calls) → a ≡ b
+  pub c-order-closes-alike : (d e : Event) (a b : List ℕ) (x : TickedFromC (masksInFile file) s d a) (y : TickedFromC (masksInFile file) s e b) → SameGivenFromC (x .calls) (y .calls) → a ≡ b
   c-order-closes-alike = demanded-from-c w .same-bytes
 
   -- also where the close is refused

@@ -8,7 +8,7 @@ use lib.ListN.{length}
 use Rattle.answers.specs.Said.{verdictNumber}
 use Rattle.answers.specs.declared.Verdict.the-variants.{False, True, Pending}
 use Rattle.ltl.specs.Meaning.{Event, Trace, Satisfies, continued}
-use Rattle.rules.specs.RuleFile.{masksIn}
+use Rattle.rules.specs.RuleFile.{masksInFile}
 use Rattle.state.specs.Fields.{stateLength}
 use Rattle.state.specs.Calls.{doneIn}
 use Rattle.loading.specs.Load.{ruleIn}
@@ -47,9 +47,9 @@ pub record Stores (x : Standing) (verdict ticks slots nodes n : ℕ) : Type 0 wh
 pub record DemandedFromC (file : List ℕ) (us : List Event) (s : List ℕ) : Type 0 where
   -- from one network equal samples close to the same next one
   pub same-network : (other : List ℕ) (vs : List Event) (r : List ℕ) → WatchedFromC other vs r → OneNetwork s r
-      → (d e : Event) (a b : List ℕ) (x : TickedFromC (masksIn file) s d a) (y : TickedFromC (masksIn other) r e b) → SameGivenFromC (x .calls) (y .calls) → OneNetwork a b
+      → (d e : Event) (a b : List ℕ) (x : TickedFromC (masksInFile file) s d a) (y : TickedFromC (masksInFile other) r e b) → SameGivenFromC (x .calls) (y .calls) → OneNetwork a b
   -- from one state they close to the same next one, byte by byte
-  pub same-bytes : (d e : Event) (a b : List ℕ) (x : TickedFromC (masksIn file) s d a) (y : TickedFromC (masksIn file) s e b) → SameGivenFromC (x .calls) (y .calls) → a ≡ b
+  pub same-bytes : (d e : Event) (a b : List ℕ) (x : TickedFromC (masksInFile file) s d a) (y : TickedFromC (masksInFile file) s e b) → SameGivenFromC (x .calls) (y .calls) → a ≡ b
   -- where the close is all that is left it answers the same, and leaves the same
   pub same-close : (t u : List ℕ) (c : CalledFromC s t) (d : CalledFromC s u) → doneIn t ≡ true → doneIn u ≡ true → SameGivenFromC c d
       → (second a b : List ℕ) (m n : ℕ) → CloseExported t second a m → CloseExported u second b n → (m ≡ n) × (a ≡ b)

@@ -6,7 +6,7 @@ use mathlib.Core.Logic.{_⊎_}
 use Prim.Native.Nat.{ℕ}
 use Rattle.ltl.specs.Meaning.{Event}
 use Rattle.network.specs.Scores.{sampleOf}
-use Rattle.rules.specs.RuleFile.{masksIn}
+use Rattle.rules.specs.RuleFile.{masksInFile}
 use Rattle.exports.specs.Exported.{ReadExported, WriteExported, CentralExported, LoadExported, SampleExported, StepExported, CloseExported, AskExported}
 
 -- the number is a refusal's
@@ -59,4 +59,4 @@ pub record TickedFromC (masks : List ℕ) (s : List ℕ) (e : Event) (s′ : Lis
 -- a watch: begun by a load of the file that answers 0, whatever the state's buffer held before, then ticks; its events and its state
 pub data WatchedFromC (file : List ℕ) : List Event → List ℕ → Type 0 where
   begun : {before s : List ℕ} → LoadExported file before s 0 → WatchedFromC file [] s
-  ticked : {us : List Event} {s s′ : List ℕ} → WatchedFromC file us s → (e : Event) → TickedFromC (masksIn file) s e s′ → WatchedFromC file (us ++ (e ∷ [])) s′
+  ticked : {us : List Event} {s s′ : List ℕ} → WatchedFromC file us s → (e : Event) → TickedFromC (masksInFile file) s e s′ → WatchedFromC file (us ++ (e ∷ [])) s′

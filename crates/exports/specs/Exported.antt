@@ -5,14 +5,14 @@ use Prim.Native.Nat.{ℕ}
 use mathlib.Core.List.{List}
 use lib.ListN.{length, getD}
 use lib.Dec.{eqb}
-use Rattle.ltl.specs.Text.{formulaOf}
-use Rattle.ltl.specs.Limits.{boardsMost, ruleNodesMost, nodesMost}
+use Rattle.ltl.specs.Decode.{formulaOf}
+use Rattle.limits.specs.Limits.{boardsMost, ruleNodesMost, centralNodesMost}
 use Rattle.lists.specs.Tests.{pick}
 use Rattle.lists.specs.Runs.{padded}
 use Rattle.answers.specs.Said.{Said, left}
 use Rattle.ltl.specs.Formula.{encode}
 use Rattle.ltl.specs.Progression.{progressed}
-use Rattle.rules.specs.RuleFile.{fileMost, masksIn, formulaIn, fileOf}
+use Rattle.rules.specs.RuleFile.{fileMost, masksInFile, formulaInFile, fileOf}
 use Rattle.rules.specs.Read.{readSays}
 use Rattle.rules.specs.Write.{writeSays}
 use Rattle.central.specs.Central.{centralSays}
@@ -25,8 +25,8 @@ valueAt s i before = pick (eqb (s .number) 0) (getD (s .values) i 0) before
 
 pub record ReadExported (file masks formula masks′ formula′ : List ℕ) (boards propositions nodes boards′ propositions′ nodes′ answer : ℕ) : Type 0 where
   pub says : answer ≡ readSays file (length masks) (length formula) .number
-  pub leaves-masks : masks′ ≡ left (readSays file (length masks) (length formula)) (padded boardsMost (masksIn file)) masks
-  pub leaves-formula : formula′ ≡ left (readSays file (length masks) (length formula)) (padded ruleNodesMost (formulaIn file)) formula
+  pub leaves-masks : masks′ ≡ left (readSays file (length masks) (length formula)) (padded boardsMost (masksInFile file)) masks
+  pub leaves-formula : formula′ ≡ left (readSays file (length masks) (length formula)) (padded ruleNodesMost (formulaInFile file)) formula
   pub gives-boards : boards′ ≡ valueAt (readSays file (length masks) (length formula)) 0 boards
   pub gives-propositions : propositions′ ≡ valueAt (readSays file (length masks) (length formula)) 1 propositions
   pub gives-nodes : nodes′ ≡ valueAt (readSays file (length masks) (length formula)) 2 nodes
@@ -38,13 +38,13 @@ pub record WriteExported (masks : List ℕ) (p : ℕ) (formula file file′ : Li
 
 pub record CentralExported (formula : List ℕ) (event : ℕ) (output output′ : List ℕ) (verdict nodes verdict′ nodes′ answer : ℕ) : Type 0 where
   pub says : answer ≡ centralSays formula event (length output) .number
-  pub leaves : output′ ≡ left (centralSays formula event (length output)) (padded nodesMost (encode (progressed event (formulaOf formula)))) output
+  pub leaves : output′ ≡ left (centralSays formula event (length output)) (padded centralNodesMost (encode (progressed event (formulaOf formula)))) output
   pub gives-verdict : verdict′ ≡ valueAt (centralSays formula event (length output)) 0 verdict
   pub gives-length : nodes′ ≡ valueAt (centralSays formula event (length output)) 1 nodes
 
 pub record LoadExported (file state state′ : List ℕ) (answer : ℕ) : Type 0 where
   pub says : answer ≡ loadSays file (length state) .number
-  pub leaves : state′ ≡ left (loadSays file (length state)) (loadedState (masksIn file) (ruleIn file)) state
+  pub leaves : state′ ≡ left (loadSays file (length state)) (loadedState (masksInFile file) (ruleIn file)) state
 
 pub record SampleExported (state : List ℕ) (board bits : ℕ) (state′ : List ℕ) (answer : ℕ) : Type 0 where
   pub says : answer ≡ sampleSays state board bits .number

@@ -17,24 +17,25 @@ use Rattle.kinds.specs.declared.Binary.the-variants.{Joined, Until}
 use Rattle.kinds.specs.declared.Kind.{Kind}
 use Rattle.kinds.specs.declared.Kind.the-variants.{Zero, One, Two, NoCode}
 use Rattle.lists.specs.Tests.{pick}
-use Rattle.kinds.specs.Kinds.{named, leafWithin, kindOf, leafCode, unaryCode, binaryCode}
+use Rattle.limits.specs.Limits.{propositionsMost, holderCodes}
+use Rattle.kinds.specs.Kinds.{named, leafCoded, kindOf, leafCode, unaryCode, binaryCode, propCode, holdCode, endCode}
 
 -- ---- by range
-pub kind-low : (b : ℕ) → 9 ≤ b → b < 64 → kindOf b ≡ NoCode
+pub kind-low : (b : ℕ) → 9 ≤ b → b < propCode → kindOf b ≡ NoCode
 unfolding kindOf pick
-kind-low b h k = rw (lt-ltb b 64 k) (List·getD-eq-default named NoCode {n = b} h)
+kind-low b h k = rw (lt-ltb b propCode k) (List·getD-eq-default named NoCode {n = b} h)
 
-pub kind-prop : (b : ℕ) → 64 ≤ b → b < 128 → kindOf b ≡ Zero (Prop (b - 64))
+pub kind-prop : (b : ℕ) → propCode ≤ b → b < holdCode → kindOf b ≡ Zero (Prop (b - propCode))
 unfolding kindOf pick
-kind-prop b h k = rw (le-ltb b 64 h, lt-ltb b 128 k)
+kind-prop b h k = rw (le-ltb b propCode h, lt-ltb b holdCode k)
 
-pub kind-hold : (b : ℕ) → 128 ≤ b → b < 192 → kindOf b ≡ Zero (Hold (b - 128))
+pub kind-hold : (b : ℕ) → holdCode ≤ b → b < endCode → kindOf b ≡ Zero (Hold (b - holdCode))
 unfolding kindOf pick
-kind-hold b h k = let l : 64 ≤ b = omega arith in rw (le-ltb b 64 l, le-ltb b 128 h, lt-ltb b 192 k)
+kind-hold b h k = let l : propCode ≤ b = omega arith in rw (le-ltb b propCode l, le-ltb b holdCode h, lt-ltb b endCode k)
 
-pub kind-high : (b : ℕ) → 192 ≤ b → kindOf b ≡ NoCode
+pub kind-high : (b : ℕ) → endCode ≤ b → kindOf b ≡ NoCode
 unfolding kindOf pick
-kind-high b h = let l : 64 ≤ b = omega arith in let m : 128 ≤ b = omega arith in rw (le-ltb b 64 l, le-ltb b 128 m, le-ltb b 192 h)
+kind-high b h = let l : propCode ≤ b = omega arith in let m : holdCode ≤ b = omega arith in rw (le-ltb b propCode l, le-ltb b holdCode m, le-ltb b endCode h)
 
 -- ---- none of the named codes: in two steps, since `omega` splits at most six times
 past-4 : (b : ℕ) → (b ≡ 0 → ⊥) → (b ≡ 1 → ⊥) → (b ≡ 2 → ⊥) → (b ≡ 3 → ⊥) → (b ≡ 4 → ⊥) → 5 ≤ b
@@ -52,11 +53,11 @@ unfolding kindOf pick
 kind-const false = refl
 kind-const true = refl
 
-pub kind-prop-code : (i : ℕ) → i < 64 → kindOf (64 + i) ≡ Zero (Prop i)
-kind-prop-code i h = let e : 64 + i - 64 ≡ i = omega arith in kind-prop (64 + i) (omega arith) (omega arith) ∙ rw e
+pub kind-prop-code : (i : ℕ) → i < propositionsMost → kindOf (propCode + i) ≡ Zero (Prop i)
+kind-prop-code i h = let e : propCode + i - propCode ≡ i = omega arith in kind-prop (propCode + i) (omega arith) (omega arith) ∙ rw e
 
-pub kind-hold-code : (k : ℕ) → k < 64 → kindOf (128 + k) ≡ Zero (Hold k)
-kind-hold-code k h = let e : 128 + k - 128 ≡ k = omega arith in kind-hold (128 + k) (omega arith) (omega arith) ∙ rw e
+pub kind-hold-code : (k : ℕ) → k < holderCodes → kindOf (holdCode + k) ≡ Zero (Hold k)
+kind-hold-code k h = let e : holdCode + k - holdCode ≡ k = omega arith in kind-hold (holdCode + k) (omega arith) (omega arith) ∙ rw e
 
 pub kind-unary : (o : Unary) → kindOf (unaryCode o) ≡ One o
 unfolding kindOf pick
@@ -73,7 +74,7 @@ kind-binary Until = refl
 
 -- ---- what a byte's kind says of the byte: it is that node's own byte, and a proposition's or a place holder's number is below 64
 pub data CodeOf (b : ℕ) : Kind → Type 0 where
-  isZero : {a : Leaf} → b ≡ leafCode a → leafWithin 64 64 a → CodeOf b (Zero a)
+  isZero : {a : Leaf} → b ≡ leafCode a → leafCoded a → CodeOf b (Zero a)
   isOne : {o : Unary} → b ≡ unaryCode o → CodeOf b (One o)
   isTwo : {o : Binary} → b ≡ binaryCode o → CodeOf b (Two o)
   isNone : CodeOf b NoCode
@@ -92,28 +93,28 @@ low-code (suc (suc (suc (suc (suc (suc (suc (suc (suc b))))))))) = isNone
 
 pub code : (b : ℕ) → CodeOf b (kindOf b)
 unfolding kindOf pick
-code b = go (ltb b 64) refl (ltb b 128) refl (ltb b 192) refl
+code b = go (ltb b propCode) refl (ltb b holdCode) refl (ltb b endCode) refl
   where
-    go : (x : Bool) → ltb b 64 ≡ x → (y : Bool) → ltb b 128 ≡ y → (z : Bool) → ltb b 192 ≡ z
-        → CodeOf b (pick x (getD named b NoCode) (pick y (Zero (Prop (b - 64))) (pick z (Zero (Hold (b - 128))) NoCode)))
+    go : (x : Bool) → ltb b propCode ≡ x → (y : Bool) → ltb b holdCode ≡ y → (z : Bool) → ltb b endCode ≡ z
+        → CodeOf b (pick x (getD named b NoCode) (pick y (Zero (Prop (b - propCode))) (pick z (Zero (Hold (b - holdCode))) NoCode)))
     go true p y q z r = low-code b
-    go false p true q z r = let h = ltb-false b 64 p in let k = ltb-true b 128 q in isZero {a = Prop (b - 64)} (omega arith) (omega arith)
-    go false p false q true r = let h = ltb-false b 128 q in let k = ltb-true b 192 r in isZero {a = Hold (b - 128)} (omega arith) (omega arith)
+    go false p true q z r = let h = ltb-false b propCode p in let k = ltb-true b holdCode q in isZero {a = Prop (b - propCode)} (omega arith) (omega arith)
+    go false p false q true r = let h = ltb-false b holdCode q in let k = ltb-true b endCode r in isZero {a = Hold (b - holdCode)} (omega arith) (omega arith)
     go false p false q false r = isNone
 
-pub kind-leaf : (a : Leaf) → leafWithin 64 64 a → kindOf (leafCode a) ≡ Zero a
+pub kind-leaf : (a : Leaf) → leafCoded a → kindOf (leafCode a) ≡ Zero a
 kind-leaf (Const v) h = kind-const v
 kind-leaf (Prop i) h = kind-prop-code i h
 kind-leaf (Hold k) h = kind-hold-code k h
 
--- ---- place holders alone are 128 and more
-pub unary-low : (o : Unary) → unaryCode o < 128
+-- ---- place holders alone are holdCode and more
+pub unary-low : (o : Unary) → unaryCode o < holdCode
 unary-low Not = omega arith
 unary-low Next = omega arith
 unary-low Eventually = omega arith
 unary-low Always = omega arith
 
-pub binary-low : (o : Binary) → binaryCode o < 128
+pub binary-low : (o : Binary) → binaryCode o < holdCode
 binary-low (Joined And) = omega arith
 binary-low (Joined Or) = omega arith
 binary-low Until = omega arith

@@ -5,6 +5,7 @@ use mathlib.Core.Bool.{true, false}
 use mathlib.Core.List.{List, [], _∷_}
 use lib.ListN.{getD}
 use lib.Dec.{ltb}
+use Rattle.limits.specs.Limits.{propositionsMost, holderCodes}
 use Rattle.lists.specs.Tests.{pick}
 use Rattle.kinds.specs.declared.Leaf.{Leaf}
 use Rattle.kinds.specs.declared.Leaf.the-variants.{Const, Prop, Hold}
@@ -22,19 +23,29 @@ abbrev pub named : List Kind
 named =
     Zero (Const false) ∷ Zero (Const true) ∷ One Not ∷ Two (Joined And) ∷ Two (Joined Or) ∷ One Next ∷ Two Until ∷ One Eventually ∷ One Always ∷ []
 
--- what a byte is: the named codes, 64 to 127 propositions 0 to 63, 128 to 191 the place holders of slots 0 to 63; every other byte is no code
+-- where the codes of propositions begin, those of place holders, and where these end
+abbrev pub propCode : ℕ
+propCode = 64
+
+abbrev pub holdCode : ℕ
+holdCode = propCode + propositionsMost
+
+abbrev pub endCode : ℕ
+endCode = holdCode + holderCodes
+
+-- what a byte is: the named codes, then those of propositions, then those of place holders; every other byte is no code
 unfoldable pub kindOf : ℕ → Kind
 kindOf b =
-    pick (ltb b 64) (getD named b NoCode)
-    (pick (ltb b 128) (Zero (Prop (b - 64)))
-    (pick (ltb b 192) (Zero (Hold (b - 128))) NoCode))
+    pick (ltb b propCode) (getD named b NoCode)
+    (pick (ltb b holdCode) (Zero (Prop (b - propCode)))
+    (pick (ltb b endCode) (Zero (Hold (b - holdCode))) NoCode))
 
 -- the byte of a node
 abbrev pub leafCode : Leaf → ℕ
 leafCode (Const false) = 0
 leafCode (Const true) = 1
-leafCode (Prop i) = 64 + i
-leafCode (Hold k) = 128 + k
+leafCode (Prop i) = propCode + i
+leafCode (Hold k) = holdCode + k
 
 abbrev pub unaryCode : Unary → ℕ
 unaryCode Not = 2
@@ -55,3 +66,7 @@ abbrev pub leafWithin : ℕ → ℕ → Leaf → Type 0
 leafWithin p s (Const v) = Unit {0}
 leafWithin p s (Prop i) = i < p
 leafWithin p s (Hold k) = k < s
+
+-- the number has a code
+abbrev pub leafCoded : Leaf → Type 0
+leafCoded a = leafWithin propositionsMost holderCodes a

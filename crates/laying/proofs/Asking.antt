@@ -1,4 +1,4 @@
--- What the functions of the cycle ask of each other: a part that is looked at stays or is cut by its mark (`looked-stays`,
+-- What the functions of the cycle ask of each other: a part that is looked at stays or is cut by its tag (`looked-stays`,
 -- `looked-cut`), and there is room for the parts where there is room for the whole (`fits-..`). Assumes nothing.
 use mathlib.Core.Path.{_≡_, refl, sym, ap, _∙_, subst}
 use mathlib.Core.Bool.{true, false}
@@ -13,13 +13,13 @@ use Rattle.lists.proofs.Tests.{no-true}
 use Rattle.kinds.specs.declared.Unary.the-variants.{Not}
 use Rattle.kinds.specs.declared.Join.{Join}
 use Rattle.kinds.specs.declared.Binary.the-variants.{Joined}
-use Rattle.ltl.specs.Limits.{boardsMost}
+use Rattle.limits.specs.Limits.{boardsMost}
 use Rattle.ltl.specs.Formula.{Formula, one, two, size}
 use Rattle.network.specs.Layout.{Laid, cut, looked, laid}
 use Rattle.nodes.specs.Begins.{Front}
 use Rattle.cutting.specs.Cuts.{codeOf, staysOn}
 use Rattle.cutting.proofs.Looking.{stays-none, stays-board}
-use Rattle.marking.specs.Marks.{boardIn, Marks, Marked}
+use Rattle.tagging.specs.Tags.{boardIn, Tags, Tagged}
 use Rattle.laying.specs.declared.Place.{Place}
 use Rattle.laying.specs.declared.Lain.{Lain}
 use Rattle.laying.specs.Lays.{OnBoard, Source, Fits, Lays}
@@ -28,18 +28,18 @@ use Rattle.laying.proofs.Appending.{nodes-both}
 
 -- ---- stays or is cut
 -- the board that an operand of a slot on board b is cut to
-pub record CutTo (choose : Formula → Option ℕ) (hold : ℕ → ℕ → Laid) (u marks : List ℕ) (f : Formula) (rest : List ℕ) (b k : ℕ) : Type 0 where
+pub record CutTo (choose : Formula → Option ℕ) (hold : ℕ → ℕ → Laid) (u tags : List ℕ) (f : Formula) (rest : List ℕ) (b k : ℕ) : Type 0 where
   pub board : ℕ
   pub laid-is : looked (choose f) b k (laid choose hold f) ≡ cut board k (laid choose hold f board (k + 1))
-  pub stands : OnBoard choose u marks f rest board
+  pub stands : OnBoard choose u tags f rest board
 
-module _ {choose : Formula → Option ℕ} {hold : ℕ → ℕ → Laid} {u marks : List ℕ} {f : Formula} {rest : List ℕ} (s : Source choose hold u marks) (front : Front u f rest)
-    (m : Marks choose f boardsMost (getD marks 0 0)) (marked : Marked choose f marks) (b k : ℕ) where
-  choice-is : boardIn (getD marks 0 0) ≡ codeOf (choose f)
+module _ {choose : Formula → Option ℕ} {hold : ℕ → ℕ → Laid} {u tags : List ℕ} {f : Formula} {rest : List ℕ} (s : Source choose hold u tags) (front : Front u f rest)
+    (m : Tags choose f boardsMost (getD tags 0 0)) (tagged : Tagged choose f tags) (b k : ℕ) where
+  choice-is : boardIn (getD tags 0 0) ≡ codeOf (choose f)
   unfolding pick
   choice-is = m .board-is
 
-  pub looked-stays : staysOn (boardIn (getD marks 0 0)) b ≡ true → looked (choose f) b k (laid choose hold f) ≡ laid choose hold f b k
+  pub looked-stays : staysOn (boardIn (getD tags 0 0)) b ≡ true → looked (choose f) b k (laid choose hold f) ≡ laid choose hold f b k
   unfolding looked pick
   looked-stays e = go (choose f) refl (ap (λ (i : ℕ). staysOn i b) (sym choice-is) ∙ e)
     where
@@ -47,11 +47,11 @@ module _ {choose : Formula → Option ℕ} {hold : ℕ → ℕ → Laid} {u mark
       go none z q = refl
       go (some c) z q = let l = s .boards f c z in let t = sym (stays-board c b (λ w. omega arith)) ∙ q in rw t
 
-  pub looked-cut : staysOn (boardIn (getD marks 0 0)) b ≡ false → CutTo choose hold u marks f rest b k
+  pub looked-cut : staysOn (boardIn (getD tags 0 0)) b ≡ false → CutTo choose hold u tags f rest b k
   unfolding looked pick
   looked-cut e = go (choose f) refl (ap (λ (i : ℕ). staysOn i b) (sym choice-is) ∙ e)
     where
-      go : (o : Option ℕ) → choose f ≡ o → staysOn (codeOf o) b ≡ false → CutTo choose hold u marks f rest b k
+      go : (o : Option ℕ) → choose f ≡ o → staysOn (codeOf o) b ≡ false → CutTo choose hold u tags f rest b k
       go none z q = absurd (no-true (sym q ∙ stays-none b))
       go (some c) z q =
           let l = s .boards f c z in
@@ -59,7 +59,7 @@ module _ {choose : Formula → Option ℕ} {hold : ℕ → ℕ → Laid} {u mark
           record {
             board = c;
             laid-is = ap (λ (o : Option ℕ). looked o b k (laid choose hold f)) z ∙ rw t;
-            stands = record { front = front; board-is = choice-is ∙ ap codeOf z; here-is = m .here-is c (inl (refl, inr z)); marked = marked };
+            stands = record { front = front; board-is = choice-is ∙ ap codeOf z; here-is = m .here-is c (inl (refl, inr z)); tagged = tagged };
           }
 
 -- ---- room

@@ -19,7 +19,7 @@ use Rattle.le.specs.Le.{le}
 use Rattle.ltl.specs.Formula.{Formula, size, encode}
 use Rattle.network.specs.Layout.{Laid, whole, beside, cut, looked, laid}
 use Rattle.cutting.specs.Cuts.{staysOn}
-use Rattle.marking.specs.Marks.{boardIn, hereIn, aheadIn}
+use Rattle.tagging.specs.Tags.{boardIn, hereIn, aheadIn}
 use Rattle.nodes.proofs.Fronts.{Parts, isZero, isOne, isTwo, parts-as, zero-size}
 use Rattle.laying.specs.declared.Place.{Place}
 use Rattle.laying.specs.declared.Lain.{Lain}
@@ -55,52 +55,52 @@ stays-whole always (isOne e y) choose hold b k = refl
 stays-whole until (isTwo e y z) choose hold b k = refl
 
 -- there is room for such a part
-pub whole-asks : {u marks p r : List ℕ} {at : Place} {i : Kind} → CutAsk u marks at p r → Stays i → kindOf (getD u 0 0) ≡ i → WholeAsk u p
+pub whole-asks : {u tags p r : List ℕ} {at : Place} {i : Kind} → CutAsk u tags at p r → Stays i → kindOf (getD u 0 0) ≡ i → WholeAsk u p
 whole-asks {u} {p = p} {r = r} {at = at} ask t kind =
     let w = stays-whole t (parts-as u (ask .formula) (ask .rest) (ask .front) refl kind) (ask .choose) (ask .hold) (at .board) (at .slot) in
     let f = subst (λ (x : Laid). Fits x at (length p) (length r)) w (ask .fits) in
     record { begins = record { formula = ask .formula; rest = ask .rest; front = ask .front }; room = omega arith }
 
-module _ {u marks : List ℕ} {at : Place} {p r : List ℕ} where
-  pub whole-cuts : {p′ : List ℕ} {y : Lain} {i : Kind} → Stays i → kindOf (getD u 0 0) ≡ i → PutsWhole u p p′ y → Cuts u marks at p r p′ r y
+module _ {u tags : List ℕ} {at : Place} {p r : List ℕ} where
+  pub whole-cuts : {p′ : List ℕ} {y : Lain} {i : Kind} → Stays i → kindOf (getD u 0 0) ≡ i → PutsWhole u p p′ y → Cuts u tags at p r p′ r y
   whole-cuts {p′} {y} t kind w choose hold f rest s front m =
       let x = w f rest front in
       let e = stays-whole t (parts-as u f rest front refl kind) choose hold (at .board) (at .slot) in
       (x .1 .read-is, subst (λ (l : Laid). Lays l at p r p′ r y) (sym e) (lays-whole f at p r p′ y (x .0) (x .1)))
 
-  pub leaf-cuts : {p′ : List ℕ} {y : Lain} {a : Leaf} → Stays (Zero a) → kindOf (getD u 0 0) ≡ Zero a → (p′ ≡ (getD u 0 0 ∷ []) ++ drop 1 p) × Plain 1 y → Cuts u marks at p r p′ r y
+  pub leaf-cuts : {p′ : List ℕ} {y : Lain} {a : Leaf} → Stays (Zero a) → kindOf (getD u 0 0) ≡ Zero a → (p′ ≡ (getD u 0 0 ∷ []) ++ drop 1 p) × Plain 1 y → Cuts u tags at p r p′ r y
   leaf-cuts {p′} {y} {a} t kind w = whole-cuts t kind (λ f rest front. go (parts-as u f rest front refl kind))
     where
       go : {g : Formula} {rest : List ℕ} → Parts u rest g (Zero a) → (p′ ≡ encode g ++ drop (size g) p) × Plain (size g) y
       go (isZero x e) = (w .0 ∙ ap (λ (l : List ℕ). (getD l 0 0 ∷ []) ++ drop 1 p) e, w .1)
 
   -- ---- not
-  pub not-cuts : {q r′ : List ℕ} {y : Lain} (z : Lain) → kindOf (getD u 0 0) ≡ One Not → Looks (tail 1 u) (tail 1 marks) (inner at) (tail 1 (set p 0 (unaryCode Not))) r q r′ y
-      → Numbers z (1 + y .read) (1 + y .here) (y .slots) (y .nodes) → Cuts u marks at p r (tailAs 1 (set p 0 (unaryCode Not)) q) r′ z
+  pub not-cuts : {q r′ : List ℕ} {y : Lain} (z : Lain) → kindOf (getD u 0 0) ≡ One Not → Looks (tail 1 u) (tail 1 tags) (inner at) (tail 1 (set p 0 (unaryCode Not))) r q r′ y
+      → Numbers z (1 + y .read) (1 + y .here) (y .slots) (y .nodes) → Cuts u tags at p r (tailAs 1 (set p 0 (unaryCode Not)) q) r′ z
   unfolding laid
   not-cuts {q} {r′} {y} z k h e choose hold f rest s front m = go (tops not k front m)
     where
-      go : {g : Formula} → Top choose u marks rest g (One Not) → (z .read ≡ size g) × Lays (laid choose hold g (at .board) (at .slot)) at p r (tailAs 1 (set p 0 (unaryCode Not)) q) r′ z
+      go : {g : Formula} → Top choose u tags rest g (One Not) → (z .read ≡ size g) × Lays (laid choose hold g (at .board) (at .slot)) at p r (tailAs 1 (set p 0 (unaryCode Not)) q) r′ z
       go (overOne {g} o) =
           let l = operand-laid s o h in
           (omega arith, lays-one Not (looked (choose g) (at .board) (at .slot) (laid choose hold g)) at p r q r′ y (l .1) z (e .1))
 
   -- ---- two operands
   pub pair-cuts : {q r1 q2 r2 : List ℕ} {x y : Lain} (z : Lain) (j : IsJoin u)
-      → Looks (tail 1 u) (tail 1 marks) (inner at) (tail 1 (set p 0 (getD u 0 0))) r q r1 x
-      → Looks (tail (1 + x .read) u) (tail (1 + x .read) marks) (behind at x) (tail (1 + x .here) (tailAs 1 (set p 0 (getD u 0 0)) q)) (tail (6 * x .slots) r1) q2 r2 y
+      → Looks (tail 1 u) (tail 1 tags) (inner at) (tail 1 (set p 0 (getD u 0 0))) r q r1 x
+      → Looks (tail (1 + x .read) u) (tail (1 + x .read) tags) (behind at x) (tail (1 + x .here) (tailAs 1 (set p 0 (getD u 0 0)) q)) (tail (6 * x .slots) r1) q2 r2 y
       → Numbers z (1 + x .read + y .read) (1 + x .here + y .here) (x .slots + y .slots) (x .nodes + y .nodes)
-      → Cuts u marks at p r (tailAs (1 + x .here) (tailAs 1 (set p 0 (getD u 0 0)) q) q2) (tailAs (6 * x .slots) r1 r2) z
+      → Cuts u tags at p r (tailAs (1 + x .here) (tailAs 1 (set p 0 (getD u 0 0)) q) q2) (tailAs (6 * x .slots) r1 r2) z
   unfolding laid
   pair-cuts {q} {r1} {q2} {r2} {x} {y} z j h i e choose hold f rest s front m = go (tops pair (j .kind) front m)
     where
-      go : {g : Formula} → Top choose u marks rest g (Two (Joined (j .by)))
+      go : {g : Formula} → Top choose u tags rest g (Two (Joined (j .by)))
           → (z .read ≡ size g) × Lays (laid choose hold g (at .board) (at .slot)) at p r (tailAs (1 + x .here) (tailAs 1 (set p 0 (getD u 0 0)) q) q2) (tailAs (6 * x .slots) r1 r2) z
       go (overTwo {g = f} {h = g} b o n) =
           let P = tailAs (1 + x .here) (tailAs 1 (set p 0 (getD u 0 0)) q) q2 in
           let R = tailAs (6 * x .slots) r1 r2 in
           let a = operand-laid s o h in
-          let c = operand-laid s (subst (λ (w : ℕ). Operand choose u marks g rest (1 + w)) (sym (a .0)) n) i in
+          let c = operand-laid s (subst (λ (w : ℕ). Operand choose u tags g rest (1 + w)) (sym (a .0)) n) i in
           let X = looked (choose f) (at .board) (at .slot) (laid choose hold f) in
           let Y = looked (choose g) (at .board) (at .slot + x .slots) (laid choose hold g) in (
             omega arith,
@@ -109,26 +109,26 @@ module _ {u marks : List ℕ} {at : Place} {p r : List ℕ} where
           )
 
   -- ---- a part that is looked at
-  pub stay-looks : {p′ r′ : List ℕ} {y : Lain} → staysOn (boardIn (getD marks 0 0)) (at .board) ≡ true → Cuts u marks at p r p′ r′ y → Looks u marks at p r p′ r′ y
-  stay-looks {p′} {r′} {y} e h choose hold f rest s front mark m =
+  pub stay-looks : {p′ r′ : List ℕ} {y : Lain} → staysOn (boardIn (getD tags 0 0)) (at .board) ≡ true → Cuts u tags at p r p′ r′ y → Looks u tags at p r p′ r′ y
+  stay-looks {p′} {r′} {y} e h choose hold f rest s front tag m =
       let l = h choose hold f rest s front m in
-      (l .0, subst (λ (x : Laid). Lays x at p r p′ r′ y) (sym (looked-stays s front mark m (at .board) (at .slot) e)) (l .1))
+      (l .0, subst (λ (x : Laid). Lays x at p r p′ r′ y) (sym (looked-stays s front tag m (at .board) (at .slot) e)) (l .1))
 
-  pub cut-looks : {p′ r′ : List ℕ} {y : Lain} → staysOn (boardIn (getD marks 0 0)) (at .board) ≡ false → LaysSlot u marks at p r p′ r′ y → Looks u marks at p r p′ r′ y
-  cut-looks {p′} {r′} {y} e h choose hold f rest s front mark m =
-      let c = looked-cut s front mark m (at .board) (at .slot) e in
+  pub cut-looks : {p′ r′ : List ℕ} {y : Lain} → staysOn (boardIn (getD tags 0 0)) (at .board) ≡ false → LaysSlot u tags at p r p′ r′ y → Looks u tags at p r p′ r′ y
+  cut-looks {p′} {r′} {y} e h choose hold f rest s front tag m =
+      let c = looked-cut s front tag m (at .board) (at .slot) e in
       let l = h choose hold f rest (c .board) s (c .stands) in
       (l .0, subst (λ (x : Laid). Lays x at p r p′ r′ y) (sym (c .laid-is)) (l .1))
 
   -- ---- a slot of its own
-  pub slot-lays : {q r1 r2 : List ℕ} {x : Lain} (z : Lain) → r1 ≡ (boardIn (getD marks 0 0) ∷ 0 ∷ (le 2 (at .node) ++ le 2 (hereIn (getD marks 0 0)))) ++ drop 6 r
-      → Cuts u marks (owned at (boardIn (getD marks 0 0)) (hereIn (getD marks 0 0))) (tail (at .gap) (set p 0 (leafCode (Hold (at .slot))))) (tail 6 r1) q r2 x
-      → Numbers z (x .read) 1 (1 + x .slots) (hereIn (getD marks 0 0) + x .nodes)
-      → LaysSlot u marks at p r (tailAs (at .gap) (set p 0 (leafCode (Hold (at .slot)))) q) (tailAs 6 r1 r2) z
+  pub slot-lays : {q r1 r2 : List ℕ} {x : Lain} (z : Lain) → r1 ≡ (boardIn (getD tags 0 0) ∷ 0 ∷ (le 2 (at .node) ++ le 2 (hereIn (getD tags 0 0)))) ++ drop 6 r
+      → Cuts u tags (owned at (boardIn (getD tags 0 0)) (hereIn (getD tags 0 0))) (tail (at .gap) (set p 0 (leafCode (Hold (at .slot))))) (tail 6 r1) q r2 x
+      → Numbers z (x .read) 1 (1 + x .slots) (hereIn (getD tags 0 0) + x .nodes)
+      → LaysSlot u tags at p r (tailAs (at .gap) (set p 0 (leafCode (Hold (at .slot)))) q) (tailAs 6 r1 r2) z
   slot-lays {q} {r1} {r2} {x} z row h e choose hold f rest board s o =
-      let b = boardIn (getD marks 0 0) in
-      let n = hereIn (getD marks 0 0) in
-      let l = h choose hold f rest s (o .front) (o .marked) in
+      let b = boardIn (getD tags 0 0) in
+      let n = hereIn (getD tags 0 0) in
+      let l = h choose hold f rest s (o .front) (o .tagged) in
       let P = tailAs (at .gap) (set p 0 (leafCode (Hold (at .slot)))) q in
       let size-is : n ≡ size (laid choose hold f b (at .slot + 1) .here) = slot-size s o (at .slot + 1) ∙ ap (λ (i : ℕ). size (laid choose hold f i (at .slot + 1) .here)) (sym (o .board-is)) in (
         e .0 ∙ l .0,
@@ -137,12 +137,12 @@ module _ {u marks : List ℕ} {at : Place} {p r : List ℕ} where
       )
 
   -- ---- a place holder
-  pub hold-cuts : {m : ℕ} {p′ r′ : List ℕ} {y : Lain} (z : Lain) → kindOf (getD u 0 0) ≡ Zero (Hold m) → LaysSlot (tail (aheadIn (getD marks 0 0)) u) (tail (aheadIn (getD marks 0 0)) marks) at p r p′ r′ y
-      → Numbers z 1 (y .here) (y .slots) (y .nodes) → Cuts u marks at p r p′ r′ z
-  hold-cuts {p′ = p′} {r′ = r′} z k h e choose hold f rest s front marked =
+  pub hold-cuts : {m : ℕ} {p′ r′ : List ℕ} {y : Lain} (z : Lain) → kindOf (getD u 0 0) ≡ Zero (Hold m) → LaysSlot (tail (aheadIn (getD tags 0 0)) u) (tail (aheadIn (getD tags 0 0)) tags) at p r p′ r′ y
+      → Numbers z 1 (y .here) (y .slots) (y .nodes) → Cuts u tags at p r p′ r′ z
+  hold-cuts {p′ = p′} {r′ = r′} z k h e choose hold f rest s front tagged =
       let t = parts-as u f rest front refl k in
       let x = held s t in
-      let l = h choose hold (x .formula) (x .rest) (x .board) (source-tail (aheadIn (getD marks 0 0)) u marks (x .inside) s) (held-stands s t) .1 in
+      let l = h choose hold (x .formula) (x .rest) (x .board) (source-tail (aheadIn (getD tags 0 0)) u tags (x .inside) s) (held-stands s t) .1 in
       let again : Lays (cut (x .board) (at .slot) (laid choose hold (x .formula) (x .board) (at .slot + 1))) at p r p′ r′ z =
       record { here-is = e .1 .0 ∙ l .here-is; slots-are = e .1 .1 ∙ l .slots-are; nodes-are = e .1 .2 ∙ l .nodes-are; nodes = l .nodes; records = l .records } in
       (e .0 ∙ zero-size t, subst (λ (y : Laid). Lays y at p r p′ r′ z) (sym (held-laid s t (at .board) (at .slot))) again)

@@ -1,4 +1,4 @@
--- The operands of a node that are looked at: where each stands, with its marks (`tops`); what is asked of the first one (`first-asks`)
+-- The operands of a node that are looked at: where each stands, with its tags (`tops`); what is asked of the first one (`first-asks`)
 -- and of the one behind it (`right-asks`). Assumes nothing.
 use mathlib.Core.Path.{_≡_, refl, sym, ap, subst}
 use mathlib.Core.List.{List, _++_}
@@ -14,10 +14,10 @@ use Rattle.kinds.specs.declared.Binary.the-variants.{Joined}
 use Rattle.kinds.specs.declared.Kind.{Kind}
 use Rattle.kinds.specs.declared.Kind.the-variants.{One, Two}
 use Rattle.kinds.specs.Kinds.{kindOf, joinCode}
-use Rattle.ltl.specs.Limits.{boardsMost}
+use Rattle.limits.specs.Limits.{boardsMost}
 use Rattle.ltl.specs.Formula.{Formula, one, two, size, encode}
 use Rattle.network.specs.Layout.{Laid, looked, laid}
-use Rattle.marking.specs.Marks.{Marks, Marked}
+use Rattle.tagging.specs.Tags.{Tags, Tagged}
 use Rattle.nodes.specs.Begins.{Front}
 use Rattle.nodes.proofs.Fronts.{Parts, isOne, isTwo, parts-as, front-length}
 use Rattle.laying.specs.declared.Place.{Place}
@@ -28,39 +28,39 @@ use Rattle.laying.proofs.Sources.{source-tail}
 use Rattle.laying.proofs.Asking.{fits-as, fits-one, fits-left, fits-right}
 
 -- ---- an operand
--- it stands a bytes on, and so do its marks
-pub record Operand (choose : Formula → Option ℕ) (u marks : List ℕ) (g : Formula) (rest : List ℕ) (a : ℕ) : Type 0 where
+-- it stands a bytes on, and so do its tags
+pub record Operand (choose : Formula → Option ℕ) (u tags : List ℕ) (g : Formula) (rest : List ℕ) (a : ℕ) : Type 0 where
   pub inside : a ≤ length u
   pub front : Front (tail a u) g rest
-  pub mark : Marks choose g boardsMost (getD (tail a marks) 0 0)
-  pub marked : Marked choose g (tail a marks)
+  pub tag : Tags choose g boardsMost (getD (tail a tags) 0 0)
+  pub tagged : Tagged choose g (tail a tags)
 
-operand : {choose : Formula → Option ℕ} {u marks rest : List ℕ} {g : Formula} (a : ℕ) → a ≤ length u → Front (drop a u) g rest
-    → Marks choose g boardsMost (getD (drop a marks) 0 0) × Marked choose g (drop a marks) → Operand choose u marks g rest a
-operand {choose} {u} {marks} {rest} {g} a l y m =
-    let k : Marks choose g boardsMost (getD (tail a marks) 0 0) × Marked choose g (tail a marks) = rw (tail-is a marks) m in
-    record { inside = l; front = rw (tail-is a u) y; mark = k .0; marked = k .1 }
+operand : {choose : Formula → Option ℕ} {u tags rest : List ℕ} {g : Formula} (a : ℕ) → a ≤ length u → Front (drop a u) g rest
+    → Tags choose g boardsMost (getD (drop a tags) 0 0) × Tagged choose g (drop a tags) → Operand choose u tags g rest a
+operand {choose} {u} {tags} {rest} {g} a l y m =
+    let k : Tags choose g boardsMost (getD (tail a tags) 0 0) × Tagged choose g (tail a tags) = rw (tail-is a tags) m in
+    record { inside = l; front = rw (tail-is a u) y; tag = k .0; tagged = k .1 }
 
 -- what is asked of it, and what it then has laid
-module _ {choose : Formula → Option ℕ} {hold : ℕ → ℕ → Laid} {u marks rest : List ℕ} {g : Formula} {a : ℕ} (s : Source choose hold u marks) (o : Operand choose u marks g rest a) {at : Place} where
+module _ {choose : Formula → Option ℕ} {hold : ℕ → ℕ → Laid} {u tags rest : List ℕ} {g : Formula} {a : ℕ} (s : Source choose hold u tags) (o : Operand choose u tags g rest a) {at : Place} where
   operand-asks : {p r : ℕ} (q t : List ℕ) → Fits (looked (choose g) (at .board) (at .slot) (laid choose hold g)) at p r → length q ≡ p → length t ≡ r
-      → LookAsk (tail a u) (tail a marks) at q t
+      → LookAsk (tail a u) (tail a tags) at q t
   operand-asks q t room e f =
       record {
         choose = choose;
         hold = hold;
         formula = g;
         rest = rest;
-        source = source-tail a u marks (o .inside) s;
+        source = source-tail a u tags (o .inside) s;
         front = o .front;
-        mark = o .mark;
-        marked = o .marked;
+        tag = o .tag;
+        tagged = o .tagged;
         fits = fits-as room e f;
       }
 
-  pub operand-laid : {p r p′ r′ : List ℕ} {x : Lain} → Looks (tail a u) (tail a marks) at p r p′ r′ x
+  pub operand-laid : {p r p′ r′ : List ℕ} {x : Lain} → Looks (tail a u) (tail a tags) at p r p′ r′ x
       → (x .read ≡ size g) × Lays (looked (choose g) (at .board) (at .slot) (laid choose hold g)) at p r p′ r′ x
-  operand-laid h = h choose hold g rest (source-tail a u marks (o .inside) s) (o .front) (o .mark) (o .marked)
+  operand-laid h = h choose hold g rest (source-tail a u tags (o .inside) s) (o .front) (o .tag) (o .tagged)
 
 -- ---- a node by its kind
 -- the nodes whose operands are looked at
@@ -69,16 +69,16 @@ pub data Opens : Kind → Type 0 where
   pair : {j : Join} → Opens (Two (Joined j))
 
 -- such a node in front, with its operands
-pub data Top (choose : Formula → Option ℕ) (u marks rest : List ℕ) : Formula → Kind → Type 0 where
-  overOne : {g : Formula} → Operand choose u marks g rest 1 → Top choose u marks rest (one Not g) (One Not)
-  overTwo : {j : Join} {g h : Formula} → getD u 0 0 ≡ joinCode j → Operand choose u marks g (encode h ++ rest) 1 → Operand choose u marks h rest (1 + size g)
-      → Top choose u marks rest (two (Joined j) g h) (Two (Joined j))
+pub data Top (choose : Formula → Option ℕ) (u tags rest : List ℕ) : Formula → Kind → Type 0 where
+  overOne : {g : Formula} → Operand choose u tags g rest 1 → Top choose u tags rest (one Not g) (One Not)
+  overTwo : {j : Join} {g h : Formula} → getD u 0 0 ≡ joinCode j → Operand choose u tags g (encode h ++ rest) 1 → Operand choose u tags h rest (1 + size g)
+      → Top choose u tags rest (two (Joined j) g h) (Two (Joined j))
 
-pub tops : {choose : Formula → Option ℕ} {u marks rest : List ℕ} {f : Formula} {k : Kind} → Opens k → kindOf (getD u 0 0) ≡ k → Front u f rest → Marked choose f marks
-    → Top choose u marks rest f k
-tops {choose} {u} {marks} {rest} {f} {k} o kind front m = go o (parts-as u f rest front refl kind) m
+pub tops : {choose : Formula → Option ℕ} {u tags rest : List ℕ} {f : Formula} {k : Kind} → Opens k → kindOf (getD u 0 0) ≡ k → Front u f rest → Tagged choose f tags
+    → Top choose u tags rest f k
+tops {choose} {u} {tags} {rest} {f} {k} o kind front m = go o (parts-as u f rest front refl kind) m
   where
-    go : {g : Formula} {i : Kind} → Opens i → Parts u rest g i → Marked choose g marks → Top choose u marks rest g i
+    go : {g : Formula} {i : Kind} → Opens i → Parts u rest g i → Tagged choose g tags → Top choose u tags rest g i
     go not (isOne e y) m = overOne (operand 1 (let l = ap length e in omega arith) y m)
     go pair (isTwo {f = g} e y z) m =
         let l = ap length e in
@@ -86,24 +86,24 @@ tops {choose} {u} {marks} {rest} {f} {k} o kind front m = go o (parts-as u f res
         overTwo (ap (λ (x : List ℕ). getD x 0 0) e) (operand 1 (omega arith) y (m .0)) (operand (1 + size g) (omega arith) z (m .1))
 
 -- ---- what is asked
-module _ {u marks p r : List ℕ} {at : Place} (ask : CutAsk u marks at p r) where
+module _ {u tags p r : List ℕ} {at : Place} (ask : CutAsk u tags at p r) where
   -- the operand of not, or the left one of two
-  pub first-asks : {k : Kind} → Opens k → kindOf (getD u 0 0) ≡ k → (q : List ℕ) → length q ≡ length p - 1 → LookAsk (tail 1 u) (tail 1 marks) (inner at) q r
-  first-asks o kind q e = go (tops o kind (ask .front) (ask .marked)) (ask .fits)
+  pub first-asks : {k : Kind} → Opens k → kindOf (getD u 0 0) ≡ k → (q : List ℕ) → length q ≡ length p - 1 → LookAsk (tail 1 u) (tail 1 tags) (inner at) q r
+  first-asks o kind q e = go (tops o kind (ask .front) (ask .tagged)) (ask .fits)
     where
-      go : {f : Formula} {i : Kind} → Top (ask .choose) u marks (ask .rest) f i → Fits (laid (ask .choose) (ask .hold) f (at .board) (at .slot)) at (length p) (length r)
-          → LookAsk (tail 1 u) (tail 1 marks) (inner at) q r
+      go : {f : Formula} {i : Kind} → Top (ask .choose) u tags (ask .rest) f i → Fits (laid (ask .choose) (ask .hold) f (at .board) (at .slot)) at (length p) (length r)
+          → LookAsk (tail 1 u) (tail 1 tags) (inner at) q r
       go (overOne {g} x) room = operand-asks (ask .source) x q r (fits-one (ask .choose) (ask .hold) g room) e refl
       go (overTwo {j} {g} {h} b x y) room = operand-asks (ask .source) x q r (fits-left (ask .choose) (ask .hold) j g h room) e refl
 
   -- the right one, the left one being laid
-  pub right-asks : {j : Join} {p1 p′ r′ : List ℕ} {x : Lain} → kindOf (getD u 0 0) ≡ Two (Joined j) → Looks (tail 1 u) (tail 1 marks) (inner at) p1 r p′ r′ x
+  pub right-asks : {j : Join} {p1 p′ r′ : List ℕ} {x : Lain} → kindOf (getD u 0 0) ≡ Two (Joined j) → Looks (tail 1 u) (tail 1 tags) (inner at) p1 r p′ r′ x
       → (q s : List ℕ) → length q ≡ length p - (1 + x .here) → length s ≡ length r - 6 * x .slots
-      → LookAsk (tail (1 + x .read) u) (tail (1 + x .read) marks) (behind at x) q s
-  right-asks {j} {x = x} kind h q s e t = go (tops pair kind (ask .front) (ask .marked)) (ask .fits)
+      → LookAsk (tail (1 + x .read) u) (tail (1 + x .read) tags) (behind at x) q s
+  right-asks {j} {x = x} kind h q s e t = go (tops pair kind (ask .front) (ask .tagged)) (ask .fits)
     where
-      go : {f : Formula} → Top (ask .choose) u marks (ask .rest) f (Two (Joined j)) → Fits (laid (ask .choose) (ask .hold) f (at .board) (at .slot)) at (length p) (length r)
-          → LookAsk (tail (1 + x .read) u) (tail (1 + x .read) marks) (behind at x) q s
+      go : {f : Formula} → Top (ask .choose) u tags (ask .rest) f (Two (Joined j)) → Fits (laid (ask .choose) (ask .hold) f (at .board) (at .slot)) at (length p) (length r)
+          → LookAsk (tail (1 + x .read) u) (tail (1 + x .read) tags) (behind at x) q s
       go (overTwo {g = f} {h = g} b y z) room =
           let l = operand-laid (ask .source) y h in
-          operand-asks (ask .source) (subst (λ (n : ℕ). Operand (ask .choose) u marks g (ask .rest) (1 + n)) (sym (l .0)) z) q s (fits-right (ask .choose) (ask .hold) j f g room (l .1)) e t
+          operand-asks (ask .source) (subst (λ (n : ℕ). Operand (ask .choose) u tags g (ask .rest) (1 + n)) (sym (l .0)) z) q s (fits-right (ask .choose) (ask .hold) j f g room (l .1)) e t

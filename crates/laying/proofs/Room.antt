@@ -16,11 +16,11 @@ use Rattle.kinds.specs.declared.Kind.{Kind}
 use Rattle.kinds.specs.declared.Kind.the-variants.{Zero, Two}
 use Rattle.kinds.specs.Kinds.{kindOf, leafCode}
 use Rattle.ltl.specs.Formula.{Formula, size}
-use Rattle.ltl.proofs.Texts.{size-some}
+use Rattle.ltl.proofs.Decoding.{size-some}
 use Rattle.network.specs.Layout.{Laid}
 use Rattle.nodes.specs.Begins.{Front}
 use Rattle.nodes.proofs.Fronts.{parts-as, front-length}
-use Rattle.marking.specs.Marks.{boardIn, hereIn, aheadIn}
+use Rattle.tagging.specs.Tags.{boardIn, hereIn, aheadIn}
 use Rattle.laying.specs.declared.Place.{Place}
 use Rattle.laying.specs.declared.Lain.{Lain}
 use Rattle.laying.specs.Lays.{Source, Fits, Lays, CutAsk, Cuts, LookAsk, Looks, SlotAsk}
@@ -29,14 +29,14 @@ use Rattle.laying.proofs.Parts.{Opens, first-asks, right-asks}
 use Rattle.laying.proofs.Slots.{slot-size, slot-asks, held}
 
 -- ---- at the entry
-pub record Entry (u marks : List ℕ) (at : Place) (p : ℕ) : Type 0 where
+pub record Entry (u tags : List ℕ) (at : Place) (p : ℕ) : Type 0 where
   pub some-bytes : 0 < length u
-  pub long : length u ≤ length marks
+  pub long : length u ≤ length tags
   pub some-gap : 0 < at .gap
   pub gap-few : at .gap ≤ p
 
-pub entry : {choose : Formula → Option ℕ} {hold : ℕ → ℕ → Laid} {u marks rest : List ℕ} {f : Formula} {x : Laid} {at : Place} {p r : ℕ} → Source choose hold u marks → Front u f rest → Fits x at p r
-    → Entry u marks at p
+pub entry : {choose : Formula → Option ℕ} {hold : ℕ → ℕ → Laid} {u tags rest : List ℕ} {f : Formula} {x : Laid} {at : Place} {p r : ℕ} → Source choose hold u tags → Front u f rest → Fits x at p r
+    → Entry u tags at p
 entry {u = u} {rest = rest} {f = f} {x = x} source front fits =
     let l = front-length u f rest front in
     let s = size-some f in
@@ -57,22 +57,22 @@ done {u} {rest} {f = f} front fits y =
     let l = front-length u f rest front in
     record { reads = omega arith; here = omega arith; nodes = omega arith; records = omega arith; slots = omega arith; numbers = omega arith }
 
-module _ {u marks p r p′ r′ : List ℕ} {at : Place} {x : Lain} where
-  look-done : LookAsk u marks at p r → Looks u marks at p r p′ r′ x → Done u at (length p) (length r) x
-  look-done ask h = done (ask .front) (ask .fits) (h (ask .choose) (ask .hold) (ask .formula) (ask .rest) (ask .source) (ask .front) (ask .mark) (ask .marked))
+module _ {u tags p r p′ r′ : List ℕ} {at : Place} {x : Lain} where
+  look-done : LookAsk u tags at p r → Looks u tags at p r p′ r′ x → Done u at (length p) (length r) x
+  look-done ask h = done (ask .front) (ask .fits) (h (ask .choose) (ask .hold) (ask .formula) (ask .rest) (ask .source) (ask .front) (ask .tag) (ask .tagged))
 
-  pub cut-done : CutAsk u marks at p r → Cuts u marks at p r p′ r′ x → Done u at (length p) (length r) x
-  cut-done ask h = done (ask .front) (ask .fits) (h (ask .choose) (ask .hold) (ask .formula) (ask .rest) (ask .source) (ask .front) (ask .marked))
+  pub cut-done : CutAsk u tags at p r → Cuts u tags at p r p′ r′ x → Done u at (length p) (length r) x
+  cut-done ask h = done (ask .front) (ask .fits) (h (ask .choose) (ask .hold) (ask .formula) (ask .rest) (ask .source) (ask .front) (ask .tagged))
 
 -- ---- a node in front of its operands
 -- its byte is put, and the first operand is looked at
-pub record Begun (u marks : List ℕ) (at : Place) (p r : List ℕ) (b : ℕ) : Type 0 where
-  pub entered : Entry u marks at (length p)
+pub record Begun (u tags : List ℕ) (at : Place) (p r : List ℕ) (b : ℕ) : Type 0 where
+  pub entered : Entry u tags at (length p)
   pub put-length : length (set p 0 b) ≡ length p
   pub fewer : 1 + length (tail 1 u) ≡ length u
-  pub asks : LookAsk (tail 1 u) (tail 1 marks) (inner at) (tail 1 (set p 0 b)) r
+  pub asks : LookAsk (tail 1 u) (tail 1 tags) (inner at) (tail 1 (set p 0 b)) r
 
-pub begun : {u marks p r : List ℕ} {at : Place} {k : Kind} → CutAsk u marks at p r → Opens k → kindOf (getD u 0 0) ≡ k → (b : ℕ) → Begun u marks at p r b
+pub begun : {u tags p r : List ℕ} {at : Place} {k : Kind} → CutAsk u tags at p r → Opens k → kindOf (getD u 0 0) ≡ k → (b : ℕ) → Begun u tags at p r b
 begun {u} {p = p} ask o kind b =
     let n = entry (ask .source) (ask .front) (ask .fits) in
     let l = length-set p 0 b in
@@ -80,9 +80,9 @@ begun {u} {p = p} ask o kind b =
     record { entered = n; put-length = l; fewer = omega arith; asks = first-asks ask o kind (tail 1 (set p 0 b)) (tail-length 1 (set p 0 b) ∙ ap (_- 1) l) }
 
 -- the first operand was laid
-pub record FirstDone (u marks : List ℕ) (at : Place) (p r : List ℕ) (b : ℕ) (q : List ℕ) (x : Lain) : Type 0 where
+pub record FirstDone (u tags : List ℕ) (at : Place) (p r : List ℕ) (b : ℕ) (q : List ℕ) (x : Lain) : Type 0 where
   pub reads : 1 + x .read ≤ length u
-  pub marks-there : 1 + x .read ≤ length marks
+  pub tags-there : 1 + x .read ≤ length tags
   pub here : 1 + x .here ≤ at .gap
   pub nodes : at .gap + x .nodes ≤ length p
   pub records : 6 * x .slots ≤ length r
@@ -90,23 +90,23 @@ pub record FirstDone (u marks : List ℕ) (at : Place) (p r : List ℕ) (b : ℕ
   pub numbers : at .node + x .nodes ≤ 4096
   pub kept : length (tailAs 1 (set p 0 b) q) ≡ length p
 
-pub first-done : {u marks p r q r′ : List ℕ} {at : Place} {b : ℕ} {x : Lain} → Begun u marks at p r b → Looks (tail 1 u) (tail 1 marks) (inner at) (tail 1 (set p 0 b)) r q r′ x
-    → length q ≡ length (tail 1 (set p 0 b)) → FirstDone u marks at p r b q x
+pub first-done : {u tags p r q r′ : List ℕ} {at : Place} {b : ℕ} {x : Lain} → Begun u tags at p r b → Looks (tail 1 u) (tail 1 tags) (inner at) (tail 1 (set p 0 b)) r q r′ x
+    → length q ≡ length (tail 1 (set p 0 b)) → FirstDone u tags at p r b q x
 first-done {p = p} {q = q} {b = b} n h e =
     let d = look-done (n .asks) h in
     let l = tail-length 1 (set p 0 b) in
     let k = handed-length 1 (set p 0 b) q (omega arith) e in
-    record { reads = omega arith; marks-there = omega arith; here = omega arith; nodes = omega arith; records = d .records; slots = d .slots; numbers = d .numbers; kept = omega arith }
+    record { reads = omega arith; tags-there = omega arith; here = omega arith; nodes = omega arith; records = d .records; slots = d .slots; numbers = d .numbers; kept = omega arith }
 
 -- the right one is looked at, in what the left one has left
-pub record RightBegun (u marks : List ℕ) (at : Place) (p r : List ℕ) (x : Lain) : Type 0 where
+pub record RightBegun (u tags : List ℕ) (at : Place) (p r : List ℕ) (x : Lain) : Type 0 where
   pub records : 6 * x .slots ≤ length r
   pub fewer : 1 + length (tail (1 + x .read) u) ≤ length u
-  pub asks : LookAsk (tail (1 + x .read) u) (tail (1 + x .read) marks) (behind at x) (tail (1 + x .here) p) (tail (6 * x .slots) r)
+  pub asks : LookAsk (tail (1 + x .read) u) (tail (1 + x .read) tags) (behind at x) (tail (1 + x .here) p) (tail (6 * x .slots) r)
 
-pub right-begun : {u marks p r q r1 : List ℕ} {at : Place} {b : ℕ} {j : Join} {x : Lain} → CutAsk u marks at p r → kindOf (getD u 0 0) ≡ Two (Joined j)
-    → Looks (tail 1 u) (tail 1 marks) (inner at) (tail 1 (set p 0 b)) r q r1 x → FirstDone u marks at p r b q x → length r1 ≡ length r
-    → RightBegun u marks at (tailAs 1 (set p 0 b) q) r1 x
+pub right-begun : {u tags p r q r1 : List ℕ} {at : Place} {b : ℕ} {j : Join} {x : Lain} → CutAsk u tags at p r → kindOf (getD u 0 0) ≡ Two (Joined j)
+    → Looks (tail 1 u) (tail 1 tags) (inner at) (tail 1 (set p 0 b)) r q r1 x → FirstDone u tags at p r b q x → length r1 ≡ length r
+    → RightBegun u tags at (tailAs 1 (set p 0 b) q) r1 x
 right-begun {u} {p = p} {q = q} {r1 = r1} {b = b} {x = x} ask kind h d e =
     let P = tailAs 1 (set p 0 b) q in
     let l = tail-length (1 + x .read) u in
@@ -125,8 +125,8 @@ pub record BothDone (u p r p′ r′ : List ℕ) (x y : Lain) : Type 0 where
   pub kept : length p′ ≡ length p
   pub records-kept : length r′ ≡ length r
 
-pub both-done : {u marks p r q r1 q2 r2 : List ℕ} {at : Place} {b : ℕ} {x y : Lain} → FirstDone u marks at p r b q x → length r1 ≡ length r → RightBegun u marks at (tailAs 1 (set p 0 b) q) r1 x
-    → Looks (tail (1 + x .read) u) (tail (1 + x .read) marks) (behind at x) (tail (1 + x .here) (tailAs 1 (set p 0 b) q)) (tail (6 * x .slots) r1) q2 r2 y
+pub both-done : {u tags p r q r1 q2 r2 : List ℕ} {at : Place} {b : ℕ} {x y : Lain} → FirstDone u tags at p r b q x → length r1 ≡ length r → RightBegun u tags at (tailAs 1 (set p 0 b) q) r1 x
+    → Looks (tail (1 + x .read) u) (tail (1 + x .read) tags) (behind at x) (tail (1 + x .here) (tailAs 1 (set p 0 b) q)) (tail (6 * x .slots) r1) q2 r2 y
     → length q2 ≡ length (tail (1 + x .here) (tailAs 1 (set p 0 b) q)) → length r2 ≡ length (tail (6 * x .slots) r1)
     → BothDone u p r (tailAs (1 + x .here) (tailAs 1 (set p 0 b) q) q2) (tailAs (6 * x .slots) r1 r2) x y
 both-done {u} {p = p} {q = q} {r1 = r1} {q2 = q2} {r2 = r2} {b = b} {x = x} d e n h k l =
@@ -138,35 +138,35 @@ both-done {u} {p = p} {q = q} {r1 = r1} {q2 = q2} {r2 = r2} {b = b} {x = x} d e 
     record { reads = omega arith; here = omega arith; slots = omega arith; nodes = omega arith; kept = omega arith; records-kept = omega arith }
 
 -- ---- a place holder
-pub record HoldEntry (u marks : List ℕ) : Type 0 where
-  pub inside : aheadIn (getD marks 0 0) ≤ length u
-  pub long : length u ≤ length marks
+pub record HoldEntry (u tags : List ℕ) : Type 0 where
+  pub inside : aheadIn (getD tags 0 0) ≤ length u
+  pub long : length u ≤ length tags
   pub some-bytes : 0 < length u
-  pub fewer : 1 + length (tail (aheadIn (getD marks 0 0)) u) ≤ length u
+  pub fewer : 1 + length (tail (aheadIn (getD tags 0 0)) u) ≤ length u
 
-pub hold-entry : {u marks p r : List ℕ} {at : Place} {m : ℕ} → CutAsk u marks at p r → kindOf (getD u 0 0) ≡ Zero (Hold m) → HoldEntry u marks
-hold-entry {u} {marks} ask kind =
+pub hold-entry : {u tags p r : List ℕ} {at : Place} {m : ℕ} → CutAsk u tags at p r → kindOf (getD u 0 0) ≡ Zero (Hold m) → HoldEntry u tags
+hold-entry {u} {tags} ask kind =
     let n = entry (ask .source) (ask .front) (ask .fits) in
     let h = held (ask .source) (parts-as u (ask .formula) (ask .rest) (ask .front) refl kind) in
-    let l = tail-length (aheadIn (getD marks 0 0)) u in
+    let l = tail-length (aheadIn (getD tags 0 0)) u in
     let a = h .ahead in
     record { inside = h .inside; long = n .long; some-bytes = n .some-bytes; fewer = omega arith }
 
 -- ---- a slot of its own: its place holder is put, and its parts are laid behind its record
-pub record SlotBegun (u marks : List ℕ) (at : Place) (p r : List ℕ) : Type 0 where
-  pub some-marks : 0 < length marks
+pub record SlotBegun (u tags : List ℕ) (at : Place) (p r : List ℕ) : Type 0 where
+  pub some-tags : 0 < length tags
   pub some-gap : 0 < at .gap
   pub gap-few : at .gap ≤ length p
-  pub length-few : hereIn (getD marks 0 0) ≤ 4096
+  pub length-few : hereIn (getD tags 0 0) ≤ 4096
   pub slot-few : at .slot < 64
-  pub node-few : at .node + hereIn (getD marks 0 0) ≤ 4096
+  pub node-few : at .node + hereIn (getD tags 0 0) ≤ 4096
   pub row : 6 ≤ length r
   pub put-length : length (set p 0 (leafCode (Hold (at .slot)))) ≡ length p
   pub asks : (t : List ℕ) → length t ≡ length r
-      → CutAsk u marks (owned at (boardIn (getD marks 0 0)) (hereIn (getD marks 0 0))) (tail (at .gap) (set p 0 (leafCode (Hold (at .slot))))) (tail 6 t)
+      → CutAsk u tags (owned at (boardIn (getD tags 0 0)) (hereIn (getD tags 0 0))) (tail (at .gap) (set p 0 (leafCode (Hold (at .slot))))) (tail 6 t)
   pub kept : (q : List ℕ) → length q ≡ length (tail (at .gap) (set p 0 (leafCode (Hold (at .slot))))) → length (tailAs (at .gap) (set p 0 (leafCode (Hold (at .slot)))) q) ≡ length p
 
-pub slot-begun : {u marks p r : List ℕ} {at : Place} → SlotAsk u marks at p r → SlotBegun u marks at p r
+pub slot-begun : {u tags p r : List ℕ} {at : Place} → SlotAsk u tags at p r → SlotBegun u tags at p r
 slot-begun {p = p} {at = at} ask =
     let n = entry (ask .source) (ask .stands .front) (ask .fits) in
     let z = slot-size (ask .source) (ask .stands) (at .slot + 1) in
@@ -174,7 +174,7 @@ slot-begun {p = p} {at = at} ask =
     let P = set p 0 (leafCode (Hold (at .slot))) in
     let l : length P ≡ length p = length-set p 0 (leafCode (Hold (at .slot))) in
     record {
-      some-marks = omega arith;
+      some-tags = omega arith;
       some-gap = n .some-gap;
       gap-few = n .gap-few;
       length-few = omega arith;

@@ -13,7 +13,7 @@ use Rattle.kinds.specs.declared.Binary.the-variants.{Joined, Until}
 use Rattle.ltl.specs.Formula.{Formula, leaf, one, two, size}
 use Rattle.network.specs.Layout.{Laid, cut, looked, laid}
 use Rattle.cutting.specs.Cuts.{lookedAs}
-use Rattle.marking.specs.Marks.{hereOn}
+use Rattle.tagging.specs.Tags.{hereOn}
 
 -- what holds of a part that is looked at, where it stays and where it is cut
 pub looked-as : (R : Laid → ℕ → Type 0) (o : Option ℕ) (b k : ℕ) (lay : ℕ → ℕ → Laid) (stays cuts : ℕ → ℕ) → R (lay b k) (stays b) → ((c : ℕ) → R (cut c k (lay c (k + 1))) (cuts c))

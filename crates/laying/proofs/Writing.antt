@@ -15,7 +15,7 @@ use Rattle.kinds.specs.Kinds.{leafCode, unaryCode, binaryCode}
 use Rattle.le.specs.Le.{le}
 use Rattle.le.proofs.Laws.{le-length}
 use Rattle.ltl.specs.Formula.{Formula, one, two, size, encode}
-use Rattle.ltl.proofs.Texts.{length-encode}
+use Rattle.ltl.proofs.Decoding.{length-encode}
 use Rattle.nodes.specs.Begins.{Front}
 use Rattle.nodes.proofs.Fronts.{front-own}
 use Rattle.network.specs.Layout.{Laid, whole, under, beside, cut, rooted}

@@ -1,6 +1,6 @@
-// Laying an unfolded formula that was marked: its nodes and those of the slots that are cut out of it into one stretch of nodes, the
+// Laying an unfolded formula that was tagged: its nodes and those of the slots that are cut out of it into one stretch of nodes, the
 // slots' records into another. Laying a slot cuts its parts, and each cut part lays a slot. At a place holder the slot that it holds
-// is laid: its formula stands further on in the same bytes, and the mark at the place holder says how far.
+// is laid: its formula stands further on in the same bytes, and the tag at the place holder says how far.
 ghost use mathlib.Core.Path.{_≡_};
 ghost use mathlib.Core.List.{[], _∷_, _++_};
 ghost use Prim.Native.Nat.{_<_, _≤_};
@@ -44,9 +44,9 @@ pub fn put_record(r: &mut [u8], board: u8, start: u16, n: u16)
 }
 
 // Lays the formula that u begins with in the slot that is being laid: its top stays, and its operands are looked at.
-pub fn cut_parts(u: &[u8], marks: &[u32], at: Place, p: &mut [u8], r: &mut [u8]) -> Lain
-    requires { ⌜ CutAsk (now u) (now marks) at (now p) (now r) ⌝ }
-    ensures { λ x. ⌜ Cuts (now (u .entry)) (now (marks .entry)) at (now (p .entry)) (now (r .entry)) (now (p .exit)) (now (r .exit)) x ⌝ }
+pub fn cut_parts(u: &[u8], tags: &[u32], at: Place, p: &mut [u8], r: &mut [u8]) -> Lain
+    requires { ⌜ CutAsk (now u) (now tags) at (now p) (now r) ⌝ }
+    ensures { λ x. ⌜ Cuts (now (u .entry)) (now (tags .entry)) at (now (p .entry)) (now (r .entry)) (now (p .exit)) (now (r .exit)) x ⌝ }
 {
     let b = u[0];
     let k = Kind::of(b);
@@ -55,8 +55,8 @@ pub fn cut_parts(u: &[u8], marks: &[u32], at: Place, p: &mut [u8], r: &mut [u8])
             Leaf::Const(_) => put_leaf(p, b),
             Leaf::Prop(_) => put_leaf(p, b),
             Leaf::Hold(_) => {
-                let ahead = (marks[0] / 262144) as usize;
-                let x = lay_slot(&u[ahead..], &marks[ahead..], at, p, r);
+                let ahead = (tags[0] / 262144) as usize;
+                let x = lay_slot(&u[ahead..], &tags[ahead..], at, p, r);
                 Lain {
                     read: 1,
                     here: x.here,
@@ -66,13 +66,13 @@ pub fn cut_parts(u: &[u8], marks: &[u32], at: Place, p: &mut [u8], r: &mut [u8])
             }
         },
         Kind::One(o) => match o {
-            Unary::Not => cut_not(u, marks, at, p, r),
+            Unary::Not => cut_not(u, tags, at, p, r),
             Unary::Next => put_whole(p, u),
             Unary::Eventually => put_whole(p, u),
             Unary::Always => put_whole(p, u),
         },
         Kind::Two(o) => match o {
-            Binary::Joined(_) => cut_pair(u, marks, at, p, r),
+            Binary::Joined(_) => cut_pair(u, tags, at, p, r),
             Binary::Until => put_whole(p, u),
         },
         // No formula begins with such a byte.
@@ -100,7 +100,7 @@ fn put_whole(p: &mut [u8], u: &[u8]) -> Lain
     ensures { λ x. ⌜ PutsWhole (now (u .entry)) (now (p .entry)) (now (p .exit)) x ⌝ }
 {
     let n = nodes::operand_end(u);
-    runs::copy(p, &u[..n]);
+    buffers::copy(p, &u[..n]);
     Lain {
         read: n,
         here: n,
@@ -110,9 +110,9 @@ fn put_whole(p: &mut [u8], u: &[u8]) -> Lain
 }
 
 // Not: its operand is looked at.
-fn cut_not(u: &[u8], marks: &[u32], at: Place, p: &mut [u8], r: &mut [u8]) -> Lain
-    requires { ⌜ CutAsk (now u) (now marks) at (now p) (now r) × (kindOf (getD (now u) 0 0) ≡ One Not) ⌝ }
-    ensures { λ x. ⌜ Cuts (now (u .entry)) (now (marks .entry)) at (now (p .entry)) (now (r .entry)) (now (p .exit)) (now (r .exit)) x ⌝ }
+fn cut_not(u: &[u8], tags: &[u32], at: Place, p: &mut [u8], r: &mut [u8]) -> Lain
+    requires { ⌜ CutAsk (now u) (now tags) at (now p) (now r) × (kindOf (getD (now u) 0 0) ≡ One Not) ⌝ }
+    ensures { λ x. ⌜ Cuts (now (u .entry)) (now (tags .entry)) at (now (p .entry)) (now (r .entry)) (now (p .exit)) (now (r .exit)) x ⌝ }
 {
     p[0] = Kind::NOT;
     let inner = Place {
@@ -121,7 +121,7 @@ fn cut_not(u: &[u8], marks: &[u32], at: Place, p: &mut [u8], r: &mut [u8]) -> La
         node: at.node,
         gap: at.gap - 1,
     };
-    let x = look(&u[1..], &marks[1..], inner, &mut p[1..], r);
+    let x = look(&u[1..], &tags[1..], inner, &mut p[1..], r);
     Lain {
         read: 1 + x.read,
         here: 1 + x.here,
@@ -131,9 +131,9 @@ fn cut_not(u: &[u8], marks: &[u32], at: Place, p: &mut [u8], r: &mut [u8]) -> La
 }
 
 // And or or: its operands are looked at, left to right.
-fn cut_pair(u: &[u8], marks: &[u32], at: Place, p: &mut [u8], r: &mut [u8]) -> Lain
-    requires { ⌜ CutAsk (now u) (now marks) at (now p) (now r) × IsJoin (now u) ⌝ }
-    ensures { λ x. ⌜ Cuts (now (u .entry)) (now (marks .entry)) at (now (p .entry)) (now (r .entry)) (now (p .exit)) (now (r .exit)) x ⌝ }
+fn cut_pair(u: &[u8], tags: &[u32], at: Place, p: &mut [u8], r: &mut [u8]) -> Lain
+    requires { ⌜ CutAsk (now u) (now tags) at (now p) (now r) × IsJoin (now u) ⌝ }
+    ensures { λ x. ⌜ Cuts (now (u .entry)) (now (tags .entry)) at (now (p .entry)) (now (r .entry)) (now (p .exit)) (now (r .exit)) x ⌝ }
 {
     p[0] = u[0];
     let left = Place {
@@ -142,7 +142,7 @@ fn cut_pair(u: &[u8], marks: &[u32], at: Place, p: &mut [u8], r: &mut [u8]) -> L
         node: at.node,
         gap: at.gap - 1,
     };
-    let x = look(&u[1..], &marks[1..], left, &mut p[1..], r);
+    let x = look(&u[1..], &tags[1..], left, &mut p[1..], r);
     let m = 1 + x.read;
     let here = 1 + x.here;
     let records = 6 * x.slots;
@@ -154,7 +154,7 @@ fn cut_pair(u: &[u8], marks: &[u32], at: Place, p: &mut [u8], r: &mut [u8]) -> L
     };
     let y = look(
         &u[m..],
-        &marks[m..],
+        &tags[m..],
         right,
         &mut p[here..],
         &mut r[records..],
@@ -168,25 +168,25 @@ fn cut_pair(u: &[u8], marks: &[u32], at: Place, p: &mut [u8], r: &mut [u8]) -> L
 }
 
 // Looks at the operand that u begins with: where it stays its own operands are looked at, else it is cut.
-fn look(u: &[u8], marks: &[u32], at: Place, p: &mut [u8], r: &mut [u8]) -> Lain
-    requires { ⌜ LookAsk (now u) (now marks) at (now p) (now r) ⌝ }
-    ensures { λ x. ⌜ Looks (now (u .entry)) (now (marks .entry)) at (now (p .entry)) (now (r .entry)) (now (p .exit)) (now (r .exit)) x ⌝ }
+fn look(u: &[u8], tags: &[u32], at: Place, p: &mut [u8], r: &mut [u8]) -> Lain
+    requires { ⌜ LookAsk (now u) (now tags) at (now p) (now r) ⌝ }
+    ensures { λ x. ⌜ Looks (now (u .entry)) (now (tags .entry)) at (now (p .entry)) (now (r .entry)) (now (p .exit)) (now (r .exit)) x ⌝ }
 {
-    let choice = (marks[0] % 32) as u8;
+    let choice = (tags[0] % 32) as u8;
     if cutting::stays_on(choice, at.board) {
-        return cut_parts(u, marks, at, p, r);
+        return cut_parts(u, tags, at, p, r);
     }
-    lay_slot(u, marks, at, p, r)
+    lay_slot(u, tags, at, p, r)
 }
 
-// Lays the formula that u begins with as a slot of its own, on the board of its mark, and puts its place holder.
-fn lay_slot(u: &[u8], marks: &[u32], at: Place, p: &mut [u8], r: &mut [u8]) -> Lain
-    requires { ⌜ SlotAsk (now u) (now marks) at (now p) (now r) ⌝ }
-    ensures { λ x. ⌜ LaysSlot (now (u .entry)) (now (marks .entry)) at (now (p .entry)) (now (r .entry)) (now (p .exit)) (now (r .exit)) x ⌝ }
+// Lays the formula that u begins with as a slot of its own, on the board of its tag, and puts its place holder.
+fn lay_slot(u: &[u8], tags: &[u32], at: Place, p: &mut [u8], r: &mut [u8]) -> Lain
+    requires { ⌜ SlotAsk (now u) (now tags) at (now p) (now r) ⌝ }
+    ensures { λ x. ⌜ LaysSlot (now (u .entry)) (now (tags .entry)) at (now (p .entry)) (now (r .entry)) (now (p .exit)) (now (r .exit)) x ⌝ }
 {
-    let mark = marks[0];
-    let n = (mark / 32 % 8192) as usize;
-    let board = (mark % 32) as u8;
+    let tag = tags[0];
+    let n = (tag / 32 % 8192) as usize;
+    let board = (tag % 32) as u8;
     let gap = at.gap;
     p[0] = Kind::HOLD + at.slot as u8;
     put_record(r, board, at.node as u16, n as u16);
@@ -196,7 +196,7 @@ fn lay_slot(u: &[u8], marks: &[u32], at: Place, p: &mut [u8], r: &mut [u8]) -> L
         node: at.node + n,
         gap: n,
     };
-    let x = cut_parts(u, marks, own, &mut p[gap..], &mut r[6..]);
+    let x = cut_parts(u, tags, own, &mut p[gap..], &mut r[6..]);
     Lain {
         read: x.read,
         here: 1,
@@ -205,15 +205,15 @@ fn lay_slot(u: &[u8], marks: &[u32], at: Place, p: &mut [u8], r: &mut [u8]) -> L
     }
 }
 
-// Lays the formula that u begins with as the first slot of a network, on the board of its mark: its nodes and those of the slots cut
+// Lays the formula that u begins with as the first slot of a network, on the board of its tag: its nodes and those of the slots cut
 // out of it to the front of p, their records to the front of r.
-pub fn lay_root(u: &[u8], marks: &[u32], p: &mut [u8], r: &mut [u8])
-    requires { ⌜ RootAsk (now u) (now marks) (now p) (now r) ⌝ }
-    ensures { λ _. ⌜ LaysRoot (now (u .entry)) (now (marks .entry)) (now (p .entry)) (now (r .entry)) (now (p .exit)) (now (r .exit)) ⌝ }
+pub fn lay_root(u: &[u8], tags: &[u32], p: &mut [u8], r: &mut [u8])
+    requires { ⌜ RootAsk (now u) (now tags) (now p) (now r) ⌝ }
+    ensures { λ _. ⌜ LaysRoot (now (u .entry)) (now (tags .entry)) (now (p .entry)) (now (r .entry)) (now (p .exit)) (now (r .exit)) ⌝ }
 {
-    let mark = marks[0];
-    let n = (mark / 32 % 8192) as usize;
-    let board = (mark % 32) as u8;
+    let tag = tags[0];
+    let n = (tag / 32 % 8192) as usize;
+    let board = (tag % 32) as u8;
     put_record(r, board, 0, n as u16);
     let own = Place {
         board: board,
@@ -221,5 +221,5 @@ pub fn lay_root(u: &[u8], marks: &[u32], p: &mut [u8], r: &mut [u8])
         node: n,
         gap: n,
     };
-    cut_parts(u, marks, own, p, &mut r[6..]);
+    cut_parts(u, tags, own, p, &mut r[6..]);
 }

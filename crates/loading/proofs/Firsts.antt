@@ -6,7 +6,7 @@ use native.Mathlib.Omega.{arith}
 use lib.ListN.{length, take}
 use lib.Dec.{eqb}
 use Rattle.lists.specs.Tests.{pick}
-use Rattle.ltl.specs.Limits.{boardsMost}
+use Rattle.limits.specs.Limits.{boardsMost}
 use Rattle.ltl.specs.Formula.{Formula, size}
 use Rattle.ltl.specs.Progression.{unfolded}
 use Rattle.network.specs.Scores.{chosen}
@@ -20,8 +20,8 @@ use Rattle.unfolding.proofs.Fronts.{written-bytes, written-front}
 use Rattle.cutting.specs.declared.Part.{Part}
 use Rattle.cutting.specs.Cuts.{codeOf}
 use Rattle.cutting.proofs.Choices.{chosen-below}
-use Rattle.marking.specs.declared.Placed.{Placed}
-use Rattle.marking.specs.Marks.{MarkedAs, Marking}
+use Rattle.tagging.specs.declared.Placed.{Placed}
+use Rattle.tagging.specs.Tags.{TaggedAs, Tagging}
 use Rattle.storing.specs.Stores.{LaidOut, Counts, StateAsk, Stores}
 use Rattle.loading.specs.Load.{BeginAsk, FirstAsk, Firsts}
 use Rattle.loading.proofs.Rules.{Fitting, board-of, first-large, first-slots, first-nodes, first-choice, first-laid}
@@ -29,7 +29,7 @@ use Rattle.loading.proofs.Rules.{Fitting, board-of, first-large, first-
 pub whole-begins : {s : List ℕ} {f : Formula} → Front s f [] → Begins s
 whole-begins {f = f} x = record { formula = f; rest = []; front = x }
 
-module _ {state masks bytes owner : List ℕ} {board slots nodes : ℕ} {u marks : List ℕ} (ask : FirstAsk state masks bytes owner board slots nodes u marks) where
+module _ {state masks bytes owner : List ℕ} {board slots nodes : ℕ} {u tags : List ℕ} (ask : FirstAsk state masks bytes owner board slots nodes u tags) where
   abbrev U : Formula
   U = unfolded (ask .rule)
 
@@ -46,34 +46,34 @@ module _ {state masks bytes owner : List ℕ} {board slots nodes : ℕ} {u marks
     front-is : Front (take (w .written) u′) U []
     front-is = written-front rule-unfolded (ask .ruled .front .coded)
 
-    pub mark-ask : Begins (take (w .written) u′) × Table owner × (length (take (w .written) u′) ≤ length marks) × (length (take (w .written) u′) ≤ 4096)
-    mark-ask =
+    pub tag-ask : Begins (take (w .written) u′) × Table owner × (length (take (w .written) u′) ≤ length tags) × (length (take (w .written) u′) ≤ 4096)
+    tag-ask =
         let e = front-length (take (w .written) u′) U [] front-is in
         let s = first-size in
         (whole-begins front-is, ask .table, omega arith, omega arith)
 
-    module _ {marks′ : List ℕ} (y : Placed) (m : Marking owner (take (w .written) u′) board marks′ y) (kept : length marks′ ≡ length marks) where
-      laid-is : LaidOut (take (w .written) u′) marks′ (firstOf masks (ask .rule))
+    module _ {tags′ : List ℕ} (y : Placed) (m : Tagging owner (take (w .written) u′) board tags′ y) (kept : length tags′ ≡ length tags) where
+      laid-is : LaidOut (take (w .written) u′) tags′ (firstOf masks (ask .rule))
       laid-is =
-          subst (λ (x : List ℕ). LaidOut x marks′ (firstOf masks (ask .rule))) (sym (written-bytes rule-unfolded))
-          (first-laid (ask .ruled) owner (ask .owned) marks′ y (subst (λ (b : ℕ). MarkedAs owner U b marks′ y) (ask .board-is) (m U [] front-is))
+          subst (λ (x : List ℕ). LaidOut x tags′ (firstOf masks (ask .rule))) (sym (written-bytes rule-unfolded))
+          (first-laid (ask .ruled) owner (ask .owned) tags′ y (subst (λ (b : ℕ). TaggedAs owner U b tags′ y) (ask .board-is) (m U [] front-is))
           (let s = first-size in omega arith))
 
       counts-are : Counts (firstOf masks (ask .rule)) slots nodes
       counts-are = record { slots-are = ask .slots-are; nodes-are = ask .nodes-are; few-slots = ask .few-slots; few-nodes = ask .few-nodes }
 
-      pub state-ask : StateAsk state masks slots nodes (take (w .written) u′) marks′
+      pub state-ask : StateAsk state masks slots nodes (take (w .written) u′) tags′
       state-ask = record { network = firstOf masks (ask .rule); laid-out = laid-is; counts = counts-are; long = ask .long; few-boards = ask .ruled .few-boards }
 
-      pub first-put : {state′ : List ℕ} → Stores masks slots nodes 0 (take (w .written) u′) marks′ state′ → Firsts masks bytes state′
+      pub first-put : {state′ : List ℕ} → Stores masks slots nodes 0 (take (w .written) u′) tags′ state′ → Firsts masks bytes state′
       first-put {state′} h rule r =
           let same : ask .rule ≡ rule = front-one-way bytes (ask .rule) rule [] [] (ask .ruled .front) (r .front) .0 in
           subst (λ (f : Formula). state′ ≡ loadedState masks f) same (h (firstOf masks (ask .rule)) laid-is counts-are)
 
 -- ---- what the counts tell
 pub first-ask : {masks bytes state owner : List ℕ} (ask : BeginAsk masks bytes state) → Table owner → {x : Part} {count : ℕ} → Fitting (ask .ruled) owner x count
-    → {board : ℕ} → board ≡ pick (eqb (x .choice) boardsMost) 0 (x .choice) → {u marks : List ℕ} → length u ≡ 4096 → length marks ≡ 4096
-    → FirstAsk state masks bytes owner board (1 + x .cuts) (count + x .cuts) u marks
+    → {board : ℕ} → board ≡ pick (eqb (x .choice) boardsMost) 0 (x .choice) → {u tags : List ℕ} → length u ≡ 4096 → length tags ≡ 4096
+    → FirstAsk state masks bytes owner board (1 + x .cuts) (count + x .cuts) u tags
 first-ask {masks} ask table fits b ul ml =
     let s = first-slots (fits .cut) in
     let n = first-nodes (fits .cut) in
@@ -92,5 +92,5 @@ first-ask {masks} ask table fits b ul ml =
       few-slots = fits .few-slots;
       few-nodes = fits .few-nodes;
       u-long = ul;
-      marks-long = ml;
+      tags-long = ml;
     }

@@ -16,24 +16,24 @@ use Rattle.answers.specs.declared.Outcome.{Outcome}
 use Rattle.answers.specs.declared.Outcome.the-variants.{Refused}
 use Rattle.answers.specs.Said.{Said, accepted, refused, left, numberOf, Check, check, inOrder, saidOutcome}
 use Rattle.answers.proofs.Answers.{number-some, left-refused, left-accepted, Passed, order-ok, order-refused, order-done}
-use Rattle.ltl.specs.Formula.{Formula, size, encode, Within}
+use Rattle.ltl.specs.Formula.{Formula, size, encode, Within, Coded}
 use Rattle.ltl.specs.Progression.{unfolded}
 use Rattle.state.specs.Bytes.{nodesOf}
 use Rattle.state.specs.Calls.{firstOf, loadedState}
 use Rattle.cutting.specs.declared.Part.{Part}
-use Rattle.ltl.specs.Limits.{boardsMost, ruleNodesMost}
+use Rattle.limits.specs.Limits.{boardsMost, ruleNodesMost, propositionsMost, holderCodes}
 use Rattle.masks.specs.Masks.{masksRule}
-use Rattle.ltl.specs.Text.{textOf, ruleText, someFormula}
-use Rattle.ltl.proofs.Texts.{RuleText, rule-is, text-of, wider}
+use Rattle.ltl.specs.Decode.{decoded, isRule, someFormula}
+use Rattle.ltl.proofs.Decoding.{RuleText, rule-is, decoded-of, wider}
 use Rattle.rules.specs.declared.reading.Counts.{Counts}
 use Rattle.rules.specs.declared.reading.ReadAnswer.the-variants.{Rule}
 use Rattle.lists.proofs.Listed.{listed-length}
 use Rattle.rules.proofs.Outcomes.{sized, counted, placed, ReadPassed, read-passed}
-use Rattle.rules.specs.RuleFile.{version, formulaAt, countsOk, versionIn, boardsIn, propositionsIn, nodesIn, maskIn, masksIn, formulaIn}
+use Rattle.rules.specs.RuleFile.{version, fileFormulaAt, countsOk, versionInFile, boardsInFile, propositionsInFile, nodesInFile, maskInFile, masksInFile, formulaInFile}
 use Rattle.rules.specs.Read.{offsetsOk, readSays, Reads}
 use Rattle.rules.specs.Read as read
 use Rattle.state.specs.Fields.{stateLength}
-use Rattle.loading.specs.Load.{ruleIn, lengthsOk, loadSays, LoadsRule, Ruled, beginSays, BeginAsk, Begun}
+use Rattle.loading.specs.Load.{ruleIn, loadLengthsOk, loadSays, LoadsRule, Ruled, beginSays, BeginAsk, Begun}
 use Rattle.loading.proofs.Rules.{Cut, Fitting, first-slots, first-nodes}
 
 -- ---- begin
@@ -85,70 +85,70 @@ order-after (c ∷ cs) ds t p = ap (λ b. pick b (inOrder (cs ++ ds) t) (refused
 module _ (file state : List ℕ) where
   load-refusal : (why : Refusal) → loadSays file (length state) ≡ refused (numberOf why) → LoadsRule file state state (Refused why)
   load-refusal why e =
-      let o = loadedState (masksIn file) (ruleIn file) in
+      let o = loadedState (masksInFile file) (ruleIn file) in
       record { says = sym e; leaves = sym (ap (λ (s : Said). left s o state) e ∙ left-refused why o state) }
 
   pub load-length : (length state ≡ stateLength → ⊥) → LoadsRule file state state (Refused Length)
-  unfolding loadSays lengthsOk both
+  unfolding loadSays loadLengthsOk both
   load-length n = load-refusal Length (order-refused 1 _ _ _ (rw (ne-eqb (length state) stateLength n)))
 
   module _ (long : length state ≡ stateLength) where
     -- the checks of the file are those of reading
     abbrev layout-checks : List Check
     layout-checks =
-        check 7 (leb (length (firstOf (masksIn file) (ruleIn file))) 64) ∷ check 8 (leb (nodesOf (firstOf (masksIn file) (ruleIn file))) 4096) ∷ []
+        check 7 (leb (length (firstOf (masksInFile file) (ruleIn file))) 64) ∷ check 8 (leb (nodesOf (firstOf (masksInFile file) (ruleIn file))) 4096) ∷ []
 
     abbrev file-checks : List Check
     file-checks =
-        check 1 (read.lengthsOk file boardsMost ruleNodesMost)
-        ∷ check 2 (eqb (versionIn file) version)
-        ∷ check 3 (countsOk (boardsIn file) (propositionsIn file) (nodesIn file))
+        check 1 (read.readLengthsOk file boardsMost ruleNodesMost)
+        ∷ check 2 (eqb (versionInFile file) version)
+        ∷ check 3 (countsOk (boardsInFile file) (propositionsInFile file) (nodesInFile file))
         ∷ check 4 (offsetsOk file)
-        ∷ check 5 (masksRule (propositionsIn file) (masksIn file))
-        ∷ check 6 (ruleText (propositionsIn file) (formulaIn file))
+        ∷ check 5 (masksRule (propositionsInFile file) (masksInFile file))
+        ∷ check 6 (isRule (propositionsInFile file) (formulaInFile file))
         ∷ []
 
     says-is : loadSays file (length state) ≡ inOrder (file-checks ++ layout-checks) (accepted [])
-    unfolding loadSays lengthsOk both read.lengthsOk
+    unfolding loadSays loadLengthsOk both read.readLengthsOk
     says-is = rw (eq-eqb (length state) stateLength long)
 
     pub load-read : (why : Refusal) → refused (numberOf why) ≡ readSays file boardsMost ruleNodesMost → LoadsRule file state state (Refused why)
     unfolding readSays
-    load-read why e = load-refusal why (says-is ∙ order-more file-checks layout-checks (boardsIn file ∷ propositionsIn file ∷ nodesIn file ∷ []) (accepted []) (numberOf why) (number-some why) (sym e))
+    load-read why e = load-refusal why (says-is ∙ order-more file-checks layout-checks (boardsInFile file ∷ propositionsInFile file ∷ nodesInFile file ∷ []) (accepted []) (numberOf why) (number-some why) (sym e))
 
     -- the file was read
     module _ (passed : ReadPassed file boardsMost ruleNodesMost) where
-      pub load-begun : (state′ : List ℕ) (answer : Outcome) → saidOutcome answer ≡ beginSays (masksIn file) (ruleIn file)
-          → state′ ≡ left (beginSays (masksIn file) (ruleIn file)) (loadedState (masksIn file) (ruleIn file)) state → LoadsRule file state state′ answer
+      pub load-begun : (state′ : List ℕ) (answer : Outcome) → saidOutcome answer ≡ beginSays (masksInFile file) (ruleIn file)
+          → state′ ≡ left (beginSays (masksInFile file) (ruleIn file)) (loadedState (masksInFile file) (ruleIn file)) state → LoadsRule file state state′ answer
       load-begun state′ answer e f =
-          let says : loadSays file (length state) ≡ beginSays (masksIn file) (ruleIn file) =
+          let says : loadSays file (length state) ≡ beginSays (masksInFile file) (ruleIn file) =
           says-is ∙ order-after file-checks layout-checks (accepted []) (passed .lengths, (passed .version, (passed .counts, (passed .offsets, (passed .masks, (passed .formula, tt)))))) in
-          record { says = e ∙ sym says; leaves = f ∙ ap (λ (s : Said). left s (loadedState (masksIn file) (ruleIn file)) state) (sym says) }
+          record { says = e ∙ sym says; leaves = f ∙ ap (λ (s : Said). left s (loadedState (masksInFile file) (ruleIn file)) state) (sym says) }
 
 -- ---- what was read
 module _ (file : List ℕ) (passed : ReadPassed file boardsMost ruleNodesMost) where
-  told : RuleText (propositionsIn file) (formulaIn file)
-  told = rule-is (propositionsIn file) (formulaIn file) (passed .formula)
+  told : RuleText (propositionsInFile file) (formulaInFile file)
+  told = rule-is (propositionsInFile file) (formulaInFile file) (passed .formula)
 
-  coded : (f : Formula) → Within (propositionsIn file) 0 f → Within 64 64 f
-  coded f = let c = counted (boardsIn file) (propositionsIn file) (nodesIn file) (passed .counts) in wider (propositionsIn file) 0 64 64 (c .propositions-few) (omega arith) f
+  coded : (f : Formula) → Within (propositionsInFile file) 0 f → Coded f
+  coded f = let c = counted (boardsInFile file) (propositionsInFile file) (nodesInFile file) (passed .counts) in wider (propositionsInFile file) 0 propositionsMost holderCodes (c .propositions-few) (omega arith) f
 
   same : ruleIn file ≡ told .formula
-  same = ap someFormula (ap textOf (told .bytes) ∙ text-of (told .formula) (coded (told .formula) (told .within)))
+  same = ap someFormula (ap decoded (told .bytes) ∙ decoded-of (told .formula) (coded (told .formula) (told .within)))
 
   -- the rule is one of the file's propositions
-  pub read-within : Within (propositionsIn file) 0 (ruleIn file)
-  read-within = subst (Within (propositionsIn file) 0) (sym same) (told .within)
+  pub read-within : Within (propositionsInFile file) 0 (ruleIn file)
+  read-within = subst (Within (propositionsInFile file) 0) (sym same) (told .within)
 
-  pub read-ruled : Ruled (masksIn file) (formulaIn file) (ruleIn file)
+  pub read-ruled : Ruled (masksInFile file) (formulaInFile file) (ruleIn file)
   read-ruled =
       let z = sized file boardsMost ruleNodesMost (passed .lengths) in
-      let c = counted (boardsIn file) (propositionsIn file) (nodesIn file) (passed .counts) in
+      let c = counted (boardsInFile file) (propositionsInFile file) (nodesInFile file) (passed .counts) in
       let o = placed file (passed .offsets) in
-      let d = length-drop (formulaAt (boardsIn file)) file in
-      let l = listed-length (maskIn file) (boardsIn file) in
+      let d = length-drop (fileFormulaAt (boardsInFile file)) file in
+      let l = listed-length (maskInFile file) (boardsInFile file) in
       record {
-        propositions = propositionsIn file;
+        propositions = propositionsInFile file;
         few-propositions = c .propositions-few;
         few-boards = omega arith;
         follow = passed .masks;
@@ -162,14 +162,14 @@ pub record Read (file masks′ formula′ : List ℕ) (c : Counts) : Type 0 wher
   pub passed : ReadPassed file boardsMost ruleNodesMost
   pub boards-few : c .boards ≤ boardsMost
   pub nodes-few : c .nodes ≤ ruleNodesMost
-  pub masks-are : take (c .boards) masks′ ≡ masksIn file
-  pub formula-is : take (c .nodes) formula′ ≡ formulaIn file
+  pub masks-are : take (c .boards) masks′ ≡ masksInFile file
+  pub formula-is : take (c .nodes) formula′ ≡ formulaInFile file
 
 module _ {file masks formula masks′ formula′ : List ℕ} {c : Counts} (m : length masks ≡ boardsMost) (f : length formula ≡ ruleNodesMost) (r : Reads file masks formula masks′ formula′ (Rule c)) where
   passed : ReadPassed file boardsMost ruleNodesMost
   passed = read-passed file boardsMost ruleNodesMost (ap (λ (s : Said). s .number) (sym (r .says ∙ ap₂ (readSays file) m f)))
 
-  says-read : readSays file (length masks) (length formula) ≡ accepted (boardsIn file ∷ propositionsIn file ∷ nodesIn file ∷ [])
+  says-read : readSays file (length masks) (length formula) ≡ accepted (boardsInFile file ∷ propositionsInFile file ∷ nodesInFile file ∷ [])
   unfolding readSays
   says-read =
       ap₂ (readSays file) m f
@@ -182,10 +182,10 @@ module _ {file masks formula masks′ formula′ : List ℕ} {c : Counts} (m : l
       ∙ order-done _
 
   -- the answer's counts
-  boards-are : c .boards ≡ boardsIn file
+  boards-are : c .boards ≡ boardsInFile file
   boards-are = ap (λ (s : Said). getD (s .values) 0 0) (r .says ∙ says-read)
 
-  nodes-are : c .nodes ≡ nodesIn file
+  nodes-are : c .nodes ≡ nodesInFile file
   nodes-are = ap (λ (s : Said). getD (s .values) 2 0) (r .says ∙ says-read)
 
   -- the front of a lent output
@@ -195,18 +195,18 @@ module _ {file masks formula masks′ formula′ : List ℕ} {c : Counts} (m : l
 
   pub read-whole : Read file masks′ formula′ c
   read-whole =
-      let n = counted (boardsIn file) (propositionsIn file) (nodesIn file) (passed .counts) in
+      let n = counted (boardsInFile file) (propositionsInFile file) (nodesInFile file) (passed .counts) in
       let z = sized file boardsMost ruleNodesMost (passed .lengths) in
       let o = placed file (passed .offsets) in
-      let d = length-drop (formulaAt (boardsIn file)) file in
+      let d = length-drop (fileFormulaAt (boardsInFile file)) file in
       let b = boards-are in
       let k = nodes-are in
       record {
         passed = passed;
         boards-few = omega arith;
         nodes-few = omega arith;
-        masks-are = output-front (masksIn file) masks masks′ (c .boards) boardsMost (r .leaves-masks) (listed-length (maskIn file) (boardsIn file) ∙ sym b);
-        formula-is = output-front (formulaIn file) formula formula′ (c .nodes) ruleNodesMost (r .leaves-formula) (omega arith);
+        masks-are = output-front (masksInFile file) masks masks′ (c .boards) boardsMost (r .leaves-masks) (listed-length (maskInFile file) (boardsInFile file) ∙ sym b);
+        formula-is = output-front (formulaInFile file) formula formula′ (c .nodes) ruleNodesMost (r .leaves-formula) (omega arith);
       }
 
 module _ {file masks′ formula′ : List ℕ} {c : Counts} {state : List ℕ} (long : length state ≡ stateLength) (r : Read file masks′ formula′ c) where

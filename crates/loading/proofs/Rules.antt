@@ -1,5 +1,5 @@
 -- A rule that was read, and its layout: the board of its first slot (`first-rests`), how many slots and nodes it has (`first-slots`,
--- `first-nodes`), and that its marked bytes are laid out to it (`first-laid`). Assumes nothing.
+-- `first-nodes`), and that its tagged bytes are laid out to it (`first-laid`). Assumes nothing.
 use mathlib.Core.Path.{_≡_, refl, sym, ap, _∙_}
 use mathlib.Core.Bool.{Bool, true, false}
 use mathlib.Core.List.{List, [], _++_, append-nil}
@@ -16,10 +16,10 @@ use Rattle.kinds.specs.declared.Leaf.{Leaf}
 use Rattle.kinds.specs.declared.Leaf.the-variants.{Const, Prop, Hold}
 use Rattle.kinds.specs.Kinds.{leafWithin, leafCode}
 use Rattle.kinds.proofs.Codes.{unary-low, binary-low}
-use Rattle.ltl.specs.Limits.{boardsMost}
+use Rattle.limits.specs.Limits.{boardsMost, propositionsMost, holderCodes}
 use Rattle.ltl.specs.Formula.{Formula, leaf, one, two, size, encode, Within}
 use Rattle.ltl.specs.Progression.{unfolded}
-use Rattle.ltl.proofs.Texts.{length-encode, unfolded-coded}
+use Rattle.ltl.proofs.Decoding.{length-encode, unfolded-coded}
 use Rattle.network.specs.Scores.{highest, chosen}
 use Rattle.network.specs.Layout.{noHold, orZero, load}
 use Rattle.network.proofs.Owned.{unfolded-free}
@@ -36,8 +36,8 @@ use Rattle.cutting.specs.Cuts.{codeOf, cutsOn, Rests, Parted}
 use Rattle.cutting.proofs.Choices.{chosen-below}
 use Rattle.cutting.proofs.Nodes.{unfolded-few}
 use Rattle.nodes.specs.Begins.{Front}
-use Rattle.marking.specs.declared.Placed.{Placed}
-use Rattle.marking.specs.Marks.{MarkedAs}
+use Rattle.tagging.specs.declared.Placed.{Placed}
+use Rattle.tagging.specs.Tags.{TaggedAs}
 use Rattle.laying.specs.Lays.{Source}
 use Rattle.laying.proofs.Boarding.{on-board}
 use Rattle.laying.proofs.Counting.{held, held-none, laid-slots, laid-nodes}
@@ -123,9 +123,9 @@ module _ {masks bytes : List ℕ} {rule : Formula} (r : Ruled masks bytes rule) 
   pub first-large : size (unfolded rule) ≤ nodesOf (firstOf masks rule)
   first-large = omega (arith, laid-out-nodes)
 
-  -- the marked bytes are laid out to it
-  module _ (owner : List ℕ) (owned : Owned (r .propositions) masks owner) (marks : List ℕ) (y : Placed) (m : MarkedAs owner (unfolded rule) first-board marks y) (long : size (unfolded rule) ≤ length marks) where
-    first-source : Source choose noHold (encode (unfolded rule)) marks
+  -- the tagged bytes are laid out to it
+  module _ (owner : List ℕ) (owned : Owned (r .propositions) masks owner) (tags : List ℕ) (y : Placed) (m : TaggedAs owner (unfolded rule) first-board tags y) (long : size (unfolded rule) ≤ length tags) where
+    first-source : Source choose noHold (encode (unfolded rule)) tags
     first-source =
         record {
           long = let e = length-encode (unfolded rule) in omega arith;
@@ -135,9 +135,9 @@ module _ {masks bytes : List ℕ} {rule : Formula} (r : Ruled masks bytes rule) 
         }
 
     first-front : Front (encode (unfolded rule)) (unfolded rule) []
-    first-front = record { coded = unfolded-coded 64 64 rule (r .front .coded); bytes = sym (append-nil (encode (unfolded rule))) }
+    first-front = record { coded = unfolded-coded propositionsMost holderCodes rule (r .front .coded); bytes = sym (append-nil (encode (unfolded rule))) }
 
-    pub first-laid : LaidOut (encode (unfolded rule)) marks (firstOf masks rule)
+    pub first-laid : LaidOut (encode (unfolded rule)) tags (firstOf masks rule)
     unfolding load
     first-laid =
         record {

@@ -8,15 +8,15 @@ use lib.Dec.{leb, eqb}
 use Rattle.lists.specs.Tests.{both}
 use Rattle.answers.specs.Said.{Said, accepted, left, check, inOrder, saidOutcome}
 use Rattle.answers.specs.declared.Outcome.{Outcome}
-use Rattle.ltl.specs.Limits.{boardsMost, propositionsMost, ruleNodesMost, nodesMost}
+use Rattle.limits.specs.Limits.{boardsMost, propositionsMost, ruleNodesMost, nodesMost}
 use Rattle.ltl.specs.Formula.{Formula, Within}
-use Rattle.ltl.specs.Text.{textOf, ruleText, someFormula}
+use Rattle.ltl.specs.Decode.{decoded, isRule, someFormula}
 use Rattle.masks.specs.Masks.{masksRule}
 use Rattle.network.specs.Layout.{orZero}
 use Rattle.network.specs.Scores.{chosen}
 use Rattle.ltl.specs.Progression.{unfolded}
 use Rattle.nodes.specs.Begins.{Front}
-use Rattle.rules.specs.RuleFile.{version, masksAt, countsOk, versionIn, boardsIn, propositionsIn, nodesIn, totalIn, masksIn, formulaIn}
+use Rattle.rules.specs.RuleFile.{version, masksAt, countsOk, versionInFile, boardsInFile, propositionsInFile, nodesInFile, totalInFile, masksInFile, formulaInFile}
 use Rattle.rules.specs.Read.{offsetsOk}
 use Rattle.scores.specs.Owned.{Table, Owned}
 use Rattle.state.specs.Fields.{stateLength}
@@ -27,29 +27,29 @@ use Rattle.state.specs.Calls.{firstOf, loadedState}
 -- ---- the promise
 -- the rule that a file has; what a file that has none would give does not matter, since it is refused
 abbrev pub ruleIn : List ℕ → Formula
-ruleIn file = someFormula (textOf (formulaIn file))
+ruleIn file = someFormula (decoded (formulaInFile file))
 
 -- 1: the state has its length, and the file has at least a header and the length of its total
-unfoldable pub lengthsOk : List ℕ → ℕ → Bool
-lengthsOk file room = both (eqb room stateLength) (both (leb masksAt (length file)) (eqb (length file) (totalIn file)))
+unfoldable pub loadLengthsOk : List ℕ → ℕ → Bool
+loadLengthsOk file room = both (eqb room stateLength) (both (leb masksAt (length file)) (eqb (length file) (totalInFile file)))
 
 unfoldable pub loadSays : List ℕ → ℕ → Said
 loadSays file room =
     inOrder
-    (check 1 (lengthsOk file room)
-    ∷ check 2 (eqb (versionIn file) version)
-    ∷ check 3 (countsOk (boardsIn file) (propositionsIn file) (nodesIn file))
+    (check 1 (loadLengthsOk file room)
+    ∷ check 2 (eqb (versionInFile file) version)
+    ∷ check 3 (countsOk (boardsInFile file) (propositionsInFile file) (nodesInFile file))
     ∷ check 4 (offsetsOk file)
-    ∷ check 5 (masksRule (propositionsIn file) (masksIn file))
-    ∷ check 6 (ruleText (propositionsIn file) (formulaIn file))
-    ∷ check 7 (leb (length (firstOf (masksIn file) (ruleIn file))) slotsMost)
-    ∷ check 8 (leb (nodesOf (firstOf (masksIn file) (ruleIn file))) nodesMost)
+    ∷ check 5 (masksRule (propositionsInFile file) (masksInFile file))
+    ∷ check 6 (isRule (propositionsInFile file) (formulaInFile file))
+    ∷ check 7 (leb (length (firstOf (masksInFile file) (ruleIn file))) slotsMost)
+    ∷ check 8 (leb (nodesOf (firstOf (masksInFile file) (ruleIn file))) nodesMost)
     ∷ [])
     (accepted [])
 
 pub record LoadsRule (file state state′ : List ℕ) (answer : Outcome) : Type 0 where
   pub says : saidOutcome answer ≡ loadSays file (length state)
-  pub leaves : state′ ≡ left (loadSays file (length state)) (loadedState (masksIn file) (ruleIn file)) state
+  pub leaves : state′ ≡ left (loadSays file (length state)) (loadedState (masksInFile file) (ruleIn file)) state
 
 -- ---- what the functions below the call ask and give
 -- masks that follow their rule, and a rule of their propositions
@@ -78,7 +78,7 @@ Begun masks bytes state state′ answer =
     → (saidOutcome answer ≡ beginSays masks rule) × (state′ ≡ left (beginSays masks rule) (loadedState masks rule) state)
 
 -- the layout is within the limits, and the board is the first slot's
-pub record FirstAsk (state masks bytes owner : List ℕ) (board slots nodes : ℕ) (u marks : List ℕ) : Type 0 where
+pub record FirstAsk (state masks bytes owner : List ℕ) (board slots nodes : ℕ) (u tags : List ℕ) : Type 0 where
   pub rule : Formula
   pub ruled : Ruled masks bytes rule
   pub long : length state ≡ stateLength
@@ -90,7 +90,7 @@ pub record FirstAsk (state masks bytes owner : List ℕ) (board slots nodes : �
   pub few-slots : slots ≤ slotsMost
   pub few-nodes : nodes ≤ nodesMost
   pub u-long : length u ≡ nodesMost
-  pub marks-long : length marks ≡ nodesMost
+  pub tags-long : length tags ≡ nodesMost
 
 abbrev pub Firsts : List ℕ → List ℕ → List ℕ → Type 0
 Firsts masks bytes state′ = (rule : Formula) → Ruled masks bytes rule → state′ ≡ loadedState masks rule

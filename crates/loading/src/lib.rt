@@ -1,9 +1,9 @@
 // The call `load`: a watch begun from a rule file. The rule is read as `read` does; its layout is counted as it stands, and only
-// where it is within the limits it is unfolded, marked and laid out into the state.
+// where it is within the limits it is unfolded, tagged and laid out into the state.
 ghost use mathlib.Core.Path.{_≡_};
 ghost use lib.Dec.{eqb};
 ghost use Rattle.lists.specs.Tests.{pick};
-ghost use Rattle.ltl.specs.Limits.{boardsMost};
+ghost use Rattle.limits.specs.Limits.{boardsMost};
 ghost use Rattle.loading.specs.Load.{FirstAsk, Firsts, BeginAsk, Begun, LoadsRule};
 use answers::Outcome;
 use answers::Refusal;
@@ -22,7 +22,7 @@ fn first_board(choice: u8) -> u8
     if choice == STAYS { 0 } else { choice }
 }
 
-// Unfolds the rule into u, marks it on its board, and lays it out into the state.
+// Unfolds the rule into u, tags it on its board, and lays it out into the state.
 fn put_first(
     state: &mut [u8],
     masks: &[u64],
@@ -32,14 +32,14 @@ fn put_first(
     slots: usize,
     nodes: usize,
     u: &mut [u8],
-    marks: &mut [u32],
+    tags: &mut [u32],
 )
-    requires { ⌜ FirstAsk (now state) (now masks) (now rule) (now owner) board slots nodes (now u) (now marks) ⌝ }
+    requires { ⌜ FirstAsk (now state) (now masks) (now rule) (now owner) board slots nodes (now u) (now tags) ⌝ }
     ensures { λ _. ⌜ Firsts (now (masks .entry)) (now (rule .entry)) (now (state .exit)) ⌝ }
 {
     let n = unfolding::unfold_into(u, rule).written;
-    marking::mark(&u[..n], marks, owner, board);
-    storing::put_state(state, masks, slots, nodes, 0, &u[..n], marks);
+    tagging::tag(&u[..n], tags, owner, board);
+    storing::put_state(state, masks, slots, nodes, 0, &u[..n], tags);
 }
 
 // Begins a watch with a rule that was read: 7 and 8 by the whole layout, however large, then its state.
@@ -60,7 +60,7 @@ fn begin(masks: &[u64], rule: &[u8], state: &mut [u8]) -> Outcome
     }
     let board = first_board(part.choice);
     let mut u = [0u8; NODES_MOST];
-    let mut marks = [0u32; NODES_MOST];
+    let mut tags = [0u32; NODES_MOST];
     put_first(
         state,
         masks,
@@ -70,7 +70,7 @@ fn begin(masks: &[u64], rule: &[u8], state: &mut [u8]) -> Outcome
         slots,
         nodes,
         &mut u,
-        &mut marks,
+        &mut tags,
     );
     Outcome::Done
 }

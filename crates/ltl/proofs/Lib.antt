@@ -1,5 +1,5 @@
 -- Laws of the rule language, and the soundness of progression.
 pub mod Equal
-pub mod Texts
+pub mod Decoding
 pub mod Joining
 pub mod Soundness

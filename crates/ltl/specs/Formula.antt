@@ -5,6 +5,7 @@ use mathlib.Core.Bool.{Bool, true, false}
 use mathlib.Core.List.{List, [], _∷_, _++_}
 use lib.Dec.{eqb, ltb}
 use Rattle.lists.specs.Tests.{both}
+use Rattle.limits.specs.Limits.{propositionsMost, holderCodes}
 use Rattle.kinds.specs.declared.Leaf.{Leaf}
 use Rattle.kinds.specs.declared.Leaf.the-variants.{Const, Prop, Hold}
 use Rattle.kinds.specs.declared.Unary.{Unary}
@@ -81,6 +82,10 @@ abbrev pub Within : ℕ → ℕ → Formula → Type 0
 Within p s (leaf a) = leafWithin p s a
 Within p s (one o f) = Within p s f
 Within p s (two o f g) = Within p s f × Within p s g
+
+-- every number has a code
+abbrev pub Coded : Formula → Type 0
+Coded f = Within propositionsMost holderCodes f
 
 -- the same as a test
 unfoldable pub leafOver : ℕ → ℕ → Leaf → Bool

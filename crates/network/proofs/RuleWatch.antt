@@ -9,7 +9,7 @@ use mathlib.Core.Logic.{_⊎_}
 use Prim.Native.Nat.{ℕ, _≤_}
 use lib.ListN.{length, replicate}
 use Rattle.answers.specs.declared.Verdict.the-variants.{False, True}
-use Rattle.ltl.specs.Limits.{propositionsMost}
+use Rattle.limits.specs.Limits.{propositionsMost}
 use Rattle.ltl.specs.Formula.{Formula, Within}
 use Rattle.ltl.specs.Meaning.{Event, Trace, Satisfies, continued}
 use Rattle.ltl.specs.Progression.{progressedOver, verdictOf}

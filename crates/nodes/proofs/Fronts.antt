@@ -13,10 +13,10 @@ use Rattle.kinds.specs.declared.Unary.{Unary}
 use Rattle.kinds.specs.declared.Binary.{Binary}
 use Rattle.kinds.specs.declared.Kind.{Kind}
 use Rattle.kinds.specs.declared.Kind.the-variants.{Zero, One, Two, NoCode}
-use Rattle.kinds.specs.Kinds.{leafWithin, kindOf, leafCode, unaryCode, binaryCode}
+use Rattle.kinds.specs.Kinds.{kindOf, leafCode, unaryCode, binaryCode, leafCoded}
 use Rattle.kinds.proofs.Codes.{kind-leaf, kind-unary, kind-binary}
 use Rattle.ltl.specs.Formula.{Formula, leaf, one, two, size, encode}
-use Rattle.ltl.proofs.Texts.{size-some, length-encode, one-way}
+use Rattle.ltl.proofs.Decoding.{size-some, length-encode, one-way}
 use Rattle.nodes.specs.Begins.{Front, Begins}
 
 -- ---- how long
@@ -43,7 +43,7 @@ front-begins {f = f} {rest = rest} x = record { formula = f; rest = rest; front 
 
 -- ---- a formula in front, by the kind of its first byte
 pub data Parts (s rest : List ℕ) : Formula → Kind → Type 0 where
-  isZero : {a : Leaf} → leafWithin 64 64 a → s ≡ leafCode a ∷ rest → Parts s rest (leaf a) (Zero a)
+  isZero : {a : Leaf} → leafCoded a → s ≡ leafCode a ∷ rest → Parts s rest (leaf a) (Zero a)
   isOne : {o : Unary} {f : Formula} → s ≡ unaryCode o ∷ drop 1 s → Front (drop 1 s) f rest → Parts s rest (one o f) (One o)
   isTwo : {o : Binary} {f g : Formula} → s ≡ binaryCode o ∷ drop 1 s → Front (drop 1 s) f (encode g ++ rest) → Front (drop (1 + size f) s) g rest → Parts s rest (two o f g) (Two o)
 
@@ -137,7 +137,7 @@ double {s = s} {rest = rest} (isTwo {o = o} {f = g} {g = h} e y z) =
 pub zero-size : {s rest : List ℕ} {f : Formula} {a : Leaf} → Parts s rest f (Zero a) → 1 ≡ size f
 zero-size (isZero w e) = refl
 
-pub leaf-within : {s rest : List ℕ} {f : Formula} {a : Leaf} → Parts s rest f (Zero a) → leafWithin 64 64 a
+pub leaf-within : {s rest : List ℕ} {f : Formula} {a : Leaf} → Parts s rest f (Zero a) → leafCoded a
 leaf-within (isZero w e) = w
 
 pub no-code : {s rest : List ℕ} {f : Formula} → Parts s rest f NoCode → ⊥

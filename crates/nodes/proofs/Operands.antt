@@ -13,7 +13,7 @@ use Rattle.kinds.specs.declared.Kind.{Kind}
 use Rattle.kinds.specs.declared.Kind.the-variants.{One, Two}
 use Rattle.kinds.specs.Kinds.{kindOf}
 use Rattle.ltl.specs.Formula.{Formula, size}
-use Rattle.ltl.proofs.Texts.{size-some}
+use Rattle.ltl.proofs.Decoding.{size-some}
 use Rattle.nodes.specs.Begins.{Front}
 use Rattle.nodes.proofs.Fronts.{front-length, parts-as, Single, single, Double, double}
 

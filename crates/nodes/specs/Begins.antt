@@ -3,11 +3,11 @@
 use mathlib.Core.Path.{_≡_}
 use Prim.Native.Nat.{ℕ}
 use mathlib.Core.List.{List, _++_}
-use Rattle.ltl.specs.Formula.{Formula, size, encode, Within}
+use Rattle.ltl.specs.Formula.{Formula, size, encode, Coded}
 
 -- the bytes are those of f, with `rest` behind them
 pub record Front (s : List ℕ) (f : Formula) (rest : List ℕ) : Type 0 where
-  pub coded : Within 64 64 f
+  pub coded : Coded f
   pub bytes : s ≡ encode f ++ rest
 
 -- the bytes begin with a formula

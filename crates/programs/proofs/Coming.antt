@@ -10,7 +10,7 @@ use borrow.Author.Tests.{lt-ltb, le-ltb, eq-eqb, ne-eqb, ltb-false}
 use Rattle.lists.specs.Tests.{pick}
 use Rattle.lists.proofs.Tests.{pick-elim}
 use Rattle.le.specs.Le.{leAt}
-use Rattle.rules.specs.RuleFile.{totalIn}
+use Rattle.rules.specs.RuleFile.{totalInFile}
 use Rattle.programs.specs.declared.came.Next.{Next}
 use Rattle.programs.specs.declared.came.Next.the-variants.{End, Leftover, Event}
 use Rattle.programs.specs.Came.{toldLength, fileLength, nextIn}
@@ -20,7 +20,7 @@ pub told-short : (s : List ℕ) → length s < 16 → 0 ≡ toldLength s
 unfolding toldLength pick
 told-short s h = rw (lt-ltb (length s) 16 h)
 
-module _ (s : List ℕ) (t : ℕ) (whole : 16 ≤ length s) (is : t ≡ totalIn s) where
+module _ (s : List ℕ) (t : ℕ) (whole : 16 ≤ length s) (is : t ≡ totalInFile s) where
   pub told-under : t < 16 → 0 ≡ toldLength s
   unfolding toldLength pick
   told-under h = rw (le-ltb (length s) 16 whole, sym is, lt-ltb t 16 h)

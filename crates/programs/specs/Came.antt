@@ -5,13 +5,13 @@ use lib.ListN.{length}
 use lib.Dec.{eqb, ltb}
 use Rattle.lists.specs.Tests.{pick}
 use Rattle.le.specs.Le.{leAt}
-use Rattle.rules.specs.RuleFile.{masksAt, fileMost, totalIn}
+use Rattle.rules.specs.RuleFile.{masksAt, fileMost, totalInFile}
 use Rattle.programs.specs.declared.came.Next.{Next}
 use Rattle.programs.specs.declared.came.Next.the-variants.{End, Leftover, Event}
 
 -- the file's length as its header tells it: 0 where the header is not whole, or the total is below the header's length or above the most
 unfoldable pub toldLength : List ℕ → ℕ
-toldLength s = pick (ltb (length s) masksAt) 0 (pick (ltb (totalIn s) masksAt) 0 (pick (ltb fileMost (totalIn s)) 0 (totalIn s)))
+toldLength s = pick (ltb (length s) masksAt) 0 (pick (ltb (totalInFile s) masksAt) 0 (pick (ltb fileMost (totalInFile s)) 0 (totalInFile s)))
 
 -- the length of the file in front of the bytes that came: 0 where it is not all there
 unfoldable pub fileLength : List ℕ → ℕ

@@ -118,7 +118,7 @@ fn await_event(piece: &mut [u8], hand: Hand) -> Came
     if EVENT <= rest {
         return Came::Bytes(hand);
     }
-    runs::slide(piece, from, rest);
+    buffers::slide(piece, from, rest);
     fill(piece, rest, EVENT)
 }
 

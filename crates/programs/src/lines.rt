@@ -14,7 +14,7 @@ fn text(line: &mut [u8], at: usize, text: &[u8]) -> usize
     requires { ⌜ at + length (now text) ≤ length (now line) ⌝ }
     ensures { λ r. ⌜ Adds (now (text .entry)) (now (line .entry)) at (now (line .exit)) r ⌝ }
 {
-    runs::copy(&mut line[at..], text);
+    buffers::copy(&mut line[at..], text);
     at + text.len()
 }
 

@@ -14,7 +14,7 @@ fn keep(kept: &mut [u8], fresh: &[u8], c: usize) {
     if kept.len() < c || fresh.len() < c {
         return;
     }
-    runs::copy(kept, &fresh[0..c]);
+    buffers::copy(kept, &fresh[0..c]);
 }
 
 // The answer line of a call that has no values and is lent this state alone: whether it was accepted.

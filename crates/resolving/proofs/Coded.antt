@@ -1,6 +1,6 @@
 -- Resolving keeps every number of a proposition or place holder below 64, so that its result has a code. Assumes nothing.
 use mathlib.Core.Path.{_≡_, refl, sym, subst}
-use Rattle.kinds.specs.Kinds.{leafWithin}
+use Rattle.kinds.specs.Kinds.{leafCoded}
 use Rattle.kinds.specs.declared.Leaf.{Leaf}
 use Rattle.kinds.specs.declared.Leaf.the-variants.{Const, Prop, Hold}
 use Rattle.kinds.specs.declared.Unary.the-variants.{Not, Next, Eventually, Always}
@@ -8,7 +8,7 @@ use Rattle.kinds.specs.declared.Join.{Join}
 use Rattle.kinds.specs.declared.Binary.the-variants.{Joined, Until}
 use Rattle.answers.specs.declared.Verdict.{Verdict}
 use Rattle.answers.specs.declared.Verdict.the-variants.{False, True, Pending}
-use Rattle.ltl.specs.Formula.{Formula, leaf, one, two, Within}
+use Rattle.ltl.specs.Formula.{Formula, leaf, one, two, Coded}
 use Rattle.ltl.specs.Progression.{negated, joined, resolved, filledBy}
 use Rattle.ltl.proofs.Joining.{joined-elim, negated-elim}
 use Rattle.resolving.specs.declared.Seen.{Seen}
@@ -25,24 +25,24 @@ settled-leaf seen (Hold k) = go (heldBy seen k)
     go False = refl
     go Pending = refl
 
-leaf-coded : (seen : Seen) (a : Leaf) → leafWithin 64 64 a → leafWithin 64 64 (settledLeaf seen a)
+leaf-coded : (seen : Seen) (a : Leaf) → leafCoded a → leafCoded (settledLeaf seen a)
 leaf-coded seen (Const v) w = tt
 leaf-coded seen (Prop i) w = tt
 leaf-coded seen (Hold k) w = go (heldBy seen k)
   where
-    go : (v : Verdict) → leafWithin 64 64 (filledBy v k)
+    go : (v : Verdict) → leafCoded (filledBy v k)
     go True = tt
     go False = tt
     go Pending = w
 
-joined-coded : (j : Join) (l r : Formula) → Within 64 64 l → Within 64 64 r → Within 64 64 (joined j l r)
-joined-coded j l r v w = joined-elim (λ x. Within 64 64 x) j l r (λ e. tt) (λ e. tt) (λ e. w) (λ e. v) (λ m. w) (v, w)
+joined-coded : (j : Join) (l r : Formula) → Coded l → Coded r → Coded (joined j l r)
+joined-coded j l r v w = joined-elim (λ x. Coded x) j l r (λ e. tt) (λ e. tt) (λ e. w) (λ e. v) (λ m. w) (v, w)
 
-negated-coded : (f : Formula) → Within 64 64 f → Within 64 64 (negated f)
-negated-coded f w = negated-elim (λ x. Within 64 64 x) f (λ e. tt) (λ e. tt) w
+negated-coded : (f : Formula) → Coded f → Coded (negated f)
+negated-coded f w = negated-elim (λ x. Coded x) f (λ e. tt) (λ e. tt) w
 
-pub settled-coded : (seen : Seen) (f : Formula) → Within 64 64 f → Within 64 64 (settled seen f)
-settled-coded seen (leaf a) w = subst (λ (x : Formula). Within 64 64 x) (sym (settled-leaf seen a)) (leaf-coded seen a w)
+pub settled-coded : (seen : Seen) (f : Formula) → Coded f → Coded (settled seen f)
+settled-coded seen (leaf a) w = subst (λ (x : Formula). Coded x) (sym (settled-leaf seen a)) (leaf-coded seen a w)
 settled-coded seen (one Not f) w = negated-coded (settled seen f) (settled-coded seen f w)
 settled-coded seen (one Next f) w = w
 settled-coded seen (one Eventually f) w = w

@@ -15,19 +15,19 @@ use Rattle.kinds.specs.declared.Join.{Join}
 use Rattle.kinds.specs.declared.Binary.the-variants.{Joined, Until}
 use Rattle.kinds.specs.Kinds.{kindOf, joinCode}
 use Rattle.kinds.proofs.Codes.{kind-binary}
-use Rattle.ltl.specs.Formula.{Formula, leaf, one, two, join, sameJoin, same, size, encode, Within}
+use Rattle.ltl.specs.Formula.{Formula, leaf, one, two, join, sameJoin, same, size, encode, Coded}
 use Rattle.ltl.specs.Progression.{member}
 use Rattle.ltl.proofs.Equal.{same-eq, same-refl, join-eq}
-use Rattle.ltl.proofs.Texts.{one-way}
-use Rattle.runs.specs.Starts.{starts}
-use Rattle.runs.proofs.Turns.{starts-is, starts-of}
+use Rattle.ltl.proofs.Decoding.{one-way}
+use Rattle.buffers.specs.Starts.{starts}
+use Rattle.buffers.proofs.Turns.{starts-is, starts-of}
 use Rattle.nodes.specs.Begins.{Front, Begins, Ends}
 use Rattle.nodes.proofs.Fronts.{front-length, front-tail, begins-tail, front-one-way}
 use Rattle.resolving.specs.Settles.{Compared, Comparable, IsMember}
 use Rattle.resolving.proofs.Firsts.{first, first-is}
 use Rattle.resolving.proofs.Standing.{placed, first-at, DoubleAt, double-at, double-second}
 
-starts-same : (f h : Formula) (rest : List ℕ) → Within 64 64 f → Within 64 64 h → starts (encode f) (encode h ++ rest) ≡ same f h
+starts-same : (f h : Formula) (rest : List ℕ) → Coded f → Coded h → starts (encode f) (encode h ++ rest) ≡ same f h
 starts-same f h rest v w = test-eq (starts (encode f) (encode h ++ rest)) (same f h) there back
   where
     there : starts (encode f) (encode h ++ rest) ≡ true → same f h ≡ true

@@ -8,7 +8,7 @@ use lib.ListN.{take-append-drop, length, getD, set, take, drop, length-append, l
 use lib.Seq.{drop-at, drop-drop, length-take-le, getD-append-add}
 use Rattle.lists.proofs.Stretches.{none-long}
 use Rattle.ltl.specs.Formula.{Formula, size, encode}
-use Rattle.ltl.proofs.Texts.{size-some, length-encode}
+use Rattle.ltl.proofs.Decoding.{size-some, length-encode}
 use Rattle.resolving.specs.declared.Settled.{Settled}
 use Rattle.resolving.specs.Settles.{Stands}
 use Rattle.resolving.proofs.Firsts.{first, first-is}

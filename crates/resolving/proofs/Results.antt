@@ -9,7 +9,7 @@ use lib.Seq.{take-at, drop-at}
 use Rattle.lists.specs.Runs.{tail, padded}
 use Rattle.lists.proofs.Parts.{tail-is, handed-tail}
 use Rattle.ltl.specs.Formula.{Formula, size, encode}
-use Rattle.ltl.proofs.Texts.{size-some, length-encode}
+use Rattle.ltl.proofs.Decoding.{size-some, length-encode}
 use Rattle.nodes.specs.Begins.{Front, Begins}
 use Rattle.resolving.specs.declared.Seen.{Seen}
 use Rattle.resolving.specs.declared.Settled.{Settled}

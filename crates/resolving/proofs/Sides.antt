@@ -12,7 +12,7 @@ use Rattle.kinds.specs.declared.Join.{Join}
 use Rattle.kinds.specs.Kinds.{leafCode}
 use Rattle.ltl.specs.Formula.{Formula, constant, join, size, encode}
 use Rattle.ltl.specs.Progression.{isConstant, deciding, joined}
-use Rattle.ltl.proofs.Texts.{size-some, length-encode}
+use Rattle.ltl.proofs.Decoding.{size-some, length-encode}
 use Rattle.resolving.specs.declared.Settled.{Settled}
 use Rattle.resolving.specs.Settles.{Stands, Settles, Sides, Compared, Comparable, IsMember}
 use Rattle.resolving.proofs.Firsts.{first, first-constant, first-other, first-pending, joined-right, joined-keep, joined-member, joined-both}

@@ -13,8 +13,8 @@ use Rattle.kinds.specs.declared.Binary.{Binary}
 use Rattle.kinds.specs.declared.Kind.{Kind}
 use Rattle.kinds.specs.declared.Kind.the-variants.{One, Two}
 use Rattle.kinds.specs.Kinds.{kindOf}
-use Rattle.ltl.specs.Formula.{Formula, one, two, size, encode, Within}
-use Rattle.ltl.proofs.Texts.{size-some}
+use Rattle.ltl.specs.Formula.{Formula, one, two, size, encode, Coded}
+use Rattle.ltl.proofs.Decoding.{size-some}
 use Rattle.nodes.specs.Begins.{Front}
 use Rattle.nodes.proofs.Fronts.{Parts, parts-as, single, double, front-length, front-rest}
 
@@ -54,7 +54,7 @@ pub record DoubleAt (p : List ℕ) (from : ℕ) (f : Formula) (rest : List ℕ) 
   pub right : Formula
   pub same : f ≡ two o left right
   pub front : Front (drop (from + 1) p) left (encode right ++ rest)
-  pub coded : Within 64 64 right
+  pub coded : Coded right
 
 -- by the kind that the code found there, and the variant that it was matched with
 module _ (p : List ℕ) (from : ℕ) {f : Formula} {rest : List ℕ} (x : Front (drop from p) f rest) {r : Kind} (e : r ≡ kindOf (getD p from 0)) where

@@ -18,7 +18,7 @@ use Rattle.kinds.specs.declared.Kind.the-variants.{Zero}
 use Rattle.kinds.specs.Kinds.{leafCode, joinCode}
 use Rattle.ltl.specs.Formula.{Formula, leaf, one, size, encode}
 use Rattle.ltl.specs.Progression.{negated, deciding, joined}
-use Rattle.ltl.proofs.Texts.{size-some, length-encode}
+use Rattle.ltl.proofs.Decoding.{size-some, length-encode}
 use Rattle.nodes.specs.Begins.{Front, Begins, Ends}
 use Rattle.nodes.proofs.Fronts.{Parts, isZero, front-tail, front-begins, begins-tail, front-own}
 use Rattle.resolving.specs.declared.Seen.{Seen}

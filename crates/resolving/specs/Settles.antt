@@ -12,7 +12,7 @@ use Rattle.kinds.specs.declared.Leaf.the-variants.{Const, Prop, Hold}
 use Rattle.kinds.specs.Kinds.{leafCode, joinCode}
 use Rattle.answers.specs.declared.Verdict.{Verdict}
 use Rattle.answers.specs.declared.Verdict.the-variants.{False, True, Pending}
-use Rattle.ltl.specs.Formula.{Formula, size, encode, Within}
+use Rattle.ltl.specs.Formula.{Formula, size, encode, Coded}
 use Rattle.ltl.specs.Progression.{isConstant, negated, deciding, member, joined, resolved, filledBy, filled}
 use Rattle.nodes.specs.Begins.{Front}
 use Rattle.resolving.specs.declared.Seen.{Seen}
@@ -58,7 +58,7 @@ NotMakes seen from p p′ at =
 -- ---- two operands that are to be joined: the left one from a place on, the right one behind it
 pub record Pair (p : List ℕ) (from op decide : ℕ) (j : Join) (f g : Formula) (rest : List ℕ) : Type 0 where
   pub left : Front (drop from p) f (encode g ++ rest)
-  pub right : Within 64 64 g
+  pub right : Coded g
   pub op-is : op ≡ joinCode j
   pub decide-is : decide ≡ leafCode (Const (deciding j))
 
@@ -82,8 +82,8 @@ pub record Sides (p : List ℕ) (op decide start end : ℕ) (right : Settled) (j
   pub some : 0 < start
   pub end-is : end ≡ start + size l
   pub stands : Stands r (drop end p) rest right
-  pub coded-l : Within 64 64 l
-  pub coded-r : Within 64 64 r
+  pub coded-l : Coded l
+  pub coded-r : Coded r
   pub pending : (v : Bool) → isConstant v l ≡ false
   pub op-is : op ≡ joinCode j
   pub decide-is : decide ≡ leafCode (Const (deciding j))

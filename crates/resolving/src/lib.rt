@@ -6,7 +6,7 @@ ghost use Prim.Native.Nat.{_+_, _<_};
 ghost use lib.ListN.{drop};
 ghost use Rattle.lists.specs.Tests as tests;
 ghost use Rattle.kinds.specs.declared.Leaf.the-variants.{Const, Hold};
-ghost use Rattle.kinds.specs.Kinds.{leafCode, leafWithin};
+ghost use Rattle.kinds.specs.Kinds.{leafCode, leafCoded};
 ghost use Rattle.nodes.specs.Begins.{Begins};
 ghost use Rattle.resolving.specs.Settles.{settled, settledLeaf, Makes, NotMakes, Pairs, PairMakes, Joinable, Joins, Comparable, IsMember, Rewritten};
 use kinds::Binary;
@@ -46,7 +46,7 @@ fn constant(v: bool) -> u8
 
 // The byte that a node without operands becomes.
 fn leaf_under(a: Leaf, seen: Seen) -> u8
-    requires { ⌜ leafWithin 64 64 a ⌝ }
+    requires { ⌜ leafCoded a ⌝ }
     ensures { λ r. ⌜ r ≡ leafCode (settledLeaf seen a) ⌝ }
 {
     match a {
@@ -80,15 +80,15 @@ fn is_member(l: &[u8], r: &[u8], op: u8) -> bool
     while r[at] == op {
         // A formula that is not longer than l has no other member that l could be.
         if r.len() - at <= l.len() {
-            return runs::begins(l, &r[at..]);
+            return buffers::begins(l, &r[at..]);
         }
         let left = at + 1;
-        if runs::begins(l, &r[left..]) {
+        if buffers::begins(l, &r[left..]) {
             return true;
         }
         at = left + nodes::operand_end(&r[left..]);
     }
-    runs::begins(l, &r[at..])
+    buffers::begins(l, &r[at..])
 }
 
 // Moves the formula from `at` on to the front.
@@ -97,7 +97,7 @@ fn keep(p: &mut [u8], at: usize) -> Settled
     ensures { λ r. ⌜ Makes (λ f. f) at (now (p .entry)) (now (p .exit)) r ⌝ }
 {
     let n = nodes::operand_end(&p[at..]);
-    runs::slide(p, at, n);
+    buffers::slide(p, at, n);
     Settled {
         next: at + n,
         start: 0,
@@ -224,7 +224,7 @@ fn join(p: &mut [u8], op: u8, decide: u8, start: usize, end: usize, right: Settl
         };
     }
     let n = right.end - right.start;
-    runs::slide(&mut p[end..to], right.start, n);
+    buffers::slide(&mut p[end..to], right.start, n);
     let top = start - 1;
     p[top] = op;
     Settled {
@@ -242,7 +242,7 @@ pub fn rewrite(p: &mut [u8], seen: Seen) -> usize
     let at = resolve(p, 0, seen);
     let start = at.start;
     let n = at.end - start;
-    runs::slide(p, start, n);
-    runs::clear(&mut p[n..]);
+    buffers::slide(p, start, n);
+    buffers::clear(&mut p[n..]);
     n
 }

@@ -9,14 +9,14 @@ use native.Mathlib.Omega.{arith}
 use native.Mathlib.Numerals.{add-one}
 use lib.ListN.{length, getD, take, drop, replicate, length-append, length-drop, length-replicate}
 use lib.Seq.{take-suc}
-use Rattle.ltl.specs.Limits.{boardsMost, propositionsMost, ruleNodesMost}
+use Rattle.limits.specs.Limits.{boardsMost, propositionsMost, ruleNodesMost}
 use Rattle.lists.specs.Runs.{tail, tailAs, padded}
 use Rattle.lists.specs.Listed.{listed}
 use Rattle.lists.proofs.Listed.{listed-length, listed-same, listed-front}
 use Rattle.le.specs.Le.{le, leAt}
 use Rattle.le.proofs.Laws.{Bytes, le-length, leAt-le, le-leAt}
 use Rattle.lists.proofs.Stretches.{tail-put, tail-clear, drop-replicate, take-two}
-use Rattle.rules.specs.RuleFile.{version, masksAt, formulaAt, totalOf, fileMost, header, maskBytes, fileOf, versionIn, boardsIn, propositionsIn, nodesIn, masksOffsetIn, formulaOffsetIn, totalIn, maskIn}
+use Rattle.rules.specs.RuleFile.{version, masksAt, fileFormulaAt, totalOf, fileMost, fileHeader, maskBytes, fileOf, versionInFile, boardsInFile, propositionsInFile, nodesInFile, masksOffsetInFile, formulaOffsetInFile, totalInFile, maskInFile}
 
 -- ---- the bytes of masks
 pub maskBytes-length : (ms : List ℕ) → length (maskBytes ms) ≡ 8 * length ms
@@ -41,57 +41,57 @@ maskBytes-more ms i h =
     ∙ maskBytes-append (take i ms) (getD ms i 0 ∷ [])
     ∙ ap (λ (u : List ℕ). maskBytes (take i ms) ++ u) (append-nil (le 8 (getD ms i 0)))
 
--- ---- the header
-pub header-length : (b p n : ℕ) → length (header b p n) ≡ masksAt
+-- ---- the fileHeader
+pub header-length : (b p n : ℕ) → length (fileHeader b p n) ≡ masksAt
 unfolding le
 header-length b p n = refl
 
 -- ---- masks put into an array of zeros
-module _ (file found : List ℕ) (b : ℕ) (e : found ≡ listed (maskIn file) b ++ drop b (replicate boardsMost 0)) where
+module _ (file found : List ℕ) (b : ℕ) (e : found ≡ listed (maskInFile file) b ++ drop b (replicate boardsMost 0)) where
   pub found-length : b ≤ boardsMost → length found ≡ boardsMost
   found-length h =
       let z : List ℕ = replicate boardsMost 0 in
-      omega (arith, ap length e, length-append (listed (maskIn file) b) (drop b z), listed-length (maskIn file) b, length-drop b z, length-replicate {A = ℕ} boardsMost 0)
+      omega (arith, ap length e, length-append (listed (maskInFile file) b) (drop b z), listed-length (maskInFile file) b, length-drop b z, length-replicate {A = ℕ} boardsMost 0)
 
-  pub found-front : take b found ≡ listed (maskIn file) b
-  found-front = ap (take b) e ∙ listed-front (maskIn file) b _
+  pub found-front : take b found ≡ listed (maskInFile file) b
+  found-front = ap (take b) e ∙ listed-front (maskInFile file) b _
 
-  pub found-padded : found ≡ padded boardsMost (listed (maskIn file) b)
+  pub found-padded : found ≡ padded boardsMost (listed (maskInFile file) b)
   found-padded =
-      e ∙ ap (λ (u : List ℕ). listed (maskIn file) b ++ u) (drop-replicate b boardsMost 0 ∙ ap (λ (n : ℕ). replicate {A = ℕ} (boardsMost - n) 0) (sym (listed-length (maskIn file) b)))
+      e ∙ ap (λ (u : List ℕ). listed (maskInFile file) b ++ u) (drop-replicate b boardsMost 0 ∙ ap (λ (n : ℕ). replicate {A = ℕ} (boardsMost - n) 0) (sym (listed-length (maskInFile file) b)))
 
 -- ---- the file
 pub fileOf-length : (masks : List ℕ) (p : ℕ) (formula : List ℕ) → length (fileOf masks p formula) ≡ totalOf (length masks) (length formula)
 unfolding fileOf
 fileOf-length masks p formula =
-    let h = header (length masks) p (length formula) in
+    let h = fileHeader (length masks) p (length formula) in
     omega (arith, length-append h (maskBytes masks ++ formula), length-append (maskBytes masks) formula, maskBytes-length masks, header-length (length masks) p (length formula))
 
--- what `write` leaves: the header, then the masks, the formula and zeros, each put into what is behind the last
+-- what `write` leaves: the fileHeader, then the masks, the formula and zeros, each put into what is behind the last
 pub file-put : (masks : List ℕ) (p : ℕ) (formula file s x y z : List ℕ) → length file ≡ fileMost
-    → s ≡ header (length masks) p (length formula) ++ drop masksAt file
+    → s ≡ fileHeader (length masks) p (length formula) ++ drop masksAt file
     → x ≡ maskBytes masks ++ drop (8 * length masks) (tail masksAt s)
-    → y ≡ formula ++ drop (length formula) (tail (formulaAt (length masks)) (tailAs masksAt s x))
-    → z ≡ replicate (length (tail (totalOf (length masks) (length formula)) (tailAs (formulaAt (length masks)) (tailAs masksAt s x) y))) 0
-    → tailAs (totalOf (length masks) (length formula)) (tailAs (formulaAt (length masks)) (tailAs masksAt s x) y) z
+    → y ≡ formula ++ drop (length formula) (tail (fileFormulaAt (length masks)) (tailAs masksAt s x))
+    → z ≡ replicate (length (tail (totalOf (length masks) (length formula)) (tailAs (fileFormulaAt (length masks)) (tailAs masksAt s x) y))) 0
+    → tailAs (totalOf (length masks) (length formula)) (tailAs (fileFormulaAt (length masks)) (tailAs masksAt s x) y) z
     ≡ padded fileMost (fileOf masks p formula)
 unfolding fileOf
 file-put masks p formula file s x y z room e₁ e₂ e₃ e₄ =
     let b = length masks in
     let n = length formula in
-    let h = header b p n in
+    let h = fileHeader b p n in
     let m = maskBytes masks in
     let hl = header-length b p n in
     let ml = maskBytes-length masks in
     let l₂ = length-append h m in
     let l₃ = length-append (h ++ m) formula in
     let t = tailAs masksAt s x in
-    let u = tailAs (formulaAt b) t y in
+    let u = tailAs (fileFormulaAt b) t y in
     let r₁ = drop masksAt file in
     let r₂ = drop (8 * b) r₁ in
     let r₃ = drop n r₂ in
     let d₂ = tail-put s h r₁ masksAt e₁ hl m x (8 * b) e₂ in
-    let d₃ = tail-put t (h ++ m) r₂ (formulaAt b) d₂ (omega arith) formula y n e₃ in
+    let d₃ = tail-put t (h ++ m) r₂ (fileFormulaAt b) d₂ (omega arith) formula y n e₃ in
     let d₄ = tail-clear u ((h ++ m) ++ formula) r₃ (totalOf b n) d₃ (omega arith) z e₄ in
     let k = fileOf-length masks p formula in
     let rest : length r₃ ≡ fileMost - length (h ++ (m ++ formula)) = omega (arith, length-drop masksAt file, length-drop (8 * b) r₁, length-drop n r₂) in
@@ -99,15 +99,15 @@ file-put masks p formula file s x y z room e₁ e₂ e₃ e₄ =
 
 -- ---- what a written file's fields are
 pub record Fields (file : List ℕ) (b p n : ℕ) : Type 0 where
-  pub version-is : versionIn file ≡ version
-  pub boards-is : boardsIn file ≡ b
-  pub propositions-is : propositionsIn file ≡ p
-  pub nodes-is : nodesIn file ≡ n
-  pub masks-offset-is : masksOffsetIn file ≡ masksAt
-  pub formula-offset-is : formulaOffsetIn file ≡ formulaAt b
-  pub total-is : totalIn file ≡ totalOf b n
+  pub version-is : versionInFile file ≡ version
+  pub boards-is : boardsInFile file ≡ b
+  pub propositions-is : propositionsInFile file ≡ p
+  pub nodes-is : nodesInFile file ≡ n
+  pub masks-offset-is : masksOffsetInFile file ≡ masksAt
+  pub formula-offset-is : formulaOffsetInFile file ≡ fileFormulaAt b
+  pub total-is : totalInFile file ≡ totalOf b n
 
-pub header-fields : (b p n : ℕ) (rest : List ℕ) → b ≤ boardsMost → p ≤ propositionsMost → n ≤ ruleNodesMost → Fields (header b p n ++ rest) b p n
+pub header-fields : (b p n : ℕ) (rest : List ℕ) → b ≤ boardsMost → p ≤ propositionsMost → n ≤ ruleNodesMost → Fields (fileHeader b p n ++ rest) b p n
 unfolding le leAt
 header-fields b p n rest hb hp hn =
     record {
@@ -154,10 +154,10 @@ module _ (file : List ℕ) (bytes : Bytes file) (headed : masksAt ≤ length fil
       → le n v ++ xs ≡ take (n + m) (drop at file)
   field-then at n v m xs h e k = ap₂ _++_ (field-is at n v h e) k ∙ sym (take-two file at n m)
 
-  pub header-is : (b p n : ℕ) → Fields file b p n → header b p n ≡ take masksAt file
+  pub header-is : (b p n : ℕ) → Fields file b p n → fileHeader b p n ≡ take masksAt file
   header-is b p n k =
       let f₇ = field-is 12 4 (totalOf b n) (omega arith) (k .total-is) in
-      let f₆ = field-then 10 2 (formulaAt b) 4 _ (omega arith) (k .formula-offset-is) f₇ in
+      let f₆ = field-then 10 2 (fileFormulaAt b) 4 _ (omega arith) (k .formula-offset-is) f₇ in
       let f₅ = field-then 8 2 masksAt 6 _ (omega arith) (k .masks-offset-is) f₆ in
       let f₄ = field-then 6 2 n 8 _ (omega arith) (k .nodes-is) f₅ in
       let f₃ = field-then 4 2 p 10 _ (omega arith) (k .propositions-is) f₄ in

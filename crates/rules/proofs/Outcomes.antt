@@ -9,21 +9,21 @@ use native.Mathlib.Omega.{arith}
 use lib.ListN.{length}
 use lib.Dec.{eqb}
 use borrow.Author.Tests.{eqb-true, leb-true}
-use Rattle.ltl.specs.Limits.{boardsMost, propositionsMost, ruleNodesMost}
+use Rattle.limits.specs.Limits.{boardsMost, propositionsMost, ruleNodesMost}
 use Rattle.lists.specs.Tests.{pick}
 use Rattle.lists.specs.Runs.{padded}
 use Rattle.answers.specs.declared.Refusal.{Refusal}
 use Rattle.answers.specs.declared.Refusal.the-variants.{Length, Version, Range, Offset, Masks, Formula}
 use Rattle.answers.specs.Said.{accepted, refused, left, numberOf, inOrder}
-use Rattle.ltl.specs.Text.{ruleText}
+use Rattle.ltl.specs.Decode.{isRule}
 use Rattle.lists.proofs.Tests.{both-0, both-1}
 use Rattle.answers.proofs.Answers.{order-passed}
 use Rattle.masks.specs.Masks.{masksRule}
 use Rattle.rules.specs.declared.reading.Counts.{Counts}
 use Rattle.rules.specs.declared.reading.ReadAnswer.the-variants as read-answer
 use Rattle.rules.specs.declared.writing.WriteAnswer.the-variants as write-answer
-use Rattle.rules.specs.RuleFile.{version, masksAt, formulaAt, fileMost, countsOk, fileOf, totalOf, versionIn, boardsIn, propositionsIn, nodesIn, masksOffsetIn, formulaOffsetIn, totalIn, masksIn, formulaIn}
-use Rattle.rules.specs.Read.{lengthsOk, offsetsOk, readSays, Reads}
+use Rattle.rules.specs.RuleFile.{version, masksAt, fileFormulaAt, fileMost, countsOk, fileOf, totalOf, versionInFile, boardsInFile, propositionsInFile, nodesInFile, masksOffsetInFile, formulaOffsetInFile, totalInFile, masksInFile, formulaInFile}
+use Rattle.rules.specs.Read.{readLengthsOk, offsetsOk, readSays, Reads}
 use Rattle.rules.specs.Write.{writeSays, Writes}
 
 -- ---- what the checks tell
@@ -31,10 +31,10 @@ pub record Sized (file : List ℕ) (m f : ℕ) : Type 0 where
   pub masks-room : m ≡ boardsMost
   pub formula-room : f ≡ ruleNodesMost
   pub headed : masksAt ≤ length file
-  pub whole : length file ≡ totalIn file
+  pub whole : length file ≡ totalInFile file
 
-pub sized : (file : List ℕ) (m f : ℕ) → lengthsOk file m f ≡ true → Sized file m f
-unfolding lengthsOk
+pub sized : (file : List ℕ) (m f : ℕ) → readLengthsOk file m f ≡ true → Sized file m f
+unfolding readLengthsOk
 sized file m f e =
     let a = both-1 _ _ e in
     let b = both-1 _ _ a in
@@ -65,9 +65,9 @@ counted b p n e =
     }
 
 pub record Placed (file : List ℕ) : Type 0 where
-  pub masks-offset : masksOffsetIn file ≡ masksAt
-  pub formula-offset : formulaOffsetIn file ≡ formulaAt (boardsIn file)
-  pub total : totalIn file ≡ totalOf (boardsIn file) (nodesIn file)
+  pub masks-offset : masksOffsetInFile file ≡ masksAt
+  pub formula-offset : formulaOffsetInFile file ≡ fileFormulaAt (boardsInFile file)
+  pub total : totalInFile file ≡ totalOf (boardsInFile file) (nodesInFile file)
 
 pub placed : (file : List ℕ) → offsetsOk file ≡ true → Placed file
 unfolding offsetsOk
@@ -82,46 +82,46 @@ module _ (file masks formula : List ℕ) where
   unfolding left pick
   read-refused why z e = record { says = sym e; leaves-masks = rw (e, z); leaves-formula = rw (e, z) }
 
-  pub read-length : lengthsOk file (length masks) (length formula) ≡ false → Reads file masks formula masks formula (read-answer.Refused Length)
+  pub read-length : readLengthsOk file (length masks) (length formula) ≡ false → Reads file masks formula masks formula (read-answer.Refused Length)
   unfolding readSays inOrder pick
   read-length h = read-refused Length refl (rw h)
 
-  module _ (o₁ : lengthsOk file (length masks) (length formula) ≡ true) where
-    pub read-version : eqb (versionIn file) version ≡ false → Reads file masks formula masks formula (read-answer.Refused Version)
+  module _ (o₁ : readLengthsOk file (length masks) (length formula) ≡ true) where
+    pub read-version : eqb (versionInFile file) version ≡ false → Reads file masks formula masks formula (read-answer.Refused Version)
     unfolding readSays inOrder pick
     read-version h = read-refused Version refl (rw (o₁, h))
 
-    module _ (o₂ : eqb (versionIn file) version ≡ true) where
-      pub read-range : countsOk (boardsIn file) (propositionsIn file) (nodesIn file) ≡ false
+    module _ (o₂ : eqb (versionInFile file) version ≡ true) where
+      pub read-range : countsOk (boardsInFile file) (propositionsInFile file) (nodesInFile file) ≡ false
           → Reads file masks formula masks formula (read-answer.Refused Range)
       unfolding readSays inOrder pick
       read-range h = read-refused Range refl (rw (o₁, o₂, h))
 
-      module _ (o₃ : countsOk (boardsIn file) (propositionsIn file) (nodesIn file) ≡ true) where
+      module _ (o₃ : countsOk (boardsInFile file) (propositionsInFile file) (nodesInFile file) ≡ true) where
         pub read-offset : offsetsOk file ≡ false → Reads file masks formula masks formula (read-answer.Refused Offset)
         unfolding readSays inOrder pick
         read-offset h = read-refused Offset refl (rw (o₁, o₂, o₃, h))
 
         module _ (o₄ : offsetsOk file ≡ true) where
-          pub read-masks : masksRule (propositionsIn file) (masksIn file) ≡ false
+          pub read-masks : masksRule (propositionsInFile file) (masksInFile file) ≡ false
               → Reads file masks formula masks formula (read-answer.Refused Masks)
           unfolding readSays inOrder pick
           read-masks h = read-refused Masks refl (rw (o₁, o₂, o₃, o₄, h))
 
-          module _ (o₅ : masksRule (propositionsIn file) (masksIn file) ≡ true) where
-            pub read-formula : ruleText (propositionsIn file) (formulaIn file) ≡ false
+          module _ (o₅ : masksRule (propositionsInFile file) (masksInFile file) ≡ true) where
+            pub read-formula : isRule (propositionsInFile file) (formulaInFile file) ≡ false
                 → Reads file masks formula masks formula (read-answer.Refused Formula)
             unfolding readSays inOrder pick
             read-formula h = read-refused Formula refl (rw (o₁, o₂, o₃, o₄, o₅, h))
 
-            module _ (o₆ : ruleText (propositionsIn file) (formulaIn file) ≡ true) where
-              pub readSays-rule : readSays file (length masks) (length formula) ≡ accepted (boardsIn file ∷ propositionsIn file ∷ nodesIn file ∷ [])
+            module _ (o₆ : isRule (propositionsInFile file) (formulaInFile file) ≡ true) where
+              pub readSays-rule : readSays file (length masks) (length formula) ≡ accepted (boardsInFile file ∷ propositionsInFile file ∷ nodesInFile file ∷ [])
               unfolding readSays inOrder pick
               readSays-rule = rw (o₁, o₂, o₃, o₄, o₅, o₆)
 
               pub read-rule : (c : Counts) (masks′ formula′ : List ℕ)
-                  → c .boards ≡ boardsIn file → c .propositions ≡ propositionsIn file → c .nodes ≡ nodesIn file
-                  → masks′ ≡ padded boardsMost (masksIn file) → formula′ ≡ padded ruleNodesMost (formulaIn file)
+                  → c .boards ≡ boardsInFile file → c .propositions ≡ propositionsInFile file → c .nodes ≡ nodesInFile file
+                  → masks′ ≡ padded boardsMost (masksInFile file) → formula′ ≡ padded ruleNodesMost (formulaInFile file)
                   → Reads file masks formula masks′ formula′ (read-answer.Rule c)
               unfolding left pick
               read-rule c masks′ formula′ b p n m f =
@@ -149,11 +149,11 @@ module _ (masks : List ℕ) (p : ℕ) (formula file : List ℕ) where
       write-masks h = write-refused Masks refl (rw (o₁, o₂, h))
 
       module _ (o₃ : masksRule p masks ≡ true) where
-        pub write-formula : ruleText p formula ≡ false → Writes masks p formula file file (write-answer.Refused Formula)
+        pub write-formula : isRule p formula ≡ false → Writes masks p formula file file (write-answer.Refused Formula)
         unfolding writeSays inOrder pick
         write-formula h = write-refused Formula refl (rw (o₁, o₂, o₃, h))
 
-        module _ (o₄ : ruleText p formula ≡ true) where
+        module _ (o₄ : isRule p formula ≡ true) where
           pub writeSays-written : writeSays masks p formula (length file) ≡ accepted (totalOf (length masks) (length formula) ∷ [])
           unfolding writeSays inOrder pick
           writeSays-written = rw (o₁, o₂, o₃, o₄)
@@ -165,12 +165,12 @@ module _ (masks : List ℕ) (p : ℕ) (formula file : List ℕ) where
 
 -- ---- an accepted call has passed its checks
 pub record ReadPassed (file : List ℕ) (m f : ℕ) : Type 0 where
-  pub lengths : lengthsOk file m f ≡ true
-  pub version : eqb (versionIn file) version ≡ true
-  pub counts : countsOk (boardsIn file) (propositionsIn file) (nodesIn file) ≡ true
+  pub lengths : readLengthsOk file m f ≡ true
+  pub version : eqb (versionInFile file) version ≡ true
+  pub counts : countsOk (boardsInFile file) (propositionsInFile file) (nodesInFile file) ≡ true
   pub offsets : offsetsOk file ≡ true
-  pub masks : masksRule (propositionsIn file) (masksIn file) ≡ true
-  pub formula : ruleText (propositionsIn file) (formulaIn file) ≡ true
+  pub masks : masksRule (propositionsInFile file) (masksInFile file) ≡ true
+  pub formula : isRule (propositionsInFile file) (formulaInFile file) ≡ true
 
 pub read-passed : (file : List ℕ) (m f : ℕ) → readSays file m f .number ≡ 0 → ReadPassed file m f
 unfolding readSays
@@ -182,7 +182,7 @@ pub record WritePassed (masks : List ℕ) (p : ℕ) (formula : List ℕ) (room :
   pub space : eqb room fileMost ≡ true
   pub counts : countsOk (length masks) p (length formula) ≡ true
   pub rule : masksRule p masks ≡ true
-  pub text : ruleText p formula ≡ true
+  pub text : isRule p formula ≡ true
 
 pub write-passed : (masks : List ℕ) (p : ℕ) (formula : List ℕ) (room : ℕ) → writeSays masks p formula room .number ≡ 0 → WritePassed masks p formula room
 unfolding writeSays

@@ -8,12 +8,12 @@ use native.Mathlib.Omega.{arith}
 use lib.ListN.{length, getD, take, drop, replicate, length-append, length-drop, take-append-drop}
 use lib.Seq.{take-at, drop-at, drop-drop}
 use borrow.Author.Tests.{eq-eqb, eqb-true, le-leb}
-use Rattle.ltl.specs.Limits.{boardsMost, ruleNodesMost}
+use Rattle.limits.specs.Limits.{boardsMost, ruleNodesMost}
 use Rattle.lists.specs.Runs.{padded}
 use Rattle.lists.specs.Listed.{listed}
 use Rattle.lists.proofs.Listed.{listed-length}
 use Rattle.answers.specs.Said.{Said}
-use Rattle.ltl.specs.Text.{ruleText}
+use Rattle.ltl.specs.Decode.{isRule}
 use Rattle.lists.proofs.Tests.{both-true}
 use Rattle.masks.specs.Masks.{masksRule}
 use Rattle.le.specs.Le.{leAt}
@@ -23,8 +23,8 @@ use Rattle.rules.specs.declared.reading.ReadAnswer.{ReadAnswer}
 use Rattle.rules.specs.declared.reading.ReadAnswer.the-variants.{Rule}
 use Rattle.rules.specs.declared.writing.WriteAnswer.{WriteAnswer}
 use Rattle.rules.specs.declared.writing.WriteAnswer.the-variants.{Written}
-use Rattle.rules.specs.RuleFile.{version, masksAt, formulaAt, fileMost, header, maskBytes, fileOf, countsOk, totalOf, boardsIn, propositionsIn, nodesIn, maskIn, masksIn, formulaIn}
-use Rattle.rules.specs.Read.{lengthsOk, offsetsOk, saidRead, Reads}
+use Rattle.rules.specs.RuleFile.{version, masksAt, fileFormulaAt, fileMost, fileHeader, maskBytes, fileOf, countsOk, totalOf, boardsInFile, propositionsInFile, nodesInFile, maskInFile, masksInFile, formulaInFile}
+use Rattle.rules.specs.Read.{readLengthsOk, offsetsOk, saidRead, Reads}
 use Rattle.rules.specs.Write.{saidWrite, Writes}
 use Rattle.rules.proofs.Files.{Fields, maskBytes-length, header-length, fileOf-length, header-fields, masks-written, header-is, masks-rewritten}
 use Rattle.rules.proofs.Outcomes.{sized, Counted, counted, placed, ReadPassed, read-passed, read-rule, write-passed, write-written}
@@ -36,27 +36,27 @@ module _ (masks : List ℕ) (p : ℕ) (formula : List ℕ) (words : (i : ℕ) �
   unfolding fileOf
   file-fields = header-fields (length masks) p (length formula) (maskBytes masks ++ formula) (counts .boards-few) (counts .propositions-few) (counts .nodes-few)
 
-  file-masks : masksIn (fileOf masks p formula) ≡ masks
+  file-masks : masksInFile (fileOf masks p formula) ≡ masks
   unfolding fileOf
   file-masks =
-      let h = header (length masks) p (length formula) in
-      ap (listed (maskIn (fileOf masks p formula))) (file-fields .boards-is)
+      let h = fileHeader (length masks) p (length formula) in
+      ap (listed (maskInFile (fileOf masks p formula))) (file-fields .boards-is)
       ∙ masks-written h masks formula masksAt (header-length (length masks) p (length formula)) words
 
-  file-formula : formulaIn (fileOf masks p formula) ≡ formula
+  file-formula : formulaInFile (fileOf masks p formula) ≡ formula
   unfolding fileOf
   file-formula =
       let b = length masks in
-      let h = header b p (length formula) in
+      let h = fileHeader b p (length formula) in
       let l = length-append h (maskBytes masks) in
       let hl = header-length b p (length formula) in
       let ml = maskBytes-length masks in
-      ap₂ (λ (i : ℕ) (u : List ℕ). drop (formulaAt i) u) (file-fields .boards-is) (sym (append-assoc h (maskBytes masks) formula))
-      ∙ drop-at (h ++ maskBytes masks) formula (formulaAt b) (omega arith)
+      ap₂ (λ (i : ℕ) (u : List ℕ). drop (fileFormulaAt i) u) (file-fields .boards-is) (sym (append-assoc h (maskBytes masks) formula))
+      ∙ drop-at (h ++ maskBytes masks) formula (fileFormulaAt b) (omega arith)
 
-  file-passed : masksRule p masks ≡ true → ruleText p formula ≡ true → countsOk (length masks) p (length formula) ≡ true
+  file-passed : masksRule p masks ≡ true → isRule p formula ≡ true → countsOk (length masks) p (length formula) ≡ true
       → ReadPassed (fileOf masks p formula) boardsMost ruleNodesMost
-  unfolding lengthsOk offsetsOk
+  unfolding readLengthsOk offsetsOk
   file-passed rule text ok =
       let k = file-fields in
       let l = fileOf-length masks p formula in
@@ -68,7 +68,7 @@ module _ (masks : List ℕ) (p : ℕ) (formula : List ℕ) (words : (i : ℕ) �
         counts = rw (k .boards-is, k .propositions-is, k .nodes-is) ok;
         offsets = rw (k .boards-is, k .nodes-is) (both-true _ _ (eq-eqb _ _ (k .masks-offset-is)) (both-true _ _ (eq-eqb _ _ (k .formula-offset-is)) (eq-eqb _ _ (k .total-is))));
         masks = ap₂ masksRule (k .propositions-is) file-masks ∙ rule;
-        formula = ap₂ ruleText (k .propositions-is) file-formula ∙ text;
+        formula = ap₂ isRule (k .propositions-is) file-formula ∙ text;
       }
 
 pub written-read : (masks : List ℕ) (p : ℕ) (formula file file′ : List ℕ) (n : ℕ) → ((i : ℕ) → getD masks i 0 < 2 ^ 64)
@@ -85,7 +85,7 @@ written-read masks p formula file file′ n words w m f m′ f′ answer em ef r
     let c = counted _ _ _ (q .counts) in
     let o = file-passed masks p formula words c (q .rule) (q .text) (q .counts) in
     let k = file-fields masks p formula words c in
-    let ok : lengthsOk F (length m) (length f) ≡ true = ap₂ (lengthsOk F) em ef ∙ o .lengths in
+    let ok : readLengthsOk F (length m) (length f) ≡ true = ap₂ (readLengthsOk F) em ef ∙ o .lengths in
     let built = read-rule F m f ok (o .version) (o .counts) (o .offsets) (o .masks) (o .formula)
     (record { boards = length masks; propositions = p; nodes = length formula }) (padded boardsMost masks) (padded ruleNodesMost formula)
     (sym (k .boards-is)) (sym (k .propositions-is)) (sym (k .nodes-is))
@@ -94,13 +94,13 @@ written-read masks p formula file file′ n words w m f m′ f′ answer em ef r
 
 -- ---- the file of a rule that was read is the file
 module _ (file m f : List ℕ) (bytes : Bytes file) (o : ReadPassed file (length m) (length f)) where
-  formula-length : length (formulaIn file) ≡ nodesIn file
+  formula-length : length (formulaInFile file) ≡ nodesInFile file
   formula-length =
       let s = sized file (length m) (length f) (o .lengths) in
       let t = placed file (o .offsets) in
-      omega (arith, length-drop (formulaAt (boardsIn file)) file)
+      omega (arith, length-drop (fileFormulaAt (boardsInFile file)) file)
 
-  read-fields : Fields file (boardsIn file) (propositionsIn file) (nodesIn file)
+  read-fields : Fields file (boardsInFile file) (propositionsInFile file) (nodesInFile file)
   read-fields =
       let t = placed file (o .offsets) in
       record {
@@ -113,23 +113,23 @@ module _ (file m f : List ℕ) (bytes : Bytes file) (o : ReadPassed file (length
         total-is = t .total;
       }
 
-  read-file : fileOf (masksIn file) (propositionsIn file) (formulaIn file) ≡ file
+  read-file : fileOf (masksInFile file) (propositionsInFile file) (formulaInFile file) ≡ file
   unfolding fileOf
   read-file =
       let s = sized file (length m) (length f) (o .lengths) in
       let t = placed file (o .offsets) in
-      let b = boardsIn file in
-      let h = ap₂ (λ (i j : ℕ). header i (propositionsIn file) j) (listed-length (maskIn file) b) formula-length
-      ∙ header-is file bytes (s .headed) b (propositionsIn file) (nodesIn file) read-fields in
-      let v : maskBytes (masksIn file) ++ formulaIn file ≡ drop masksAt file =
+      let b = boardsInFile file in
+      let h = ap₂ (λ (i j : ℕ). fileHeader i (propositionsInFile file) j) (listed-length (maskInFile file) b) formula-length
+      ∙ header-is file bytes (s .headed) b (propositionsInFile file) (nodesInFile file) read-fields in
+      let v : maskBytes (masksInFile file) ++ formulaInFile file ≡ drop masksAt file =
       ap₂ _++_ (masks-rewritten file masksAt b bytes (omega arith)) (sym (drop-drop (8 * b) masksAt file)) ∙ take-append-drop (8 * b) (drop masksAt file) in
       ap₂ _++_ h v ∙ take-append-drop masksAt file
 
-  read-total : totalOf (length (masksIn file)) (length (formulaIn file)) ≡ length file
+  read-total : totalOf (length (masksInFile file)) (length (formulaInFile file)) ≡ length file
   read-total =
       let s = sized file (length m) (length f) (o .lengths) in
       let t = placed file (o .offsets) in
-      omega (arith, listed-length (maskIn file) (boardsIn file), formula-length)
+      omega (arith, listed-length (maskInFile file) (boardsInFile file), formula-length)
 
 pub read-written : (file m f m′ f′ : List ℕ) (c : Counts) → Bytes file → Reads file m f m′ f′ (Rule c)
     → (out out′ : List ℕ) (answer : WriteAnswer) → length out ≡ fileMost
@@ -137,20 +137,20 @@ pub read-written : (file m f m′ f′ : List ℕ) (c : Counts) → Bytes file �
     → (answer ≡ Written (length file)) × (take (length file) out′ ≡ file)
 read-written file m f m′ f′ c bytes r out out′ answer room w =
     let o = read-passed file (length m) (length f) (sym (ap (λ (s : Said). s .number) (r .says))) in
-    let ms = masksIn file in
-    let p = propositionsIn file in
-    let fs = formulaIn file in
+    let ms = masksInFile file in
+    let p = propositionsInFile file in
+    let fs = formulaInFile file in
     let fl = formula-length file m f bytes o in
-    let ml = listed-length (maskIn file) (boardsIn file) in
+    let ml = listed-length (maskInFile file) (boardsInFile file) in
     let d = reads-determined file m f m′ f′ (padded boardsMost ms) (padded ruleNodesMost fs) (Rule c) _ r
     (read-rule file m f (o .lengths) (o .version) (o .counts) (o .offsets) (o .masks) (o .formula)
-    (record { boards = boardsIn file; propositions = p; nodes = nodesIn file }) (padded boardsMost ms) (padded ruleNodesMost fs) refl refl refl refl refl) in
+    (record { boards = boardsInFile file; propositions = p; nodes = nodesInFile file }) (padded boardsMost ms) (padded ruleNodesMost fs) refl refl refl refl refl) in
     let v = ap (λ (a : ReadAnswer). saidRead a .values) (d .0) in
-    let eb : c .boards ≡ boardsIn file = ap (λ (l : List ℕ). getD l 0 0) v in
+    let eb : c .boards ≡ boardsInFile file = ap (λ (l : List ℕ). getD l 0 0) v in
     let ep : c .propositions ≡ p = ap (λ (l : List ℕ). getD l 1 0) v in
-    let en : c .nodes ≡ nodesIn file = ap (λ (l : List ℕ). getD l 2 0) v in
-    let em : take (c .boards) m′ ≡ ms = ap₂ take eb (d .1) ∙ take-at ms (replicate (boardsMost - length ms) 0) (boardsIn file) ml in
-    let ef : take (c .nodes) f′ ≡ fs = ap₂ take en (d .2) ∙ take-at fs (replicate (ruleNodesMost - length fs) 0) (nodesIn file) fl in
+    let en : c .nodes ≡ nodesInFile file = ap (λ (l : List ℕ). getD l 2 0) v in
+    let em : take (c .boards) m′ ≡ ms = ap₂ take eb (d .1) ∙ take-at ms (replicate (boardsMost - length ms) 0) (boardsInFile file) ml in
+    let ef : take (c .nodes) f′ ≡ fs = ap₂ take en (d .2) ∙ take-at fs (replicate (ruleNodesMost - length fs) 0) (nodesInFile file) fl in
     let w₁ = subst (λ (u : List ℕ). Writes u (c .propositions) (take (c .nodes) f′) out out′ answer) em w in
     let w₂ = subst (λ (u : ℕ). Writes ms u (take (c .nodes) f′) out out′ answer) ep w₁ in
     let w₃ = subst (λ (u : List ℕ). Writes ms p u out out′ answer) ef w₂ in

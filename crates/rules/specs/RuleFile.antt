@@ -6,24 +6,24 @@ use mathlib.Core.List.{List, [], _∷_, _++_}
 use lib.ListN.{length, drop}
 use Rattle.lists.specs.Tests.{both, inRange}
 use Rattle.lists.specs.Listed.{listed}
-use Rattle.ltl.specs.Limits.{boardsMost, propositionsMost, ruleNodesMost}
+use Rattle.limits.specs.Limits.{boardsMost, propositionsMost, ruleNodesMost}
 use Rattle.le.specs.Le.{le, leAt}
 
 -- ---- limits and sizes
 abbrev pub version : ℕ
 version = 1
 
--- the header's length, where the masks begin
+-- the fileHeader's length, where the masks begin
 abbrev pub masksAt : ℕ
 masksAt = 16
 
 -- where the formula begins, after b masks
-abbrev pub formulaAt : ℕ → ℕ
-formulaAt b = masksAt + 8 * b
+abbrev pub fileFormulaAt : ℕ → ℕ
+fileFormulaAt b = masksAt + 8 * b
 
 -- the length of the file of b boards and n nodes
 abbrev pub totalOf : ℕ → ℕ → ℕ
-totalOf b n = formulaAt b + n
+totalOf b n = fileFormulaAt b + n
 
 -- the longest file, and the buffer that one is written into
 abbrev pub fileMost : ℕ
@@ -34,9 +34,9 @@ unfoldable pub countsOk : ℕ → ℕ → ℕ → Bool
 countsOk b p n = both (inRange boardsMost b) (both (inRange propositionsMost p) (inRange ruleNodesMost n))
 
 -- ---- the file of a rule
-abbrev pub header : ℕ → ℕ → ℕ → List ℕ
-header b p n =
-    le 2 version ++ (le 2 b ++ (le 2 p ++ (le 2 n ++ (le 2 masksAt ++ (le 2 (formulaAt b) ++ le 4 (totalOf b n))))))
+abbrev pub fileHeader : ℕ → ℕ → ℕ → List ℕ
+fileHeader b p n =
+    le 2 version ++ (le 2 b ++ (le 2 p ++ (le 2 n ++ (le 2 masksAt ++ (le 2 (fileFormulaAt b) ++ le 4 (totalOf b n))))))
 
 unfoldable pub maskBytes : List ℕ → List ℕ
 maskBytes [] = []
@@ -44,35 +44,35 @@ maskBytes (m ∷ ms) = le 8 m ++ maskBytes ms
 
 -- the masks, the number of propositions, the formula
 unfoldable pub fileOf : List ℕ → ℕ → List ℕ → List ℕ
-fileOf masks p formula = header (length masks) p (length formula) ++ (maskBytes masks ++ formula)
+fileOf masks p formula = fileHeader (length masks) p (length formula) ++ (maskBytes masks ++ formula)
 
 -- ---- a file's fields
-abbrev pub versionIn : List ℕ → ℕ
-versionIn file = leAt file 0 2
+abbrev pub versionInFile : List ℕ → ℕ
+versionInFile file = leAt file 0 2
 
-abbrev pub boardsIn : List ℕ → ℕ
-boardsIn file = leAt file 2 2
+abbrev pub boardsInFile : List ℕ → ℕ
+boardsInFile file = leAt file 2 2
 
-abbrev pub propositionsIn : List ℕ → ℕ
-propositionsIn file = leAt file 4 2
+abbrev pub propositionsInFile : List ℕ → ℕ
+propositionsInFile file = leAt file 4 2
 
-abbrev pub nodesIn : List ℕ → ℕ
-nodesIn file = leAt file 6 2
+abbrev pub nodesInFile : List ℕ → ℕ
+nodesInFile file = leAt file 6 2
 
-abbrev pub masksOffsetIn : List ℕ → ℕ
-masksOffsetIn file = leAt file 8 2
+abbrev pub masksOffsetInFile : List ℕ → ℕ
+masksOffsetInFile file = leAt file 8 2
 
-abbrev pub formulaOffsetIn : List ℕ → ℕ
-formulaOffsetIn file = leAt file 10 2
+abbrev pub formulaOffsetInFile : List ℕ → ℕ
+formulaOffsetInFile file = leAt file 10 2
 
-abbrev pub totalIn : List ℕ → ℕ
-totalIn file = leAt file 12 4
+abbrev pub totalInFile : List ℕ → ℕ
+totalInFile file = leAt file 12 4
 
-abbrev pub maskIn : List ℕ → ℕ → ℕ
-maskIn file i = leAt file (masksAt + 8 * i) 8
+abbrev pub maskInFile : List ℕ → ℕ → ℕ
+maskInFile file i = leAt file (masksAt + 8 * i) 8
 
-abbrev pub masksIn : List ℕ → List ℕ
-masksIn file = listed (maskIn file) (boardsIn file)
+abbrev pub masksInFile : List ℕ → List ℕ
+masksInFile file = listed (maskInFile file) (boardsInFile file)
 
-abbrev pub formulaIn : List ℕ → List ℕ
-formulaIn file = drop (formulaAt (boardsIn file)) file
+abbrev pub formulaInFile : List ℕ → List ℕ
+formulaInFile file = drop (fileFormulaAt (boardsInFile file)) file

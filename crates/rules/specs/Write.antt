@@ -6,7 +6,7 @@ use lib.ListN.{length}
 use lib.Dec.{eqb}
 use Rattle.lists.specs.Runs.{padded}
 use Rattle.answers.specs.Said.{Said, accepted, refused, left, numberOf, check, inOrder}
-use Rattle.ltl.specs.Text.{ruleText}
+use Rattle.ltl.specs.Decode.{isRule}
 use Rattle.masks.specs.Masks.{masksRule}
 use Rattle.rules.specs.declared.writing.WriteAnswer.{WriteAnswer}
 use Rattle.rules.specs.declared.writing.WriteAnswer.the-variants.{Refused, Written}
@@ -18,7 +18,7 @@ writeSays masks p formula room =
     (check 1 (eqb room fileMost)
     ∷ check 3 (countsOk (length masks) p (length formula))
     ∷ check 5 (masksRule p masks)
-    ∷ check 6 (ruleText p formula)
+    ∷ check 6 (isRule p formula)
     ∷ [])
     (accepted (totalOf (length masks) (length formula) ∷ []))
 

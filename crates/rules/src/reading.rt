@@ -2,10 +2,10 @@
 ghost use mathlib.Core.Path.{_≡_};
 ghost use Prim.Native.Nat.{_≤_};
 ghost use lib.ListN.{length};
-ghost use Rattle.ltl.specs.Limits.{boardsMost, ruleNodesMost};
+ghost use Rattle.limits.specs.Limits.{boardsMost, ruleNodesMost};
 ghost use Rattle.lists.specs.Runs.{padded};
-ghost use Rattle.rules.specs.RuleFile.{masksAt, boardsIn, nodesIn};
-ghost use Rattle.rules.specs.Read.{lengthsOk, offsetsOk, Reads};
+ghost use Rattle.rules.specs.RuleFile.{masksAt, boardsInFile, nodesInFile};
+ghost use Rattle.rules.specs.Read.{readLengthsOk, offsetsOk, Reads};
 use crate::counts::BOARDS_MOST;
 use crate::counts::MASKS_AT;
 use crate::counts::RULE_NODES_MOST;
@@ -26,7 +26,7 @@ pub enum ReadAnswer {
 
 // The lent outputs have their lengths, and the file has at least a header and the length of its total.
 fn lengths_ok(file: &[u8], masks: usize, formula: usize) -> bool
-    ensures { λ r. ⌜ r ≡ lengthsOk (now (file .entry)) masks formula ⌝ }
+    ensures { λ r. ⌜ r ≡ readLengthsOk (now (file .entry)) masks formula ⌝ }
 {
     if masks != BOARDS_MOST {
         return false;
@@ -42,7 +42,7 @@ fn lengths_ok(file: &[u8], masks: usize, formula: usize) -> bool
 
 // The offsets and the total are those of b boards and n nodes.
 fn offsets_ok(file: &[u8], b: usize, n: usize) -> bool
-    requires { ⌜ (masksAt ≤ length (now file)) × (b ≡ boardsIn (now file)) × (n ≡ nodesIn (now file)) × (b ≤ boardsMost) × (n ≤ ruleNodesMost) ⌝ }
+    requires { ⌜ (masksAt ≤ length (now file)) × (b ≡ boardsInFile (now file)) × (n ≡ nodesInFile (now file)) × (b ≤ boardsMost) × (n ≤ ruleNodesMost) ⌝ }
     ensures { λ r. ⌜ r ≡ offsetsOk (now (file .entry)) ⌝ }
 {
     if le::u16_at(file, 8) as usize != MASKS_AT {
@@ -59,10 +59,10 @@ fn hand_out(found: &[u64], text: &[u8], masks: &mut [u64], formula: &mut [u8])
     requires { ⌜ (length (now found) ≡ length (now masks)) × (length (now text) ≤ length (now formula)) ⌝ }
     ensures { λ _. ⌜ (now (masks .exit) ≡ now (found .entry)) × (now (formula .exit) ≡ padded (length (now (formula .entry))) (now (text .entry))) ⌝ }
 {
-    runs::copy_masks(masks, found);
-    runs::copy(formula, text);
+    buffers::copy_masks(masks, found);
+    buffers::copy(formula, text);
     let n = text.len();
-    runs::clear(&mut formula[n..]);
+    buffers::clear(&mut formula[n..]);
 }
 
 pub fn read(file: &[u8], masks: &mut [u64], formula: &mut [u8]) -> ReadAnswer
@@ -89,7 +89,7 @@ pub fn read(file: &[u8], masks: &mut [u64], formula: &mut [u8]) -> ReadAnswer
         return ReadAnswer::Refused(Refusal::Masks);
     }
     let at = MASKS_AT + 8 * b;
-    if !texts::is_rule(&file[at..], p) {
+    if !owing::is_rule(&file[at..], p) {
         return ReadAnswer::Refused(Refusal::Formula);
     }
     hand_out(&found, &file[at..], masks, formula);

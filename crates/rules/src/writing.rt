@@ -3,8 +3,8 @@ ghost use mathlib.Core.Path.{_≡_};
 ghost use mathlib.Core.List.{_++_};
 ghost use Prim.Native.Nat.{_*_, _≤_};
 ghost use lib.ListN.{length, drop};
-ghost use Rattle.ltl.specs.Limits.{boardsMost, ruleNodesMost};
-ghost use Rattle.rules.specs.RuleFile.{masksAt, header, maskBytes};
+ghost use Rattle.limits.specs.Limits.{boardsMost, ruleNodesMost};
+ghost use Rattle.rules.specs.RuleFile.{masksAt, fileHeader, maskBytes};
 ghost use Rattle.rules.specs.Write.{Writes};
 use crate::counts::FILE_MOST;
 use crate::counts::MASKS_AT;
@@ -17,10 +17,10 @@ pub enum WriteAnswer {
     Written(usize),
 }
 
-// The header of b boards, p propositions and n nodes, at the front of the file.
+// The fileHeader of b boards, p propositions and n nodes, at the front of the file.
 fn put_header(file: &mut [u8], b: u16, p: u16, n: u16)
     requires { ⌜ (masksAt ≤ length (now file)) × (b ≤ boardsMost) × (n ≤ ruleNodesMost) ⌝ }
-    ensures { λ _. ⌜ now (file .exit) ≡ header b p n ++ drop masksAt (now (file .entry)) ⌝ }
+    ensures { λ _. ⌜ now (file .exit) ≡ fileHeader b p n ++ drop masksAt (now (file .entry)) ⌝ }
 {
     let first = MASKS_AT as u16;
     let at = first + 8 * b;
@@ -53,14 +53,14 @@ pub fn write(masks: &[u64], propositions: u64, formula: &[u8], file: &mut [u8]) 
     if !masks::follow_rule(masks, propositions) {
         return WriteAnswer::Refused(Refusal::Masks);
     }
-    if !texts::is_rule(formula, propositions) {
+    if !owing::is_rule(formula, propositions) {
         return WriteAnswer::Refused(Refusal::Formula);
     }
     let at = MASKS_AT + 8 * b;
     let total = at + n;
     put_header(file, b as u16, propositions as u16, n as u16);
     put_masks(&mut file[MASKS_AT..], masks);
-    runs::copy(&mut file[at..], formula);
-    runs::clear(&mut file[total..]);
+    buffers::copy(&mut file[at..], formula);
+    buffers::clear(&mut file[total..]);
     WriteAnswer::Written(total)
 }

@@ -13,6 +13,7 @@ use lib.Seq.{drop-cons}
 use lib.Dec.{ltb}
 use lib.Bits.{bitOr}
 use borrow.Author.Tests.{ltb-true, ltb-false, lt-ltb, eq-eqb}
+use Rattle.limits.specs.Limits.{propositionsMost, holderCodes}
 use Rattle.lists.specs.Tests.{pick, both, bit}
 use Rattle.lists.proofs.Tests.{no-true}
 use Rattle.kinds.specs.declared.Leaf.the-variants.{Const, Prop, Hold}
@@ -22,11 +23,11 @@ use Rattle.kinds.specs.declared.Kind.{Kind}
 use Rattle.kinds.specs.Kinds.{kindOf}
 use Rattle.kinds.proofs.Codes.{CodeOf, isZero, isOne, isTwo, isNone, code}
 use Rattle.ltl.specs.Formula.{Formula, encode}
-use Rattle.ltl.specs.Text.{textOf, overAlone, textOver}
-use Rattle.ltl.proofs.Texts.{text-is}
-use Rattle.texts.specs.declared.Owed.the-variants.{Operands, Broken}
-use Rattle.texts.specs.Scan.{owedAfter, scan}
-use Rattle.texts.proofs.Scans.{scan-is, owed-bound, turn-on, turn-end}
+use Rattle.ltl.specs.Decode.{decoded, overAlone, isFormula}
+use Rattle.ltl.proofs.Decoding.{decoded-is}
+use Rattle.owing.specs.declared.Owed.the-variants.{Operands, Broken}
+use Rattle.owing.specs.Scan.{owedAfter, scan}
+use Rattle.owing.proofs.Scans.{scan-is, owed-bound, turn-on, turn-end}
 use Rattle.scanning.specs.declared.Allowed.{Allowed}
 use Rattle.scanning.specs.declared.Pass.{Pass}
 use Rattle.scanning.specs.declared.Passed.{Passed}
@@ -54,7 +55,7 @@ inward-pick true n m seen = refl
 inward-pick false n m seen = refl
 
 inside-scans : (p b : ℕ) {k : Kind} → CodeOf b k → (m n seen : ℕ) (y : Pass) → insideAfter p k m n seen ≡ On y
-    → owedAfter 64 64 k (n + m) ≡ Operands (y .outer + y .inner)
+    → owedAfter propositionsMost holderCodes k (n + m) ≡ Operands (y .outer + y .inner)
 unfolding pick
 inside-scans p b (isZero {a = Const v} e c) m n seen y h = on-owed n m seen (n + m) y h refl
 inside-scans p b (isZero {a = Prop i} e c) m n seen y h =
@@ -66,7 +67,7 @@ inside-scans p b (isTwo {o = o} e) m n seen y h = on-owed n (m + 2) seen (n + m 
 inside-scans p b isNone m n seen y h = absurd (off-on y h)
 
 outside-scans : (a : Allowed) (b : ℕ) {k : Kind} → CodeOf b k → (n seen : ℕ) (y : Pass) → outsideAfter a k n seen ≡ On y
-    → owedAfter 64 64 k n ≡ Operands (y .outer + y .inner)
+    → owedAfter propositionsMost holderCodes k n ≡ Operands (y .outer + y .inner)
 unfolding pick
 outside-scans a b (isZero {a = Const v} e c) n seen y h = on-owed n 0 seen n y h (omega arith)
 outside-scans a b (isZero {a = Prop i} e c) n seen y h =
@@ -84,7 +85,7 @@ outside-scans a b isNone n seen y h = absurd (off-on y h)
 -- behind a node as many operands are owed as in the language
 record Owing (k : Kind) (x y : Pass) : Type 0 where
   some : 0 < x .outer + x .inner
-  owed : owedAfter 64 64 k (x .outer + x .inner - 1) ≡ Operands (y .outer + y .inner)
+  owed : owedAfter propositionsMost holderCodes k (x .outer + x .inner - 1) ≡ Operands (y .outer + y .inner)
 
 owing : (a : Allowed) (b : ℕ) (x y : Pass) → passAfter a (kindOf b) x ≡ On y → Owing (kindOf b) x y
 unfolding passAfter pick
@@ -96,17 +97,17 @@ owing a b x y h = go (ltb 0 (x .inner)) refl (ltb (x .outer) 1) refl h
     go true p o q h =
         let z = ltb-true 0 (x .inner) p in
         let e : x .outer + x .inner - 1 ≡ x .outer + (x .inner - 1) = omega arith in
-        record { some = omega arith; owed = ap (λ (n : ℕ). owedAfter 64 64 (kindOf b) n) e ∙ inside-scans (a .propositions) b (code b) (x .inner - 1) (x .outer) (x .seen) y h }
+        record { some = omega arith; owed = ap (λ (n : ℕ). owedAfter propositionsMost holderCodes (kindOf b) n) e ∙ inside-scans (a .propositions) b (code b) (x .inner - 1) (x .outer) (x .seen) y h }
     go false p true q h = absurd (off-on y h)
     go false p false q h =
         let z = ltb-false 0 (x .inner) p in
         let w = ltb-false (x .outer) 1 q in
         let e : x .outer + x .inner - 1 ≡ x .outer - 1 = omega arith in
-        record { some = omega arith; owed = ap (λ (n : ℕ). owedAfter 64 64 (kindOf b) n) e ∙ outside-scans a b (code b) (x .outer - 1) (x .seen) y h }
+        record { some = omega arith; owed = ap (λ (n : ℕ). owedAfter propositionsMost holderCodes (kindOf b) n) e ∙ outside-scans a b (code b) (x .outer - 1) (x .seen) y h }
 
 -- and so at most one more than before it
 pub owing-few : (a : Allowed) (b : ℕ) (x y : Pass) → passAfter a (kindOf b) x ≡ On y → y .outer + y .inner ≤ x .outer + x .inner + 1
-owing-few a b x y h = let w = owing a b x y h in let s = w .some in let f = owed-bound 64 64 (kindOf b) (x .outer + x .inner - 1) (y .outer + y .inner) (w .owed) in omega arith
+owing-few a b x y h = let w = owing a b x y h in let s = w .some in let f = owed-bound propositionsMost holderCodes (kindOf b) (x .outer + x .inner - 1) (y .outer + y .inner) (w .owed) in omega arith
 
 pub wrong-slots : (r : ℕ) → _≡_ {A = Held} Wrong (Slots r) → ⊥
 wrong-slots r e = let z : _≡_ {A = ℕ} 0 1 = cc in omega arith
@@ -120,17 +121,17 @@ ended-owes x r h = go (ltb 0 (x .outer)) refl (ltb 0 (x .inner)) refl h
     go false p true q h = absurd (wrong-slots r h)
     go false p false q h = let y = ltb-false 0 (x .outer) p in let z = ltb-false 0 (x .inner) q in omega arith
 
-pass-scans : (a : Allowed) (l : List ℕ) (x : Pass) (r : ℕ) → pass a l x ≡ Slots r → scan 64 64 l (x .outer + x .inner) ≡ true
+pass-scans : (a : Allowed) (l : List ℕ) (x : Pass) (r : ℕ) → pass a l x ≡ Slots r → scan propositionsMost holderCodes l (x .outer + x .inner) ≡ true
 unfolding pass
-pass-scans a [] x r h = turn-end 64 64 [] 0 (x .outer + x .inner) (omega arith) ∙ eq-eqb (x .outer + x .inner) 0 (ended-owes x r h)
+pass-scans a [] x r h = turn-end propositionsMost holderCodes [] 0 (x .outer + x .inner) (omega arith) ∙ eq-eqb (x .outer + x .inner) 0 (ended-owes x r h)
 pass-scans a (b ∷ l) x r h = go (passAfter a (kindOf b) x) refl h (λ y. pass-scans a l y r)
   where
     go : (z : Passed) → passAfter a (kindOf b) x ≡ z → goOn z (λ y. pass a l y) ≡ Slots r
-        → ((y : Pass) → pass a l y ≡ Slots r → scan 64 64 l (y .outer + y .inner) ≡ true) → scan 64 64 (b ∷ l) (x .outer + x .inner) ≡ true
+        → ((y : Pass) → pass a l y ≡ Slots r → scan propositionsMost holderCodes l (y .outer + y .inner) ≡ true) → scan propositionsMost holderCodes (b ∷ l) (x .outer + x .inner) ≡ true
     go (On y) e h ih =
         let w = owing a b x y e in
         let s = w .some in
-        turn-on 64 64 (b ∷ l) 0 (x .outer + x .inner) (omega arith) (λ q. omega arith) (y .outer + y .inner) (w .owed) ∙ ih y h
+        turn-on propositionsMost holderCodes (b ∷ l) 0 (x .outer + x .inner) (omega arith) (λ q. omega arith) (y .outer + y .inner) (w .owed) ∙ ih y h
     go Off e h ih = absurd (wrong-slots r h)
 
 -- ---- the pass is the formula's clause
@@ -138,20 +139,20 @@ abbrev pub checkedText : Allowed → Option Formula → ℕ → Held
 checkedText a none seen = Wrong
 checkedText a (some f) seen = checked a f seen
 
-pub pass-is : (a : Allowed) (l : List ℕ) (seen : ℕ) → pass a l (at 1 0 seen) ≡ checkedText a (textOf l) seen
-unfolding textOver
-pass-is a l seen = go (textOf l) refl
+pub pass-is : (a : Allowed) (l : List ℕ) (seen : ℕ) → pass a l (at 1 0 seen) ≡ checkedText a (decoded l) seen
+unfolding isFormula
+pass-is a l seen = go (decoded l) refl
   where
-    none-fails : (h : Held) → pass a l (at 1 0 seen) ≡ h → textOf l ≡ none → h ≡ Wrong
+    none-fails : (h : Held) → pass a l (at 1 0 seen) ≡ h → decoded l ≡ none → h ≡ Wrong
     none-fails Wrong e q = refl
     none-fails (Slots r) e q =
-        let t : textOver 64 64 l ≡ true = sym (scan-is 64 64 l) ∙ pass-scans a l (at 1 0 seen) r e in
-        absurd (no-true (ap (overAlone 64 64) (sym q) ∙ t))
+        let t : isFormula propositionsMost holderCodes l ≡ true = sym (scan-is propositionsMost holderCodes l) ∙ pass-scans a l (at 1 0 seen) r e in
+        absurd (no-true (ap (overAlone propositionsMost holderCodes) (sym q) ∙ t))
 
-    go : (x : Option Formula) → textOf l ≡ x → pass a l (at 1 0 seen) ≡ checkedText a x seen
+    go : (x : Option Formula) → decoded l ≡ x → pass a l (at 1 0 seen) ≡ checkedText a x seen
     go none q = none-fails (pass a l (at 1 0 seen)) refl q
     go (some f) q =
-        let t = text-is l f q in
+        let t = decoded-is l f q in
         ap (λ (k : List ℕ). pass a k (at 1 0 seen)) (t .1 ∙ sym (append-nil (encode f)))
         ∙ pass-outside a f 0 seen [] (t .0)
         ∙ ap (λ (h : ℕ → Held). thereafter (checked a f seen) h) (λ i s. pass-ends a s i)

@@ -19,10 +19,10 @@ use Rattle.kinds.specs.declared.Unary.the-variants.{Not, Next, Eventually, Alwa
 use Rattle.kinds.specs.declared.Binary.{Binary}
 use Rattle.kinds.specs.declared.Binary.the-variants.{Joined, Until}
 use Rattle.kinds.specs.declared.Kind.{Kind}
-use Rattle.kinds.specs.Kinds.{leafWithin, kindOf, leafCode, unaryCode, binaryCode}
+use Rattle.kinds.specs.Kinds.{kindOf, leafCode, unaryCode, binaryCode, leafCoded}
 use Rattle.kinds.proofs.Codes.{kind-leaf, kind-unary, kind-binary}
-use Rattle.ltl.specs.Formula.{Formula, leaf, one, two, encode, Within, leafOver, over}
-use Rattle.texts.specs.declared.Owed.the-variants.{Operands, Broken}
+use Rattle.ltl.specs.Formula.{Formula, leaf, one, two, encode, leafOver, over, Coded}
+use Rattle.owing.specs.declared.Owed.the-variants.{Operands, Broken}
 use Rattle.state.specs.Clauses.{heldBy}
 use Rattle.scanning.specs.declared.Allowed.{Allowed}
 use Rattle.scanning.specs.declared.Pass.{Pass}
@@ -121,7 +121,7 @@ pass-ends a seen = refl
 cons-inside : (a : Allowed) (b n m seen : ℕ) (l : List ℕ) → pass a (b ∷ l) (at n (suc m) seen) ≡ goOn (insideAfter (a .propositions) (kindOf b) m n seen) (λ y. pass a l y)
 cons-inside a b n m seen l = pass-cons a b l (at n (suc m) seen) ∙ ap (λ (x : Passed). goOn x (λ y. pass a l y)) (after-inside a (kindOf b) n m seen)
 
-inside-leaf : (a : Allowed) (v : Leaf) (n m seen : ℕ) (l : List ℕ) → leafWithin 64 64 v
+inside-leaf : (a : Allowed) (v : Leaf) (n m seen : ℕ) (l : List ℕ) → leafCoded v
     → pass a (leafCode v ∷ l) (at n (suc m) seen) ≡ pick (leafOver (a .propositions) 0 v) (pass a l (at n m seen)) Wrong
 unfolding pick leafOver
 inside-leaf a (Const v) n m seen l c = cons-inside a (leafCode (Const v)) n m seen l ∙ rw (kind-leaf (Const v) tt)
@@ -140,7 +140,7 @@ over-leaf : (p s : ℕ) (v : Leaf) → over p s (leaf v) ≡ leafOver p s v
 unfolding over
 over-leaf p s v = refl
 
-pass-inside : (a : Allowed) (f : Formula) (n m seen : ℕ) (l : List ℕ) → Within 64 64 f
+pass-inside : (a : Allowed) (f : Formula) (n m seen : ℕ) (l : List ℕ) → Coded f
     → pass a (encode f ++ l) (at n (suc m) seen) ≡ pick (over (a .propositions) 0 f) (pass a l (at n m seen)) Wrong
 pass-inside a (leaf v) n m seen l c = inside-leaf a v n m seen l c ∙ rw (over-leaf (a .propositions) 0 v)
 pass-inside a (one o f) n m seen l c = cons-inside a (unaryCode o) n m seen (encode f ++ l) ∙ rw (kind-unary o, add-one, over-one (a .propositions) 0 o f) (pass-inside a f n m seen l c)
@@ -202,7 +202,7 @@ two-checked true false f g seen k = thereafter-wrong (noted f seen)
 two-checked false y f g seen k = refl
 
 -- a temporal operator's operands stand inside
-temporal-one : (a : Allowed) (f : Formula) (n seen : ℕ) (l : List ℕ) → Within 64 64 f
+temporal-one : (a : Allowed) (f : Formula) (n seen : ℕ) (l : List ℕ) → Coded f
     → goOn (pick (a .temporal) (On (at n 1 seen)) Off) (λ y. pass a (encode f ++ l) y)
     ≡ thereafter (pick (both (a .temporal) (over (a .propositions) 0 f)) (noted (heldBy f) seen) Wrong) (λ s. pass a l (at n 0 s))
 temporal-one a f n seen l c =
@@ -212,7 +212,7 @@ temporal-one a f n seen l c =
     ∙ ap (λ (h : Held). pick (a .temporal) h Wrong) (pass-inside a f n 0 seen l c)
     ∙ temporal-checked (a .temporal) o (rest seen) (noted (heldBy f) seen) rest (inside-checked (a .propositions) f seen rest)
 
-temporal-two : (a : Allowed) (f g : Formula) (n seen : ℕ) (l : List ℕ) → Within 64 64 f × Within 64 64 g
+temporal-two : (a : Allowed) (f g : Formula) (n seen : ℕ) (l : List ℕ) → Coded f × Coded g
     → goOn (pick (a .temporal) (On (at n 2 seen)) Off) (λ y. pass a ((encode f ++ encode g) ++ l) y)
     ≡ thereafter (pick (both (a .temporal) (both (over (a .propositions) 0 f) (over (a .propositions) 0 g))) (noted (heldBy f ++ heldBy g) seen) Wrong) (λ s. pass a l (at n 0 s))
 unfolding heldBy
@@ -232,7 +232,7 @@ temporal-two a f g n seen l c =
     until-checked p f g seen h =
         rw (← over-two p 0 Until f g) (inside-checked p (two Until f g) seen h)
 
-pub pass-outside : (a : Allowed) (f : Formula) (n seen : ℕ) (l : List ℕ) → Within 64 64 f
+pub pass-outside : (a : Allowed) (f : Formula) (n seen : ℕ) (l : List ℕ) → Coded f
     → pass a (encode f ++ l) (at (suc n) 0 seen) ≡ thereafter (checked a f seen) (λ s. pass a l (at n 0 s))
 unfolding stands heldBy
 pass-outside a (leaf v) n seen l c = cons-outside a (leafCode v) n seen l ∙ rw (kind-leaf v c) (outside-leaf a v n seen l)

@@ -16,9 +16,9 @@ use Rattle.kinds.specs.declared.Binary.the-variants.{Joined, Until}
 use Rattle.kinds.specs.declared.Kind.{Kind}
 use Rattle.kinds.specs.declared.Kind.the-variants.{Zero, One, Two, NoCode}
 use Rattle.kinds.specs.Kinds.{kindOf}
-use Rattle.texts.specs.declared.Owed.{Owed}
-use Rattle.texts.specs.declared.Owed.the-variants.{Operands, Broken}
-use Rattle.texts.specs.Scan.{owedAfter}
+use Rattle.owing.specs.declared.Owed.{Owed}
+use Rattle.owing.specs.declared.Owed.the-variants.{Operands, Broken}
+use Rattle.owing.specs.Scan.{owedAfter}
 use Rattle.scanning.specs.declared.Allowed.{Allowed}
 use Rattle.scanning.specs.declared.Pass.{Pass}
 use Rattle.scanning.specs.declared.Passed.{Passed}

@@ -8,7 +8,7 @@ use kinds::Binary;
 use kinds::Kind;
 use kinds::Leaf;
 use kinds::Unary;
-use texts::Owed;
+use owing::Owed;
 
 // What may stand in a slot's formula. Propositions are below `propositions`, and outside next and the temporal operators in `own`;
 // place holders are above `slot`, below `slots` and in `holders`. Temporal operators stand outside next where `temporal` says so.
@@ -157,7 +157,7 @@ fn inside(k: Kind, p: u64, others: usize, outer: usize, seen: u64) -> Passed
     requires { ⌜ others + 2 < 2 ^ 64 ⌝ }
     ensures { λ r. ⌜ r ≡ insideAfter p k others outer seen ⌝ }
 {
-    let owed = texts::after(k, others, p, 0);
+    let owed = owing::after(k, others, p, 0);
     match owed {
         Owed::Operands(n) => Passed::On(Pass {
             outer: outer,

@@ -12,7 +12,7 @@ use lib.Seq.{getD-set-other}
 use lib.Dec.{ltb}
 use borrow.Author.Tests.{lt-ltb, le-ltb, ltb-true, ltb-false}
 use Rattle.lists.specs.Tests.{pick}
-use Rattle.ltl.specs.Limits.{boardsMost}
+use Rattle.limits.specs.Limits.{boardsMost}
 use Rattle.network.specs.Scores.{highest}
 use Rattle.lists.proofs.Stretches.{zeros-at}
 use Rattle.scores.specs.Scored.{noneScored, oneScored}

@@ -15,7 +15,7 @@ use Rattle.lists.specs.Tests.{pick, bit}
 use Rattle.masks.specs.Masks.{masksRule, bitAt}
 use Rattle.masks.proofs.Bits.{bit-less}
 use Rattle.masks.proofs.Exact.{owners, below, exact}
-use Rattle.ltl.specs.Limits.{boardsMost, propositionsMost}
+use Rattle.limits.specs.Limits.{boardsMost, propositionsMost}
 use Rattle.scores.specs.Owned.{Table, Owned, Owns}
 use Rattle.scores.proofs.Tests.{bit-yes, bit-no, eqb-suc}
 

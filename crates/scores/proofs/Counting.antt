@@ -14,9 +14,9 @@ use Rattle.kinds.specs.declared.Leaf.the-variants.{Const, Prop, Hold}
 use Rattle.kinds.specs.declared.Unary.{Unary}
 use Rattle.kinds.specs.declared.Binary.{Binary}
 use Rattle.kinds.specs.declared.Kind.the-variants.{Zero}
-use Rattle.ltl.specs.Limits.{boardsMost}
+use Rattle.limits.specs.Limits.{boardsMost}
 use Rattle.ltl.specs.Formula.{Formula, leaf, one, two, size, Within}
-use Rattle.ltl.proofs.Texts.{size-some}
+use Rattle.ltl.proofs.Decoding.{size-some}
 use Rattle.network.specs.Scores.{occurrences, highest, chosen}
 use Rattle.nodes.proofs.Fronts.{Parts, isZero, Single, Double}
 use Rattle.nodes.proofs.Operands.{left-read}

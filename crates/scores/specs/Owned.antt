@@ -8,7 +8,7 @@ use lib.Dec.{eqb}
 use Rattle.lists.specs.Tests.{bit}
 use Rattle.kinds.specs.declared.Leaf.{Leaf}
 use Rattle.kinds.specs.declared.Leaf.the-variants.{Const, Prop, Hold}
-use Rattle.ltl.specs.Limits.{boardsMost, propositionsMost}
+use Rattle.limits.specs.Limits.{boardsMost, propositionsMost}
 use Rattle.masks.specs.Masks.{masksRule}
 
 -- a board for each proposition that there may be

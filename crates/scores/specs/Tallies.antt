@@ -4,7 +4,7 @@ use mathlib.Core.List.{List}
 use Prim.Native.Nat.{ℕ, _≤_}
 use lib.ListN.{getD}
 use Rattle.lists.specs.Runs.{padded}
-use Rattle.ltl.specs.Limits.{boardsMost}
+use Rattle.limits.specs.Limits.{boardsMost}
 use Rattle.ltl.specs.Formula.{Formula, size, Within}
 use Rattle.network.specs.Scores.{scoresOf}
 use Rattle.nodes.specs.Begins.{Front}

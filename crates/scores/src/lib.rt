@@ -5,8 +5,8 @@ ghost use mathlib.Core.Option.{none};
 ghost use Prim.Native.Nat.{ℕ, _+_, _<_, _≤_};
 ghost use lib.ListN.{length, getD};
 ghost use Rattle.lists.specs.Tests.{pick, bit};
-ghost use Rattle.kinds.specs.Kinds.{leafWithin};
-ghost use Rattle.ltl.specs.Limits.{boardsMost, nodesMost};
+ghost use Rattle.kinds.specs.Kinds.{leafCoded};
+ghost use Rattle.limits.specs.Limits.{boardsMost, nodesRoom};
 ghost use Rattle.network.specs.Scores.{highest};
 ghost use Rattle.nodes.specs.Begins.{Begins};
 ghost use Rattle.scores.specs.Scored.{oneScored, added, countsBelow, Few, boardOf};
@@ -95,7 +95,7 @@ pub struct Tallied {
 
 // The owner of a proposition; constants and place holders have none.
 pub fn owner_of(a: Leaf, owner: &[u8]) -> u8
-    requires { ⌜ leafWithin 64 64 a × Table (now owner) ⌝ }
+    requires { ⌜ leafCoded a × Table (now owner) ⌝ }
     ensures { λ r. ⌜ (r ≡ ownerOf (now (owner .entry)) a) × (r ≤ boardsMost) ⌝ }
 {
     match a {
@@ -107,7 +107,7 @@ pub fn owner_of(a: Leaf, owner: &[u8]) -> u8
 
 // The scores of the formula that s begins with, added operand by operand. `owner` has each proposition's board.
 pub fn tally(s: &[u8], owner: &[u8]) -> Tallied
-    requires { ⌜ Begins (now s) × Table (now owner) × (length (now s) ≤ nodesMost) ⌝ }
+    requires { ⌜ Begins (now s) × Table (now owner) × (length (now s) ≤ nodesRoom) ⌝ }
     ensures { λ r. ⌜ Tallies (now (owner .entry)) (now (s .entry)) (r .read) (r .scores .counts) ⌝ }
 {
     let k = Kind::of(s[0]);

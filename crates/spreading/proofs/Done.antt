@@ -7,7 +7,7 @@ use Prim.Native.Nat.{ℕ, _+_, _-_, _<_, _≤_}
 use native.Mathlib.Omega.{arith}
 use lib.ListN.{length, getD, take, drop, take-append-drop}
 use lib.Seq.{length-take-le, getD-drop}
-use Rattle.ltl.specs.Limits.{boardsMost}
+use Rattle.limits.specs.Limits.{boardsMost}
 use Rattle.ltl.specs.Formula.{Formula, size}
 use Rattle.network.specs.Scores.{chosen}
 use Rattle.state.specs.Fields.{slotsIn, masksIn, boardOfIn}
@@ -15,10 +15,10 @@ use Rattle.state.specs.Clauses.{stateOk}
 use Rattle.state.specs.Bytes.{networkOf}
 use Rattle.state.proofs.Rows.{masks-length}
 use Rattle.cutting.proofs.Choices.{chosen-below}
-use Rattle.marking.specs.Marks.{aheadIn}
+use Rattle.tagging.specs.Tags.{aheadIn}
 use Rattle.laying.specs.Lays.{OnBoard, HeldAt}
 use Rattle.laying.proofs.Totals.{relaid-single}
-use Rattle.passing.proofs.Passing.{passing}
+use Rattle.checked.proofs.Passing.{passing}
 use Rattle.spreading.specs.Spreads.{unfoldedAt, Spreads}
 use Rattle.spreading.proofs.Room.{holdIn, slot-coded, root-there, lays-again, next-is}
 use Rattle.spreading.proofs.Places.{StandsIn, HeldFront}
@@ -29,9 +29,9 @@ module _ (s : List ℕ) (ok : stateOk s ≡ true) where
   choose = chosen (masksIn s)
 
   -- a slot that stands there can be laid on its board
-  on-board : (w marks : List ℕ) (at m : ℕ) → m < slotsIn s → StandsIn s w marks at m
-      → OnBoard choose (drop at w) (drop at marks) (unfoldedAt s m) (drop (size (unfoldedAt s m)) (drop at w)) (boardOfIn s m)
-  on-board w marks at m l h =
+  on-board : (w tags : List ℕ) (at m : ℕ) → m < slotsIn s → StandsIn s w tags at m
+      → OnBoard choose (drop at w) (drop at tags) (unfoldedAt s m) (drop (size (unfoldedAt s m)) (drop at w)) (boardOfIn s m)
+  on-board w tags at m l h =
       let n = size (unfoldedAt s m) in
       record {
         front =
@@ -41,16 +41,16 @@ module _ (s : List ℕ) (ok : stateOk s ≡ true) where
             };
         board-is = h .stands .board-is;
         here-is = h .stands .here-is;
-        marked = h .stands .marked;
+        tagged = h .stands .tagged;
       }
 
   -- the slot of a place holder
-  held-at : (w marks : List ℕ) (m : ℕ) → getD w 0 0 ≡ 128 + m → HeldFront s w marks → HeldAt choose (holdIn s) w marks m
-  held-at w marks m e h =
+  held-at : (w tags : List ℕ) (m : ℕ) → getD w 0 0 ≡ 128 + m → HeldFront s w tags → HeldAt choose (holdIn s) w tags m
+  held-at w tags m e h =
       let is : getD w 0 0 - 128 ≡ m = omega arith in
       let l : m < slotsIn s = subst (λ (n : ℕ). n < slotsIn s) is (h .there) in
-      let at = aheadIn (getD marks 0 0) in
-      let x : StandsIn s w marks at m = subst (StandsIn s w marks at) is (h .stands) in
+      let at = aheadIn (getD tags 0 0) in
+      let x : StandsIn s w tags at m = subst (StandsIn s w tags at) is (h .stands) in
       let p = passing s ok in
       record {
         formula = unfoldedAt s m;
@@ -59,12 +59,12 @@ module _ (s : List ℕ) (ok : stateOk s ≡ true) where
         there = let a = p .slots m l .board-there in let b = p .header .few-boards in omega arith;
         ahead = h .ahead;
         inside = let a = x .inside in omega arith;
-        stands = on-board w marks at m l x;
+        stands = on-board w tags at m l x;
         lays = λ k. lays-again s ok m k l;
       }
 
-  pub spread-done : {u marks : List ℕ} {i end : ℕ} → Turn s u marks i end → end ≤ i → Spreads s u marks end
-  spread-done {u} {marks} {i} {end} turn done =
+  pub spread-done : {u tags : List ℕ} {i end : ℕ} → Turn s u tags i end → end ≤ i → Spreads s u tags end
+  spread-done {u} {tags} {i} {end} turn done =
       let w = take end u in
       let p = passing s ok in
       let lw = length-take-le end u (omega arith) in
@@ -80,11 +80,11 @@ module _ (s : List ℕ) (ok : stateOk s ≡ true) where
               source =
                   record {
                     long = omega arith;
-                    held = λ j m l few e. held-at (drop j w) (drop j marks) m (first w j ∙ e) (turn .reached .held j (omega arith) (omega arith));
+                    held = λ j m l few e. held-at (drop j w) (drop j tags) m (first w j ∙ e) (turn .reached .held j (omega arith) (omega arith));
                     single = λ m k. relaid-single choose (networkOf s) (length (networkOf s)) m k;
                     boards = λ f c e. chosen-below boardsMost (masksIn s) (let a = masks-length s in let b = p .header .few-boards in omega arith) f c e;
                   };
-              stands = on-board w marks 0 0 (root-there s ok) (turn .reached .root);
+              stands = on-board w tags 0 0 (root-there s ok) (turn .reached .root);
               network-is = next-is s ok;
             };
       }

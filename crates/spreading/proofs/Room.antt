@@ -8,9 +8,10 @@ use mathlib.Core.Option.{Option}
 use Prim.Native.Nat.{ℕ, _+_, _<_, _≤_}
 use native.Mathlib.Omega.{arith}
 use lib.ListN.{length}
-use Rattle.ltl.specs.Formula.{Formula, size, encode, Within}
+use Rattle.limits.specs.Limits.{propositionsMost, holderCodes}
+use Rattle.ltl.specs.Formula.{Formula, size, encode, Within, Coded}
 use Rattle.ltl.specs.Progression.{unfolded}
-use Rattle.ltl.proofs.Texts.{unfolded-coded}
+use Rattle.ltl.proofs.Decoding.{unfolded-coded}
 use Rattle.masks.specs.Masks.{sumOnes}
 use Rattle.network.specs.Scores.{chosen}
 use Rattle.network.specs.Layout.{Slot, Laid, cut, rooted, laid, relaid, close}
@@ -21,9 +22,9 @@ use Rattle.state.specs.Bytes.{nodesOf, formulaAt, networkOf}
 use Rattle.state.specs.Calls.{nextIn}
 use Rattle.state.proofs.Rows.{network-length, network-at}
 use Rattle.laying.proofs.Relays.{relaid-again}
-use Rattle.passing.specs.Holds.{Holds}
-use Rattle.passing.proofs.Passing.{passing}
-use Rattle.passing.proofs.Bytes.{holds-formula}
+use Rattle.checked.specs.Holds.{Holds}
+use Rattle.checked.proofs.Passing.{passing}
+use Rattle.checked.proofs.Bytes.{holds-formula}
 use Rattle.counting.specs.Held.{heldOver}
 use Rattle.counting.proofs.Held.{clean-held}
 use Rattle.counting.proofs.Networks.{nodesOfSlot, slot-clean, network-higher, nodes-at, next-nodes}
@@ -42,8 +43,8 @@ module _ (s : List ℕ) where
       pub slot-within : Within (sumOnes (masksIn s)) (slotsIn s) (unfoldedAt s m)
       slot-within = unfolded-coded (sumOnes (masksIn s)) (slotsIn s) (formulaAt s m) (passing s ok .slots m l .within)
 
-      pub slot-coded : Within 64 64 (unfoldedAt s m)
-      slot-coded = unfolded-coded 64 64 (formulaAt s m) (passing s ok .slots m l .coded)
+      pub slot-coded : Coded (unfoldedAt s m)
+      slot-coded = unfolded-coded propositionsMost holderCodes (formulaAt s m) (passing s ok .slots m l .coded)
 
       pub slot-hold : Holds (slotsIn s) (encode (unfoldedAt s m))
       slot-hold = holds-formula (sumOnes (masksIn s)) (slotsIn s) (unfoldedAt s m) (passing s ok .few-propositions) slot-within

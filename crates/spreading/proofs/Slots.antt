@@ -1,4 +1,4 @@
--- One slot unfolded and marked: what is asked of unfolding and marking (`unfold-ask`, `mark-ask`), and what was written (`written-is`) and
+-- One slot unfolded and tagged: what is asked of unfolding and tagging (`unfold-ask`, `tag-ask`), and what was written (`written-is`) and
 -- put (`slot-put`). Assumes nothing.
 use mathlib.Core.Path.{_≡_, sym, ap, _∙_}
 use mathlib.Core.List.{List, []}
@@ -16,8 +16,8 @@ use Rattle.scores.specs.Owned.{Table}
 use Rattle.unfolding.specs.declared.Walk.{Walk}
 use Rattle.unfolding.specs.Unfolds.{Room, Unfolds, UnfoldedTo}
 use Rattle.unfolding.proofs.Fronts.{written-bytes, written-front}
-use Rattle.marking.specs.declared.Placed as mark
-use Rattle.marking.specs.Marks.{hereOn, Marking}
+use Rattle.tagging.specs.declared.Placed as tag
+use Rattle.tagging.specs.Tags.{hereOn, Tagging}
 use Rattle.laying.proofs.Boarding.{on-board}
 use Rattle.checking.specs.Slotted.{Spans}
 use Rattle.checking.proofs.Records as records
@@ -25,7 +25,7 @@ use Rattle.counting.proofs.Slots.{slot-placed, slot-numbers, lent-front}
 use Rattle.spreading.specs.Spreads.{unfoldedAt, SlotAsk, PutsSlot}
 use Rattle.spreading.proofs.Room.{slot-within}
 
-module _ {s : List ℕ} {boards slots nodes m : ℕ} {owner u marks : List ℕ} (ask : SlotAsk s boards slots nodes m owner u marks) where
+module _ {s : List ℕ} {boards slots nodes m : ℕ} {owner u tags : List ℕ} (ask : SlotAsk s boards slots nodes m owner u tags) where
   there : m < slotsIn s
   there = let e = ask .known .header .slots-are in omega arith
 
@@ -50,16 +50,16 @@ module _ {s : List ℕ} {boards slots nodes m : ℕ} {owner u marks : List ℕ} 
       unfolded-front : Front (take (w .written) u′) (unfoldedAt s m) []
       unfolded-front = written-front slot-unfolded (slot-front .coded)
 
-      pub mark-ask : length u′ ≡ length u → Begins (take (w .written) u′) × Table owner × (length (take (w .written) u′) ≤ length marks) × (length (take (w .written) u′) ≤ 4096)
-      mark-ask k =
+      pub tag-ask : length u′ ≡ length u → Begins (take (w .written) u′) × Table owner × (length (take (w .written) u′) ≤ length tags) × (length (take (w .written) u′) ≤ 4096)
+      tag-ask k =
           let e = front-length (take (w .written) u′) (unfoldedAt s m) [] unfolded-front in
           (record { formula = unfoldedAt s m; rest = []; front = unfolded-front }, ask .known .table, omega arith, omega arith)
 
       abbrev board : ℕ
       board = getD s (16 + 17 * boards + 6 * m) 0
 
-      pub slot-put : {marks′ : List ℕ} (y : mark.Placed) → Marking owner (take (w .written) u′) board marks′ y → PutsSlot s m u u′ marks′ (w .written)
-      slot-put {marks′} y h =
+      pub slot-put : {tags′ : List ℕ} (y : tag.Placed) → Tagging owner (take (w .written) u′) board tags′ y → PutsSlot s m u u′ tags′ (w .written)
+      slot-put {tags′} y h =
           let within = slot-within s (ask .known .passes) m there in
           let few = slot-numbers (ask .known) (ask .there) .board in
           let b = records.board-at s boards slots nodes m (slot-placed (ask .known) (ask .there)) in
@@ -72,6 +72,6 @@ module _ {s : List ℕ} {boards slots nodes m : ℕ} {owner u marks : List ℕ} 
                   bytes = ap (λ (i : ℕ). take i u′) (sym written-is) ∙ written-bytes slot-unfolded;
                   board-is = o .board-is ∙ b;
                   here-is = o .here-is ∙ ap (hereOn (chosen (masksIn s)) (unfoldedAt s m)) b;
-                  marked = o .marked;
+                  tagged = o .tagged;
                 };
           }

@@ -10,11 +10,11 @@ use lib.ListN.{length, getD, take, drop}
 use lib.Seq.{length-take-le, take-at, getD-take}
 use lib.Dec.{ltb}
 use borrow.Author.Tests.{ltb-true, ltb-false}
-use Rattle.ltl.specs.Limits.{nodesMost}
+use Rattle.limits.specs.Limits.{nodesRoom}
 use Rattle.ltl.specs.Formula.{size, encode}
-use Rattle.ltl.proofs.Texts.{length-encode}
+use Rattle.ltl.proofs.Decoding.{length-encode}
 use Rattle.state.specs.Fields.{slotsIn}
-use Rattle.passing.specs.Holds.{Holds}
+use Rattle.checked.specs.Holds.{Holds}
 use Rattle.counting.specs.Held.{heldAt, heldOver}
 use Rattle.counting.proofs.Held.{held-low, over-next}
 use Rattle.counting.proofs.Networks.{nodesOfSlot}
@@ -24,43 +24,43 @@ use Rattle.spreading.proofs.Places.{StandsIn, HeldFront, stands-last}
 
 -- bytes w are spread out, and looked at up to i: the root stands there, and the slot of each place holder before i; all place holders
 -- are of slots that are there, and those from i on have room
-pub record Reached (s w marks : List ℕ) (i : ℕ) : Type 0 where
+pub record Reached (s w tags : List ℕ) (i : ℕ) : Type 0 where
   pub order : i ≤ length w
-  pub root : StandsIn s w marks 0 0
-  pub held : (j : ℕ) → j < i → 128 ≤ getD w j 0 → HeldFront s (drop j w) (drop j marks)
+  pub root : StandsIn s w tags 0 0
+  pub held : (j : ℕ) → j < i → 128 ≤ getD w j 0 → HeldFront s (drop j w) (drop j tags)
   pub holds : Holds (slotsIn s) w
-  pub room : length w + heldOver (nodesOfSlot s) (drop i w) ≤ nodesMost
+  pub room : length w + heldOver (nodesOfSlot s) (drop i w) ≤ nodesRoom
 
-pub record Turn (s u marks : List ℕ) (i end : ℕ) : Type 0 where
-  pub u-long : length u ≡ nodesMost
-  pub marks-long : length marks ≡ nodesMost
-  pub inside : end ≤ nodesMost
-  pub reached : Reached s (take end u) marks i
+pub record Turn (s u tags : List ℕ) (i end : ℕ) : Type 0 where
+  pub u-long : length u ≡ nodesRoom
+  pub tags-long : length tags ≡ nodesRoom
+  pub inside : end ≤ nodesRoom
+  pub reached : Reached s (take end u) tags i
 
 -- ---- the first turn: the root was put
-module _ {s owner u marks : List ℕ} {boards slots nodes : ℕ} (ask : SpreadAsk s boards slots nodes owner u marks) where
-  pub first-ask : SlotAsk s boards slots nodes 0 owner u marks
+module _ {s owner u tags : List ℕ} {boards slots nodes : ℕ} (ask : SpreadAsk s boards slots nodes owner u tags) where
+  pub first-ask : SlotAsk s boards slots nodes 0 owner u tags
   first-ask =
       let r = root-room s (ask .known .passes) in
       let z = root-there s (ask .known .passes) in
       let n = ask .known .header .slots-are in
       record { known = ask .known; there = omega arith; room = omega arith; few = omega arith; long = omega arith }
 
-  pub first-turn : {u′ marks′ : List ℕ} {n : ℕ} → PutsSlot s 0 u u′ marks′ n → length u′ ≡ length u → length marks′ ≡ length marks → Turn s u′ marks′ 0 n
-  first-turn {u′} {marks′} {n} h lu lm =
+  pub first-turn : {u′ tags′ : List ℕ} {n : ℕ} → PutsSlot s 0 u u′ tags′ n → length u′ ≡ length u → length tags′ ≡ length tags → Turn s u′ tags′ 0 n
+  first-turn {u′} {tags′} {n} h lu lm =
       let g = unfoldedAt s 0 in
       let r = root-room s (ask .known .passes) in
       let e = length-encode g in
       let is : take n u′ ≡ encode g = ap₂ take (h .writes) (h .leaves) ∙ take-at (encode g) (drop (size g) u) (size g) e in
       record {
         u-long = omega arith;
-        marks-long = omega arith;
+        tags-long = omega arith;
         inside = omega arith;
         reached =
-            subst (λ (w : List ℕ). Reached s w marks′ 0) (sym is)
+            subst (λ (w : List ℕ). Reached s w tags′ 0) (sym is)
             (record {
               order = omega arith;
-              root = stands-last s [] u′ marks′ marks′ 0 0 refl refl (h .stands);
+              root = stands-last s [] u′ tags′ tags′ 0 0 refl refl (h .stands);
               held = λ j l big. absurd (omega arith);
               holds = slot-hold s (ask .known .passes) 0 (root-there s (ask .known .passes));
               room = omega arith;
@@ -68,7 +68,7 @@ module _ {s owner u marks : List ℕ} {boards slots nodes : ℕ} (ask : SpreadAs
       }
 
 -- ---- a turn at i, which is before the end
-module _ {s u marks : List ℕ} {i end : ℕ} (turn : Turn s u marks i end) (l : i < end) where
+module _ {s u tags : List ℕ} {i end : ℕ} (turn : Turn s u tags i end) (l : i < end) where
   abbrev w : List ℕ
   w = take end u
 
@@ -78,7 +78,7 @@ module _ {s u marks : List ℕ} {i end : ℕ} (turn : Turn s u marks i end) (l :
   pub byte-is : getD w i 0 ≡ getD u i 0
   byte-is = getD-take end u i 0 l
 
-  pub room-next : end + (heldAt (nodesOfSlot s) (getD u i 0) + heldOver (nodesOfSlot s) (drop (i + 1) w)) ≤ nodesMost
+  pub room-next : end + (heldAt (nodesOfSlot s) (getD u i 0) + heldOver (nodesOfSlot s) (drop (i + 1) w)) ≤ nodesRoom
   room-next =
       let r = turn .reached .room in
       let e = over-next (nodesOfSlot s) w i (omega (arith, w-long)) in
@@ -86,11 +86,11 @@ module _ {s u marks : List ℕ} {i end : ℕ} (turn : Turn s u marks i end) (l :
       omega (arith, w-long)
 
   -- it is no place holder
-  pub turn-past : getD u i 0 < 128 → Turn s u marks (i + 1) end
+  pub turn-past : getD u i 0 < 128 → Turn s u tags (i + 1) end
   turn-past small =
       record {
         u-long = turn .u-long;
-        marks-long = turn .marks-long;
+        tags-long = turn .tags-long;
         inside = turn .inside;
         reached =
             record {
@@ -102,10 +102,10 @@ module _ {s u marks : List ℕ} {i end : ℕ} (turn : Turn s u marks i end) (l :
             };
       }
     where
-      at-last : (j : ℕ) → j < i + 1 → 128 ≤ getD w j 0 → (t : Bool) → ltb j i ≡ t → HeldFront s (drop j w) (drop j marks)
+      at-last : (j : ℕ) → j < i + 1 → 128 ≤ getD w j 0 → (t : Bool) → ltb j i ≡ t → HeldFront s (drop j w) (drop j tags)
       at-last j k big true e = turn .reached .held j (ltb-true j i e) big
       at-last j k big false e = absurd (let d = ltb-false j i e in let is : j ≡ i = omega arith in let same = ap (λ (n : ℕ). getD w n 0) is in omega (arith, byte-is))
 
 -- a turn by equal buffers
-pub turn-as : {s u u′ marks marks′ : List ℕ} {i end end′ : ℕ} → Turn s u marks i end → u′ ≡ u → marks′ ≡ marks → end′ ≡ end → Turn s u′ marks′ i end′
+pub turn-as : {s u u′ tags tags′ : List ℕ} {i end end′ : ℕ} → Turn s u tags i end → u′ ≡ u → tags′ ≡ tags → end′ ≡ end → Turn s u′ tags′ i end′
 turn-as turn eu em ee = rw (eu, em, ee) turn

@@ -1,10 +1,10 @@
--- A network spread out: each slot that is reached unfolded and marked somewhere in one run of bytes. Assumes nothing: these are
+-- A network spread out: each slot that is reached unfolded and tagged somewhere in one run of bytes. Assumes nothing: these are
 -- definitions.
 use mathlib.Core.Path.{_≡_}
 use Prim.Native.Nat.{ℕ, _<_, _≤_}
 use mathlib.Core.List.{List, _++_}
 use lib.ListN.{length, getD, take, drop}
-use Rattle.ltl.specs.Limits.{nodesMost}
+use Rattle.limits.specs.Limits.{nodesRoom}
 use Rattle.ltl.specs.Formula.{Formula, size, encode}
 use Rattle.ltl.specs.Progression.{unfolded}
 use Rattle.network.specs.Scores.{chosen}
@@ -12,39 +12,39 @@ use Rattle.state.specs.Fields.{masksIn, boardOfIn}
 use Rattle.state.specs.Bytes.{nodesOf, formulaAt}
 use Rattle.state.specs.Calls.{nextIn}
 use Rattle.counting.specs.Known.{Known}
-use Rattle.marking.specs.Marks.{hereOn, boardIn, hereIn, Marked}
+use Rattle.tagging.specs.Tags.{hereOn, boardIn, hereIn, Tagged}
 use Rattle.storing.specs.Stores.{LaidOut}
 
 -- slot m unfolded
 abbrev pub unfoldedAt : List ℕ → ℕ → Formula
 unfoldedAt s m = unfolded (formulaAt s m)
 
--- slot m stands unfolded at the front of some bytes, marked on its board
-pub record Stands (s u marks : List ℕ) (m : ℕ) : Type 0 where
+-- slot m stands unfolded at the front of some bytes, tagged on its board
+pub record Stands (s u tags : List ℕ) (m : ℕ) : Type 0 where
   pub bytes : take (size (unfoldedAt s m)) u ≡ encode (unfoldedAt s m)
-  pub board-is : boardIn (getD marks 0 0) ≡ boardOfIn s m
-  pub here-is : hereIn (getD marks 0 0) ≡ hereOn (chosen (masksIn s)) (unfoldedAt s m) (boardOfIn s m)
-  pub marked : Marked (chosen (masksIn s)) (unfoldedAt s m) marks
+  pub board-is : boardIn (getD tags 0 0) ≡ boardOfIn s m
+  pub here-is : hereIn (getD tags 0 0) ≡ hereOn (chosen (masksIn s)) (unfoldedAt s m) (boardOfIn s m)
+  pub tagged : Tagged (chosen (masksIn s)) (unfoldedAt s m) tags
 
-pub record SlotAsk (s : List ℕ) (boards slots nodes m : ℕ) (owner u marks : List ℕ) : Type 0 where
+pub record SlotAsk (s : List ℕ) (boards slots nodes m : ℕ) (owner u tags : List ℕ) : Type 0 where
   pub known : Known s boards slots nodes owner
   pub there : m < slots
   pub room : size (unfoldedAt s m) ≤ length u
-  pub few : size (unfoldedAt s m) ≤ nodesMost
-  pub long : length u ≤ length marks
+  pub few : size (unfoldedAt s m) ≤ nodesRoom
+  pub long : length u ≤ length tags
 
-pub record PutsSlot (s : List ℕ) (m : ℕ) (u u′ marks′ : List ℕ) (n : ℕ) : Type 0 where
+pub record PutsSlot (s : List ℕ) (m : ℕ) (u u′ tags′ : List ℕ) (n : ℕ) : Type 0 where
   pub writes : n ≡ size (unfoldedAt s m)
   pub leaves : u′ ≡ encode (unfoldedAt s m) ++ drop (size (unfoldedAt s m)) u
-  pub stands : Stands s u′ marks′ m
+  pub stands : Stands s u′ tags′ m
 
 -- the network that it closes to is within the limit, and there is room for as much
-pub record SpreadAsk (s : List ℕ) (boards slots nodes : ℕ) (owner u marks : List ℕ) : Type 0 where
+pub record SpreadAsk (s : List ℕ) (boards slots nodes : ℕ) (owner u tags : List ℕ) : Type 0 where
   pub known : Known s boards slots nodes owner
-  pub few : nodesOf (nextIn s) ≤ nodesMost
-  pub u-long : length u ≡ nodesMost
-  pub marks-long : length marks ≡ nodesMost
+  pub few : nodesOf (nextIn s) ≤ nodesRoom
+  pub u-long : length u ≡ nodesRoom
+  pub tags-long : length tags ≡ nodesRoom
 
-pub record Spreads (s u′ marks′ : List ℕ) (end : ℕ) : Type 0 where
+pub record Spreads (s u′ tags′ : List ℕ) (end : ℕ) : Type 0 where
   pub inside : end ≤ length u′
-  pub laid-out : LaidOut (take end u′) marks′ (nextIn s)
+  pub laid-out : LaidOut (take end u′) tags′ (nextIn s)

@@ -1,47 +1,47 @@
-// The slots that are reached from a network's root, unfolded one behind the other and marked, each on its board, so that they can be
-// laid again: at each place holder the mark says how far on its slot stands.
+// The slots that are reached from a network's root, unfolded one behind the other and tagged, each on its board, so that they can be
+// laid again: at each place holder the tag says how far on its slot stands.
 ghost use Rattle.spreading.specs.Spreads.{SlotAsk, PutsSlot, SpreadAsk, Spreads};
 use checking::Counts;
 use checking::Span;
 use kinds::Kind;
 
-// Unfolds slot m to the front of u, and marks it on its board.
+// Unfolds slot m to the front of u, and tags it on its board.
 fn put_slot(
     state: &[u8],
     c: Counts,
     m: usize,
     owner: &[u8],
     u: &mut [u8],
-    marks: &mut [u32],
+    tags: &mut [u32],
 ) -> usize
-    requires { ⌜ SlotAsk (now state) (c .boards) (c .slots) (c .nodes) m (now owner) (now u) (now marks) ⌝ }
-    ensures { λ r. ⌜ PutsSlot (now (state .entry)) m (now (u .entry)) (now (u .exit)) (now (marks .exit)) r ⌝ }
+    requires { ⌜ SlotAsk (now state) (c .boards) (c .slots) (c .nodes) m (now owner) (now u) (now tags) ⌝ }
+    ensures { λ r. ⌜ PutsSlot (now (state .entry)) m (now (u .entry)) (now (u .exit)) (now (tags .exit)) r ⌝ }
 {
     let Span { from, to } = checking::span_of(state, c, m);
     let n = unfolding::unfold_into(u, &state[from..to]).written;
     let board = state[16 + 17 * c.boards + 6 * m];
-    marking::mark(&u[..n], marks, owner, board);
+    tagging::tag(&u[..n], tags, owner, board);
     n
 }
 
 // Spreads the network out, and answers how many bytes of u it takes. What is behind them is not read.
-pub fn spread(state: &[u8], c: Counts, owner: &[u8], u: &mut [u8], marks: &mut [u32]) -> usize
-    requires { ⌜ SpreadAsk (now state) (c .boards) (c .slots) (c .nodes) (now owner) (now u) (now marks) ⌝ }
-    ensures { λ r. ⌜ Spreads (now (state .entry)) (now (u .exit)) (now (marks .exit)) r ⌝ }
+pub fn spread(state: &[u8], c: Counts, owner: &[u8], u: &mut [u8], tags: &mut [u32]) -> usize
+    requires { ⌜ SpreadAsk (now state) (c .boards) (c .slots) (c .nodes) (now owner) (now u) (now tags) ⌝ }
+    ensures { λ r. ⌜ Spreads (now (state .entry)) (now (u .exit)) (now (tags .exit)) r ⌝ }
 {
-    let mut end = put_slot(state, c, 0, owner, u, marks);
+    let mut end = put_slot(state, c, 0, owner, u, tags);
     let mut i: usize = 0;
     while i < end {
         let b = u[i];
         if Kind::HOLD <= b {
-            marks[i] = marks[i] % 262144 + ((end - i) * 262144) as u32;
+            tags[i] = tags[i] % 262144 + ((end - i) * 262144) as u32;
             end += put_slot(
                 state,
                 c,
                 (b - Kind::HOLD) as usize,
                 owner,
                 &mut u[end..],
-                &mut marks[end..],
+                &mut tags[end..],
             );
         }
         i += 1;

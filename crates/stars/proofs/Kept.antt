@@ -15,7 +15,7 @@ use Rattle.le.specs.Le.{le, leAt}
 use Rattle.masks.specs.Masks.{sumTo, onesOf, sumOnes, unionWith, masksRule}
 use Rattle.ltl.specs.Formula.{leafOver, over}
 use Rattle.ltl.specs.Progression.{unfolded}
-use Rattle.ltl.specs.Text.{textOver, formulaOf}
+use Rattle.ltl.specs.Decode.{isFormula, formulaOf}
 use Rattle.rules.specs.RuleFile.{countsOk, maskBytes, fileOf}
 use Rattle.rules.specs.Read.{offsetsOk}
 use Rattle.network.specs.Scores.{highest, chosen}
@@ -25,7 +25,7 @@ use Rattle.state.specs.Fields.{stretchEnd}
 use Rattle.state.specs.Clauses.{eachBelow, allZero, eachTrue, tidy, unfoldedOwn, loneOther, heldBy, among, distinct, boardOk, recordOk, gapOk, holdersIn, headerOk, masksOk, restOk, stateOk}
 use Rattle.state.specs.Bytes.{stateOf}
 use Rattle.state.specs.Calls.{finishedIn, verdictIn, askSays, sampleSays, readyIn, stepSays, steppedTo, doneIn, closeSays}
-use Rattle.loading.specs.Load.{lengthsOk, loadSays}
+use Rattle.loading.specs.Load.{loadLengthsOk, loadSays}
 use Rattle.stars.proofs.Layouts.{twoMasks}
 use Rattle.stars.proofs.States.{slot, state, LoadGives, SampleGives, StepGives, CloseGives, close-gives, AskGives}
 use Rattle.stars.proofs.Split.{on, unsampled, halfSampled, sampled}
@@ -68,7 +68,7 @@ pub record Kept : Type 0 where
       ≡ on 0 (3 ∷ 129 ∷ 131 ∷ []) ∷ on 1 (3 ∷ 3 ∷ 65 ∷ 65 ∷ 130 ∷ []) ∷ on 0 (3 ∷ 64 ∷ 5 ∷ 8 ∷ 64 ∷ []) ∷ on 1 (65 ∷ []) ∷ []
 
 pub kept : Kept
-unfolding pick both either bit inOrder left kindOf le leAt sumTo onesOf sumOnes unionWith masksRule leafOver over textOver countsOk maskBytes fileOf listed offsetsOk highest chosen looked laid load relaid close holdsOnly stretchEnd eachBelow allZero eachTrue tidy unfoldedOwn loneOther heldBy among distinct boardOk recordOk gapOk holdersIn headerOk masksOk restOk stateOk stateOf finishedIn verdictIn askSays sampleSays readyIn stepSays steppedTo doneIn closeSays lengthsOk loadSays
+unfolding pick both either bit inOrder left kindOf le leAt sumTo onesOf sumOnes unionWith masksRule leafOver over isFormula countsOk maskBytes fileOf listed offsetsOk highest chosen looked laid load relaid close holdsOnly stretchEnd eachBelow allZero eachTrue tidy unfoldedOwn loneOther heldBy among distinct boardOk recordOk gapOk holdersIn headerOk masksOk restOk stateOk stateOf finishedIn verdictIn askSays sampleSays readyIn stepSays steppedTo doneIn closeSays loadLengthsOk loadSays
 kept =
     record {
       loads = record { says = refl; leaves = λ before. refl };

@@ -12,7 +12,7 @@ use Rattle.kinds.specs.Kinds.{kindOf}
 use Rattle.le.specs.Le.{le, leAt}
 use Rattle.masks.specs.Masks.{sumTo, onesOf, sumOnes, unionWith, masksRule}
 use Rattle.ltl.specs.Formula.{leafOver, over}
-use Rattle.ltl.specs.Text.{textOver, formulaOf}
+use Rattle.ltl.specs.Decode.{isFormula, formulaOf}
 use Rattle.rules.specs.RuleFile.{countsOk, maskBytes, fileOf}
 use Rattle.rules.specs.Read.{offsetsOk}
 use Rattle.network.specs.Scores.{highest, chosen}
@@ -20,7 +20,7 @@ use Rattle.network.specs.Layout.{Slot, looked, laid, load}
 use Rattle.state.specs.Fields.{stateLength}
 use Rattle.state.specs.Bytes.{nodesOf}
 use Rattle.state.specs.Calls.{firstOf}
-use Rattle.loading.specs.Load.{lengthsOk, loadSays}
+use Rattle.loading.specs.Load.{loadLengthsOk, loadSays}
 
 -- the masks of two boards with a proposition each
 abbrev pub twoMasks : List ℕ
@@ -66,7 +66,7 @@ pub record Layouts : Type 0 where
   pub always-over : loadSays (fileOf (1 ∷ []) 1 (always 88)) stateLength ≡ refused 8
 
 pub layouts : Layouts
-unfolding pick both bit inOrder kindOf le leAt sumTo onesOf sumOnes unionWith masksRule leafOver over textOver countsOk maskBytes fileOf listed offsetsOk highest chosen looked laid load lengthsOk loadSays
+unfolding pick both bit inOrder kindOf le leAt sumTo onesOf sumOnes unionWith masksRule leafOver over isFormula countsOk maskBytes fileOf listed offsetsOk highest chosen looked laid load loadLengthsOk loadSays
 layouts =
     record {
       until-ever = refl;

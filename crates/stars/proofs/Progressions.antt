@@ -12,8 +12,8 @@ use Rattle.kinds.specs.Kinds.{kindOf}
 use Rattle.ltl.specs.Formula.{encode, sameBool, sameLeaf, same, leafOver, over}
 use Rattle.ltl.specs.Meaning.{Event}
 use Rattle.ltl.specs.Progression.{isConstant, negated, member, joined, progressed, progressedOver}
-use Rattle.ltl.specs.Text.{textOver, formulaOf}
-use Rattle.central.specs.Central.{lengthsOk, centralSays}
+use Rattle.ltl.specs.Decode.{isFormula, formulaOf}
+use Rattle.central.specs.Central.{centralLengthsOk, centralSays}
 
 -- progressing the bytes of a formula over one event gives the bytes of another: what the call answers, and what it leaves
 pub record Gives (before : List ℕ) (event : Event) (verdict : Verdict) (after : List ℕ) : Type 0 where
@@ -46,7 +46,7 @@ over-all [] = refl
 over-all (e ∷ us) = over-all us
 
 pub progressions : Progressions
-unfolding pick both either bit inOrder kindOf sameBool sameLeaf same leafOver over textOver isConstant negated member joined lengthsOk centralSays
+unfolding pick both either bit inOrder kindOf sameBool sameLeaf same leafOver over isFormula isConstant negated member joined centralLengthsOk centralSays
 progressions =
     record {
       until-a = record { says = refl; leaves = refl };

@@ -15,7 +15,7 @@ use Rattle.le.specs.Le.{le, leAt}
 use Rattle.masks.specs.Masks.{sumTo, onesOf, sumOnes, unionWith, masksRule}
 use Rattle.ltl.specs.Formula.{sameBool, sameLeaf, same, leafOver, over}
 use Rattle.ltl.specs.Progression.{isConstant, member, joined}
-use Rattle.ltl.specs.Text.{textOver}
+use Rattle.ltl.specs.Decode.{isFormula}
 use Rattle.rules.specs.RuleFile.{countsOk, maskBytes, fileOf}
 use Rattle.rules.specs.Read.{offsetsOk}
 use Rattle.network.specs.Scores.{highest, chosen}
@@ -25,7 +25,7 @@ use Rattle.state.specs.Fields.{stretchEnd}
 use Rattle.state.specs.Clauses.{eachBelow, allZero, eachTrue, tidy, unfoldedOwn, loneOther, heldBy, among, distinct, boardOk, recordOk, gapOk, holdersIn, headerOk, masksOk, restOk, stateOk}
 use Rattle.state.specs.Bytes.{stateOf}
 use Rattle.state.specs.Calls.{finishedIn, verdictIn, askSays, sampleSays, readyIn, stepSays, steppedTo, doneIn, closeSays}
-use Rattle.loading.specs.Load.{lengthsOk, loadSays}
+use Rattle.loading.specs.Load.{loadLengthsOk, loadSays}
 use Rattle.stars.proofs.States.{board, slot, state, LoadGives, SampleGives, StepGives, CloseGives, close-gives, AskGives}
 use Rattle.stars.proofs.Split.{on}
 
@@ -116,7 +116,7 @@ pub record Renumbered : Type 0 where
   pub lone : close (chosen masks) (on 0 (129 ∷ []) ∷ on 1 (8 ∷ 66 ∷ []) ∷ []) ≡ on 0 (129 ∷ []) ∷ on 1 (3 ∷ 66 ∷ 5 ∷ 8 ∷ 66 ∷ []) ∷ []
 
 pub renumbered : Renumbered
-unfolding pick both either bit inOrder left kindOf le leAt sumTo onesOf sumOnes unionWith masksRule sameBool sameLeaf same leafOver over textOver isConstant member joined countsOk maskBytes fileOf listed offsetsOk highest chosen looked laid load relaid close holdsOnly stretchEnd eachBelow allZero eachTrue tidy unfoldedOwn loneOther heldBy among distinct boardOk recordOk gapOk holdersIn headerOk masksOk restOk stateOk stateOf finishedIn verdictIn askSays sampleSays readyIn stepSays steppedTo doneIn closeSays lengthsOk loadSays
+unfolding pick both either bit inOrder left kindOf le leAt sumTo onesOf sumOnes unionWith masksRule sameBool sameLeaf same leafOver over isFormula isConstant member joined countsOk maskBytes fileOf listed offsetsOk highest chosen looked laid load relaid close holdsOnly stretchEnd eachBelow allZero eachTrue tidy unfoldedOwn loneOther heldBy among distinct boardOk recordOk gapOk holdersIn headerOk masksOk restOk stateOk stateOf finishedIn verdictIn askSays sampleSays readyIn stepSays steppedTo doneIn closeSays loadLengthsOk loadSays
 renumbered =
     record {
       loads = record { says = refl; leaves = λ before. refl };

@@ -15,7 +15,7 @@ use Rattle.le.specs.Le.{le, leAt}
 use Rattle.masks.specs.Masks.{sumTo, onesOf, sumOnes, unionWith, masksRule}
 use Rattle.ltl.specs.Formula.{sameBool, leafOver, over}
 use Rattle.ltl.specs.Progression.{unfolded, isConstant, joined}
-use Rattle.ltl.specs.Text.{textOver, formulaOf}
+use Rattle.ltl.specs.Decode.{isFormula, formulaOf}
 use Rattle.rules.specs.RuleFile.{countsOk, maskBytes, fileOf}
 use Rattle.rules.specs.Read.{offsetsOk}
 use Rattle.network.specs.Scores.{highest, chosen}
@@ -25,7 +25,7 @@ use Rattle.state.specs.Fields.{stretchEnd}
 use Rattle.state.specs.Clauses.{eachBelow, allZero, eachTrue, tidy, unfoldedOwn, loneOther, heldBy, among, distinct, boardOk, recordOk, gapOk, holdersIn, headerOk, masksOk, restOk, stateOk}
 use Rattle.state.specs.Bytes.{stateOf}
 use Rattle.state.specs.Calls.{finishedIn, verdictIn, askSays, sampleSays, readyIn, stepSays, steppedTo, doneIn, closeSays}
-use Rattle.loading.specs.Load.{lengthsOk, loadSays}
+use Rattle.loading.specs.Load.{loadLengthsOk, loadSays}
 use Rattle.stars.proofs.Layouts.{twoMasks}
 use Rattle.stars.proofs.States.{board, slot, state, LoadGives, SampleGives, StepGives, CloseGives, close-gives, AskGives}
 
@@ -118,7 +118,7 @@ pub record Split : Type 0 where
   pub b-over : (b bits : ℕ) → sampleSays finished b bits ≡ refused 10
 
 pub split : Split
-unfolding pick both either bit inOrder left kindOf le leAt sumTo onesOf sumOnes unionWith masksRule sameBool leafOver over textOver isConstant joined countsOk maskBytes fileOf listed offsetsOk highest chosen looked laid load close holdsOnly stretchEnd eachBelow allZero eachTrue tidy unfoldedOwn loneOther heldBy among distinct boardOk recordOk gapOk holdersIn headerOk masksOk restOk stateOk stateOf finishedIn verdictIn askSays sampleSays readyIn stepSays steppedTo doneIn closeSays lengthsOk loadSays
+unfolding pick both either bit inOrder left kindOf le leAt sumTo onesOf sumOnes unionWith masksRule sameBool leafOver over isFormula isConstant joined countsOk maskBytes fileOf listed offsetsOk highest chosen looked laid load close holdsOnly stretchEnd eachBelow allZero eachTrue tidy unfoldedOwn loneOther heldBy among distinct boardOk recordOk gapOk holdersIn headerOk masksOk restOk stateOk stateOf finishedIn verdictIn askSays sampleSays readyIn stepSays steppedTo doneIn closeSays loadLengthsOk loadSays
 split =
     record {
       file = refl;

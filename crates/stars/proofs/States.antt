@@ -11,10 +11,10 @@ use Rattle.answers.specs.declared.Refusal.{Refusal}
 use Rattle.answers.specs.declared.Verdict.{Verdict}
 use Rattle.answers.proofs.Answers.{left-refused}
 use Rattle.le.specs.Le.{le}
-use Rattle.rules.specs.RuleFile.{masksIn}
+use Rattle.rules.specs.RuleFile.{masksInFile}
 use Rattle.state.specs.Fields as fields
 use Rattle.state.specs.Fields.{stateLength, ticksIn}
-use Rattle.state.specs.Bytes.{header, stateOf}
+use Rattle.state.specs.Bytes.{stateHeader, stateOf}
 use Rattle.state.specs.Calls.{askSays, sampleSays, sampleLeaves, stepSays, stepLeaves, nextIn, closeSays, closeLeaves, loadedState}
 use Rattle.loading.specs.Load.{ruleIn, loadSays}
 
@@ -35,13 +35,13 @@ together (r ∷ rs) = r ++ together rs
 -- the whole buffer
 abbrev pub state : ℕ → List (List ℕ) → List (List ℕ) → List ℕ → List ℕ
 state ticks boards slots nodes =
-    padded stateLength (header (length boards) (length slots) (length nodes) ticks ++ (together boards ++ (together slots ++ nodes)))
+    padded stateLength (stateHeader (length boards) (length slots) (length nodes) ticks ++ (together boards ++ (together slots ++ nodes)))
 
 -- ---- calls that are accepted, and what they leave
 -- loading the file, whatever the lent state held
 pub record LoadGives (file after : List ℕ) : Type 0 where
   pub says : loadSays file stateLength ≡ accepted []
-  pub leaves : (before : List ℕ) → left (loadSays file stateLength) (loadedState (masksIn file) (ruleIn file)) before ≡ after
+  pub leaves : (before : List ℕ) → left (loadSays file stateLength) (loadedState (masksInFile file) (ruleIn file)) before ≡ after
 
 -- a board gives its sample
 pub record SampleGives (before : List ℕ) (board bits : ℕ) (after : List ℕ) : Type 0 where
@@ -73,7 +73,7 @@ close-gives before after e f =
 -- loading the file, whatever the lent state held
 pub record LoadRefuses (file : List ℕ) (number : ℕ) : Type 0 where
   pub says : loadSays file stateLength ≡ refused number
-  pub leaves : (before : List ℕ) → left (loadSays file stateLength) (loadedState (masksIn file) (ruleIn file)) before ≡ before
+  pub leaves : (before : List ℕ) → left (loadSays file stateLength) (loadedState (masksInFile file) (ruleIn file)) before ≡ before
 
 -- closing the tick, whatever the second buffer held
 pub record CloseRefuses (before : List ℕ) (number : ℕ) : Type 0 where

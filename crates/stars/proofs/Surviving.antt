@@ -17,7 +17,7 @@ use Rattle.le.specs.Le.{le, leAt}
 use Rattle.masks.specs.Masks.{sumTo, onesOf, sumOnes, unionWith, masksRule}
 use Rattle.ltl.specs.Formula.{sameBool, sameLeaf, same, leafOver, over}
 use Rattle.ltl.specs.Progression.{unfolded, isConstant, member, joined}
-use Rattle.ltl.specs.Text.{textOver, formulaOf}
+use Rattle.ltl.specs.Decode.{isFormula, formulaOf}
 use Rattle.rules.specs.RuleFile.{countsOk, maskBytes, fileOf}
 use Rattle.rules.specs.Read.{offsetsOk}
 use Rattle.network.specs.Scores.{highest, chosen}
@@ -27,7 +27,7 @@ use Rattle.state.specs.Fields.{stretchEnd}
 use Rattle.state.specs.Clauses.{eachBelow, allZero, eachTrue, tidy, unfoldedOwn, loneOther, heldBy, among, distinct, boardOk, recordOk, gapOk, holdersIn, headerOk, masksOk, restOk, stateOk}
 use Rattle.state.specs.Bytes.{stateOf}
 use Rattle.state.specs.Calls.{finishedIn, verdictIn, askSays, sampleSays, readyIn, stepSays, steppedTo, doneIn, closeSays}
-use Rattle.loading.specs.Load.{lengthsOk, loadSays}
+use Rattle.loading.specs.Load.{loadLengthsOk, loadSays}
 use Rattle.stars.proofs.Layouts.{twoMasks}
 use Rattle.stars.proofs.States.{board, slot, state, LoadGives, SampleGives, StepGives, CloseGives, close-gives, LoadRefuses, CloseRefuses, close-refuses, AskGives}
 use Rattle.stars.proofs.Split.{on, unsampled, halfSampled, sampled}
@@ -143,7 +143,7 @@ pub record Surviving : Type 0 where
   pub none-over : (b bits : ℕ) → sampleSays finished b bits ≡ refused 10
 
 pub surviving : Surviving
-unfolding pick both either bit inOrder left kindOf le leAt sumTo onesOf sumOnes unionWith masksRule sameBool sameLeaf same leafOver over textOver isConstant member joined countsOk maskBytes fileOf listed offsetsOk highest chosen looked laid load relaid close holdsOnly stretchEnd eachBelow allZero eachTrue tidy unfoldedOwn loneOther heldBy among distinct boardOk recordOk gapOk holdersIn headerOk masksOk restOk stateOk stateOf finishedIn verdictIn askSays sampleSays readyIn stepSays steppedTo doneIn closeSays lengthsOk loadSays
+unfolding pick both either bit inOrder left kindOf le leAt sumTo onesOf sumOnes unionWith masksRule sameBool sameLeaf same leafOver over isFormula isConstant member joined countsOk maskBytes fileOf listed offsetsOk highest chosen looked laid load relaid close holdsOnly stretchEnd eachBelow allZero eachTrue tidy unfoldedOwn loneOther heldBy among distinct boardOk recordOk gapOk holdersIn headerOk masksOk restOk stateOk stateOf finishedIn verdictIn askSays sampleSays readyIn stepSays steppedTo doneIn closeSays loadLengthsOk loadSays
 surviving =
     record {
       file = refl;

@@ -12,8 +12,8 @@ use borrow.Author.Tests.{lt-ltb, le-ltb}
 use Rattle.lists.specs.Tests.{pick, both}
 use Rattle.le.specs.Le.{leAt}
 use Rattle.le.proofs.Laws.{leAt-behind}
-use Rattle.ltl.specs.Formula.{size, encode, Within}
-use Rattle.ltl.proofs.Texts.{length-encode}
+use Rattle.ltl.specs.Formula.{size, encode, Coded}
+use Rattle.ltl.proofs.Decoding.{length-encode}
 use Rattle.network.specs.Layout.{Slot, slotAt}
 use Rattle.state.specs.Fields.{stateLength, ticksIn, boardsOffsetIn, slotsOffsetIn, nodesOffsetIn, boardsAt, slotsAt, nodesAt, boardAt, maskIn, sampleIn, sampledIn, masksIn, stretchEnd}
 use Rattle.state.specs.Clauses.{allZero, restOk}
@@ -52,7 +52,7 @@ zeros-zero (suc n) = zeros-zero n
 
 -- ---- a whole state
 module _ (masks : List ℕ) (slots : List Slot) (ticks : ℕ) (few-boards : length masks ≤ 16) (few-slots : length slots ≤ 64) (few-nodes : nodesOf slots ≤ 4096)
-    (coded : (k : ℕ) → k < length slots → Within 64 64 (slotAt slots k .formula)) where
+    (coded : (k : ℕ) → k < length slots → Coded (slotAt slots k .formula)) where
   abbrev state : List ℕ
   state = stateOf masks slots ticks
 

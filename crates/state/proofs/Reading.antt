@@ -1,4 +1,4 @@
--- A state that was written reads back as the network: the laws `reads-..` have the header's counts, the slots' records and their
+-- A state that was written reads back as the network: the laws `reads-..` have the stateHeader's counts, the slots' records and their
 -- formulas, `network-reads` the whole network. Assumes nothing.
 use mathlib.Core.Path.{_≡_, refl, sym, ap, ap₂, _∙_}
 use mathlib.Core.List.{List, [], _∷_, _++_, append-assoc}
@@ -10,12 +10,12 @@ use lib.ListN.{length, getD, take, drop, replicate, length-append}
 use lib.Seq.{take-at, drop-at, drop-drop, getD-append-add, ext-getD}
 use Rattle.le.specs.Le.{le, leAt}
 use Rattle.le.proofs.Laws.{le-length, leAt-behind, leAt-le}
-use Rattle.ltl.specs.Formula.{size, encode, Within}
-use Rattle.ltl.specs.Text.{textOf, someFormula}
-use Rattle.ltl.proofs.Texts.{length-encode, text-of}
+use Rattle.ltl.specs.Formula.{size, encode, Coded}
+use Rattle.ltl.specs.Decode.{decoded, someFormula}
+use Rattle.ltl.proofs.Decoding.{length-encode, decoded-of}
 use Rattle.network.specs.Layout.{Slot, slotAt}
 use Rattle.state.specs.Fields.{stateLength, boardsIn, slotsIn, nodesIn, slotsAt, nodesAt, boardOfIn, steppedIn, startIn, lengthIn, slotBytes, formulaIn}
-use Rattle.state.specs.Bytes.{nodesOf, header, boardRecords, slotRecords, nodeBytes, stateOf, slotIn, networkOf}
+use Rattle.state.specs.Bytes.{nodesOf, stateHeader, boardRecords, slotRecords, nodeBytes, stateOf, slotIn, networkOf}
 use Rattle.state.proofs.Rows.{network-length, network-at}
 
 -- a field behind other bytes
@@ -26,7 +26,7 @@ pub field : (n v : ℕ) (x : List ℕ) → v < 256 ^ n → leAt (le n v ++ x) 0 
 field n v x h = leAt-le [] x 0 n v refl ∙ mod-eq-of-lt h
 
 -- ---- lengths
-pub header-length : (b s n ticks : ℕ) → length (header b s n ticks) ≡ 16
+pub header-length : (b s n ticks : ℕ) → length (stateHeader b s n ticks) ≡ 16
 unfolding le
 header-length b s n ticks = refl
 
@@ -138,15 +138,15 @@ nodes-of (s ∷ ss) rest (suc k) l =
 
 -- ---- a whole state
 module _ (masks : List ℕ) (slots : List Slot) (ticks : ℕ) (few-boards : length masks ≤ 16) (few-slots : length slots ≤ 64) (few-nodes : nodesOf slots ≤ 4096)
-    (coded : (k : ℕ) → k < length slots → Within 64 64 (slotAt slots k .formula)) where
+    (coded : (k : ℕ) → k < length slots → Coded (slotAt slots k .formula)) where
   unfoldable pub zeros : List ℕ
   zeros =
-      replicate (stateLength - length (header (length masks) (length slots) (nodesOf slots) ticks ++ (boardRecords masks ++ (slotRecords 0 slots ++ nodeBytes slots)))) 0
+      replicate (stateLength - length (stateHeader (length masks) (length slots) (nodesOf slots) ticks ++ (boardRecords masks ++ (slotRecords 0 slots ++ nodeBytes slots)))) 0
 
   abbrev pub head : List ℕ
-  head = header (length masks) (length slots) (nodesOf slots) ticks
+  head = stateHeader (length masks) (length slots) (nodesOf slots) ticks
 
-  -- the state cut behind its header, and behind its boards
+  -- the state cut behind its stateHeader, and behind its boards
   pub behind-header : stateOf masks slots ticks ≡ head ++ (boardRecords masks ++ (slotRecords 0 slots ++ (nodeBytes slots ++ zeros)))
   unfolding stateOf zeros
   behind-header = simp append-assoc
@@ -163,7 +163,7 @@ module _ (masks : List ℕ) (slots : List Slot) (ticks : ℕ) (few-boards : leng
   pub slots-end : length ((head ++ boardRecords masks) ++ slotRecords 0 slots) ≡ nodesAt (length masks) (length slots)
   slots-end = omega (arith, length-append (head ++ boardRecords masks) (slotRecords 0 slots), boards-end, records-length 0 slots)
 
-  -- the header's counts
+  -- the stateHeader's counts
   pub reads-boards : boardsIn (stateOf masks slots ticks) ≡ length masks
   reads-boards = rw (behind-header, append-assoc) (field 2 (length masks) _ (omega arith))
 
@@ -212,7 +212,7 @@ module _ (masks : List ℕ) (slots : List Slot) (ticks : ℕ) (few-boards : leng
         rw (reads-length, reads-start, reads-boards, reads-slots, d) (nodes-of slots zeros k l)
 
     pub reads-formula : formulaIn (stateOf masks slots ticks) k ≡ some (slotAt slots k .formula)
-    reads-formula = ap textOf reads-bytes ∙ text-of (slotAt slots k .formula) (coded k l)
+    reads-formula = ap decoded reads-bytes ∙ decoded-of (slotAt slots k .formula) (coded k l)
 
   -- the network that was written is the one that is read
   slot-reads : (k : ℕ) (l : k < length slots) → slotIn (stateOf masks slots ticks) k ≡ slotAt slots k

@@ -6,7 +6,7 @@ use lib.ListN.{length, replicate}
 use Rattle.lists.specs.Runs.{padded}
 use Rattle.lists.specs.Listed.{listed}
 use Rattle.le.specs.Le.{le}
-use Rattle.ltl.specs.Text.{someFormula}
+use Rattle.ltl.specs.Decode.{someFormula}
 use Rattle.ltl.specs.Formula.{Formula, size, encode}
 use Rattle.network.specs.Layout.{Slot}
 use Rattle.state.specs.Fields.{stateLength, boardsAt, slotsAt, nodesAt, slotsIn, boardOfIn, formulaIn}
@@ -17,8 +17,8 @@ nodesOf [] = 0
 nodesOf (s ∷ ss) = size (s .formula) + nodesOf ss
 
 -- ---- the bytes of a network
-abbrev pub header : ℕ → ℕ → ℕ → ℕ → List ℕ
-header b s n ticks = le 2 b ++ (le 2 s ++ (le 2 n ++ (le 2 boardsAt ++ (le 2 (slotsAt b) ++ (le 2 (nodesAt b s) ++ le 4 ticks)))))
+abbrev pub stateHeader : ℕ → ℕ → ℕ → ℕ → List ℕ
+stateHeader b s n ticks = le 2 b ++ (le 2 s ++ (le 2 n ++ (le 2 boardsAt ++ (le 2 (slotsAt b) ++ (le 2 (nodesAt b s) ++ le 4 ticks)))))
 
 -- a mask, no sample, not sampled
 abbrev pub boardRecords : List ℕ → List ℕ
@@ -36,7 +36,7 @@ nodeBytes (s ∷ ss) = encode (s .formula) ++ nodeBytes ss
 
 unfoldable pub stateOf : List ℕ → List Slot → ℕ → List ℕ
 stateOf masks slots ticks =
-    padded stateLength (header (length masks) (length slots) (nodesOf slots) ticks ++ (boardRecords masks ++ (slotRecords 0 slots ++ nodeBytes slots)))
+    padded stateLength (stateHeader (length masks) (length slots) (nodesOf slots) ticks ++ (boardRecords masks ++ (slotRecords 0 slots ++ nodeBytes slots)))
 
 -- ---- the network of a state
 -- the formula of a slot

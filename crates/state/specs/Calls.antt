@@ -10,7 +10,7 @@ use Rattle.answers.specs.Said.{Said, accepted, left, verdictNumber, check, inOr
 use Rattle.answers.specs.declared.Verdict.{Verdict}
 use Rattle.answers.specs.declared.Verdict.the-variants.{False, True, Pending}
 use Rattle.le.specs.Le.{le}
-use Rattle.ltl.specs.Limits.{nodesMost}
+use Rattle.limits.specs.Limits.{nodesMost}
 use Rattle.ltl.specs.Formula.{Formula, size, encode}
 use Rattle.ltl.specs.Progression.{resolved, filled, verdictOf}
 use Rattle.network.specs.Scores.{chosen}

@@ -10,7 +10,7 @@ use Rattle.lists.specs.Tests.{pick, both, either, inRange, bit}
 use Rattle.kinds.specs.declared.Leaf.the-variants.{Const, Prop, Hold}
 use Rattle.kinds.specs.declared.Unary.the-variants.{Not, Next, Eventually, Always}
 use Rattle.kinds.specs.declared.Binary.the-variants.{Joined, Until}
-use Rattle.ltl.specs.Limits.{boardsMost, propositionsMost, nodesMost}
+use Rattle.limits.specs.Limits.{boardsMost, propositionsMost, nodesMost}
 use Rattle.ltl.specs.Formula.{Formula, leaf, one, two, over}
 use Rattle.masks.specs.Masks.{sumOnes, masksRule}
 use Rattle.network.specs.Tick.{holdsOnly}

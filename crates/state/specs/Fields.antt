@@ -9,7 +9,7 @@ use Rattle.lists.specs.Tests.{pick}
 use Rattle.lists.specs.Listed.{listed}
 use Rattle.le.specs.Le.{leAt}
 use Rattle.ltl.specs.Formula.{Formula}
-use Rattle.ltl.specs.Text.{textOf}
+use Rattle.ltl.specs.Decode.{decoded}
 
 -- the buffer's length
 abbrev pub stateLength : ℕ
@@ -88,4 +88,4 @@ abbrev pub slotBytes : List ℕ → ℕ → List ℕ
 slotBytes s k = take (lengthIn s k) (drop (nodesAt (boardsIn s) (slotsIn s) + startIn s k) s)
 
 abbrev pub formulaIn : List ℕ → ℕ → Option Formula
-formulaIn s k = textOf (slotBytes s k)
+formulaIn s k = decoded (slotBytes s k)

@@ -12,9 +12,9 @@ use Rattle.state.specs.Fields.{boardAt, sampleIn, sampledIn, boardOfIn}
 use Rattle.state.specs.Bytes.{formulaAt}
 use Rattle.checking.specs.Slotted.{Placed, Spans}
 use Rattle.checking.proofs.Records as records
-use Rattle.passing.specs.Holds.{Holds}
-use Rattle.passing.proofs.Passing.{SlotPassing}
-use Rattle.passing.proofs.Lying as there
+use Rattle.checked.specs.Holds.{Holds}
+use Rattle.checked.proofs.Passing.{SlotPassing}
+use Rattle.checked.proofs.Lying as there
 use Rattle.central.specs.Central.{verdictByte}
 use Rattle.central.proofs.Progresses.{verdict-first, first-of}
 use Rattle.stepping.specs.Seeing.{Counted, answerIn}

@@ -12,13 +12,13 @@ use Rattle.lists.proofs.Stretches.{take-two}
 use Rattle.le.specs.Le.{le}
 use Rattle.le.proofs.Laws.{le-length}
 use Rattle.ltl.specs.Formula.{Formula, size, encode}
-use Rattle.ltl.proofs.Texts.{length-encode}
+use Rattle.ltl.proofs.Decoding.{length-encode}
 use Rattle.nodes.specs.Begins.{Front, Begins}
 use Rattle.state.specs.Fields.{boardsIn, slotsIn, nodesAt, slotRecordAt, startIn, lengthIn}
 use Rattle.state.specs.Bytes.{formulaAt}
 use Rattle.state.specs.Calls.{putAt}
 use Rattle.checking.specs.Slotted.{Spans}
-use Rattle.passing.proofs.Stepping.{result-fits, result-room}
+use Rattle.checked.proofs.Stepping.{result-fits, result-room}
 use Rattle.resolving.specs.declared.Seen.{Seen}
 use Rattle.resolving.specs.Settles.{heldBy, settled, Rewritten}
 use Rattle.stepping.specs.Seeing.{Counted}

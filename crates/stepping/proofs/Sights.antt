@@ -14,13 +14,13 @@ use Rattle.kinds.proofs.Codes.{unary-low, binary-low}
 use Rattle.lists.specs.Tests.{pick, both}
 use Rattle.kinds.specs.declared.Leaf.the-variants.{Const, Prop, Hold}
 use Rattle.kinds.specs.Kinds.{unaryCode, binaryCode}
-use Rattle.ltl.specs.Formula.{Formula, leaf, one, two, encode, Within}
+use Rattle.ltl.specs.Formula.{Formula, leaf, one, two, encode, Coded}
 use Rattle.network.specs.Tick.{holdsOnly}
 use Rattle.state.specs.Fields.{sampleIn, sampledIn, boardOfIn, steppedIn, slotBytes}
 use Rattle.state.specs.Clauses.{heldBy}
 use Rattle.state.specs.Bytes.{formulaAt}
 use Rattle.state.specs.Calls.{readyIn}
-use Rattle.passing.proofs.Passing.{SlotPassing}
+use Rattle.checked.proofs.Passing.{SlotPassing}
 use Rattle.resolving.specs.declared.Seen.{Seen}
 use Rattle.stepping.specs.declared.seeing.Sight.{Sight}
 use Rattle.stepping.specs.declared.seeing.Sight.the-variants.{Waits, Sees}
@@ -85,7 +85,7 @@ module _ (s : List ℕ) where
   pick-both true b y z = refl
   pick-both false b y z = refl
 
-  over-formula : (f : Formula) (l : List ℕ) (x : Seen) → Within 64 64 f
+  over-formula : (f : Formula) (l : List ℕ) (x : Seen) → Coded f
       → sightOver s (encode f ++ l) x ≡ pick (holdsOnly stepped f) (sightOver s l (toldEach (answerIn s) (heldBy f) x)) Waits
   unfolding holdsOnly heldBy pick
   over-formula (leaf (Const true)) l x w = over-low 1 l x (omega arith)

@@ -1,7 +1,7 @@
 // What a slot sees when it is stepped, found in one pass over its bytes: whether it is ready, and what the slots are that it holds.
 ghost use mathlib.Core.Path.{_≡_};
 ghost use Prim.Native.Nat.{_+_, _<_};
-ghost use Rattle.passing.specs.Holds.{Holds};
+ghost use Rattle.checked.specs.Holds.{Holds};
 ghost use Rattle.stepping.specs.Seeing.{Counted, answerIn, told, sightAfter, sightOver, sightIn};
 use answers::Verdict;
 use checking::Counts;

@@ -10,7 +10,7 @@ use Rattle.lists.proofs.Parts.{tail-is, tail-length, lent-tail, handed-tail}
 use Rattle.lists.proofs.Stretches.{put-more, tail-clear}
 use Rattle.network.specs.Layout.{Slot}
 use Rattle.state.specs.Fields.{stateLength}
-use Rattle.state.specs.Bytes.{nodesOf, header, boardRecords, slotRecords, nodeBytes, stateOf}
+use Rattle.state.specs.Bytes.{nodesOf, stateHeader, boardRecords, slotRecords, nodeBytes, stateOf}
 use Rattle.state.proofs.Reading.{records-length, header-length, boards-length}
 use Rattle.state.proofs.Fresh.{nodes-length}
 
@@ -42,14 +42,14 @@ network-put network slots nodes i j out records q r o z room e k f g =
 
 -- ---- the whole state
 pub state-put : (masks : List ℕ) (network : List Slot) (ticks : ℕ) (state s x y : List ℕ) → length state ≡ stateLength
-    → s ≡ header (length masks) (length network) (nodesOf network) ticks ++ drop 16 state
+    → s ≡ stateHeader (length masks) (length network) (nodesOf network) ticks ++ drop 16 state
     → x ≡ boardRecords masks ++ drop (17 * length masks) (tail 16 s)
     → y ≡ slotRecords 0 network ++ (nodeBytes network ++ replicate (length (tail (16 + 17 * length masks) (tailAs 16 s x)) - (6 * length network + nodesOf network)) 0)
     → 16 + 17 * length masks ≤ stateLength
     → tailAs (16 + 17 * length masks) (tailAs 16 s x) y ≡ stateOf masks network ticks
 unfolding stateOf
 state-put masks network ticks state s x y long e f g room =
-    let H = header (length masks) (length network) (nodesOf network) ticks in
+    let H = stateHeader (length masks) (length network) (nodesOf network) ticks in
     let B = boardRecords masks in
     let at = 16 + 17 * length masks in
     let hl = header-length (length masks) (length network) (nodesOf network) ticks in

@@ -4,7 +4,7 @@ use Prim.Native.Nat.{ℕ, _+_, _-_, _*_, _≤_}
 use mathlib.Core.List.{List, _++_}
 use mathlib.Core.Option.{Option}
 use lib.ListN.{length, replicate}
-use Rattle.ltl.specs.Limits.{boardsMost, nodesMost}
+use Rattle.limits.specs.Limits.{boardsMost, nodesMost}
 use Rattle.ltl.specs.Formula.{Formula}
 use Rattle.network.specs.Layout.{Slot, Laid, rooted, laid}
 use Rattle.state.specs.Fields.{stateLength}
@@ -12,15 +12,15 @@ use Rattle.state.specs.Clauses.{slotsMost}
 use Rattle.state.specs.Bytes.{nodesOf, slotRecords, nodeBytes, stateOf}
 use Rattle.laying.specs.Lays.{OnBoard, Source}
 
--- the network that u and its marks are laid out to
-pub record LaidOut (u marks : List ℕ) (network : List Slot) : Type 0 where
+-- the network that u and its tags are laid out to
+pub record LaidOut (u tags : List ℕ) (network : List Slot) : Type 0 where
   pub choose : Formula → Option ℕ
   pub hold : ℕ → ℕ → Laid
   pub formula : Formula
   pub rest : List ℕ
   pub board : ℕ
-  pub source : Source choose hold u marks
-  pub stands : OnBoard choose u marks formula rest board
+  pub source : Source choose hold u tags
+  pub stands : OnBoard choose u tags formula rest board
   pub network-is : network ≡ rooted board (laid choose hold formula board 1)
 
 -- it has so many slots and nodes
@@ -30,25 +30,25 @@ pub record Counts (network : List Slot) (slots nodes : ℕ) : Type 0 where
   pub few-slots : slots ≤ slotsMost
   pub few-nodes : nodes ≤ nodesMost
 
-pub record NetworkAsk (out rows : List ℕ) (slots nodes : ℕ) (u marks : List ℕ) : Type 0 where
+pub record NetworkAsk (out rows : List ℕ) (slots nodes : ℕ) (u tags : List ℕ) : Type 0 where
   pub network : List Slot
-  pub laid-out : LaidOut u marks network
+  pub laid-out : LaidOut u tags network
   pub counts : Counts network slots nodes
   pub room : 6 * slots + nodes ≤ length out
   pub rows-room : 6 * slots ≤ length rows
 
 abbrev pub StoresNetwork : ℕ → ℕ → List ℕ → List ℕ → List ℕ → List ℕ → Type 0
-StoresNetwork slots nodes u marks out out′ =
-    (network : List Slot) → LaidOut u marks network → Counts network slots nodes
+StoresNetwork slots nodes u tags out out′ =
+    (network : List Slot) → LaidOut u tags network → Counts network slots nodes
     → out′ ≡ slotRecords 0 network ++ (nodeBytes network ++ replicate (length out - (6 * slots + nodes)) 0)
 
-pub record StateAsk (state masks : List ℕ) (slots nodes : ℕ) (u marks : List ℕ) : Type 0 where
+pub record StateAsk (state masks : List ℕ) (slots nodes : ℕ) (u tags : List ℕ) : Type 0 where
   pub network : List Slot
-  pub laid-out : LaidOut u marks network
+  pub laid-out : LaidOut u tags network
   pub counts : Counts network slots nodes
   pub long : length state ≡ stateLength
   pub few-boards : length masks ≤ boardsMost
 
 abbrev pub Stores : List ℕ → ℕ → ℕ → ℕ → List ℕ → List ℕ → List ℕ → Type 0
-Stores masks slots nodes ticks u marks state′ =
-    (network : List Slot) → LaidOut u marks network → Counts network slots nodes → state′ ≡ stateOf masks network ticks
+Stores masks slots nodes ticks u tags state′ =
+    (network : List Slot) → LaidOut u tags network → Counts network slots nodes → state′ ≡ stateOf masks network ticks

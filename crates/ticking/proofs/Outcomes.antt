@@ -1,4 +1,4 @@
--- The ways out of a tick: settling is refused (`tick-refused`), or it is accepted and close answers (`tick-closed`). Assumes nothing.
+-- The ways out of a tick: giving is refused (`tick-refused`), or it is accepted and close answers (`tick-closed`). Assumes nothing.
 use mathlib.Core.Path.{_≡_, refl, sym, ap, _∙_}
 use mathlib.Core.List.{List, []}
 use Prim.Native.Nat.{ℕ}
@@ -14,7 +14,7 @@ use Rattle.answers.specs.Said.{Said, accepted, refused, left, numberOf, saidOut
 use Rattle.answers.proofs.Answers.{number-some, left-refused, left-accepted}
 use Rattle.state.specs.Calls.{closeSays, closeLeaves}
 use Rattle.closing.specs.Close.{Closes}
-use Rattle.settling.specs.Settle.{settledUnder, Comes}
+use Rattle.giving.specs.Give.{givenUnder, Comes}
 use Rattle.ticking.specs.Tick.{tickLeaves, tickSays, Ticks}
 
 -- a number's test picks by what was said
@@ -26,15 +26,15 @@ says-accepted : (x y : Said) → pick (eqb (accepted [] .number) 0) x y ≡ x
 unfolding pick
 says-accepted x y = refl
 
-module _ (s : List ℕ) (event : ℕ) (second t : List ℕ) (x : Outcome) (c : Comes (settledUnder s event) t x) where
-  -- what settling said, as it was answered
-  settled-said : (y : Outcome) → x ≡ y → settledUnder s event .says ≡ saidOutcome y
-  settled-said y e = sym (c .says) ∙ ap saidOutcome e
+module _ (s : List ℕ) (event : ℕ) (second t : List ℕ) (x : Outcome) (c : Comes (givenUnder s event) t x) where
+  -- what giving said, as it was answered
+  given-said : (y : Outcome) → x ≡ y → givenUnder s event .says ≡ saidOutcome y
+  given-said y e = sym (c .says) ∙ ap saidOutcome e
 
   pub tick-refused : (why : Refusal) → x ≡ Refused why → Ticks s event second t second x
   unfolding tickSays
   tick-refused why e =
-      let q = settled-said (Refused why) e in
+      let q = given-said (Refused why) e in
       record {
         says = ap saidOutcome e ∙ sym (says-refused why (closeSays (tickLeaves s event) (length second)))
             ∙ sym (ap (λ (a : Said). pick (eqb (a .number) 0) (closeSays (tickLeaves s event) (length second)) a) q);
@@ -45,7 +45,7 @@ module _ (s : List ℕ) (event : ℕ) (second t : List ℕ) (x : Outcome) (c : C
   pub tick-closed : x ≡ Done → (second′ : List ℕ) (answer : Outcome) → Closes t second second′ answer → Ticks s event second t second′ answer
   unfolding tickSays
   tick-closed e second′ answer k =
-      let q = settled-said Done e in
+      let q = given-said Done e in
       record {
         says = k .says ∙ ap (λ (u : List ℕ). closeSays u (length second)) (c .leaves)
             ∙ sym (ap (λ (a : Said). pick (eqb (a .number) 0) (closeSays (tickLeaves s event) (length second)) a) q ∙ says-accepted _ _);

@@ -1,4 +1,4 @@
-// A whole tick, as the run program makes it: the network is settled under an event and then closed into a second buffer.
+// A whole tick, as the run program makes it: the event is given to the network and then closed into a second buffer.
 ghost use Rattle.ticking.specs.Tick.{Ticks};
 use answers::Outcome;
 
@@ -6,9 +6,9 @@ use answers::Outcome;
 pub fn tick(state: &mut [u8], event: u64, second: &mut [u8]) -> Outcome
     ensures { λ r. ⌜ Ticks (now (state .entry)) event (now (second .entry)) (now (state .exit)) (now (second .exit)) r ⌝ }
 {
-    let settled = settling::settle(state, event);
-    let Outcome::Done = settled else {
-        return settled;
+    let given = giving::give(state, event);
+    let Outcome::Done = given else {
+        return given;
     };
     closing::close(state, second)
 }

@@ -5,9 +5,10 @@ use mathlib.Core.List.{List, [], append-nil}
 use Prim.Native.Nat.{ℕ}
 use lib.ListN.{take, drop}
 use lib.Seq.{take-at}
-use Rattle.ltl.specs.Formula.{Formula, size, encode, Within}
+use Rattle.limits.specs.Limits.{propositionsMost, holderCodes}
+use Rattle.ltl.specs.Formula.{Formula, size, encode, Coded}
 use Rattle.ltl.specs.Progression.{unfolded}
-use Rattle.ltl.proofs.Texts.{length-encode, unfolded-coded}
+use Rattle.ltl.proofs.Decoding.{length-encode, unfolded-coded}
 use Rattle.nodes.specs.Begins.{Front}
 use Rattle.unfolding.specs.Unfolds.{UnfoldedTo}
 
@@ -17,5 +18,5 @@ module _ {f : Formula} {out out′ : List ℕ} {read written : ℕ} (x : Unfolde
       let g = unfolded f in
       ap₂ take (x .writes) (x .leaves) ∙ take-at (encode g) (drop (size g) out) (size g) (length-encode g)
 
-  pub written-front : Within 64 64 f → Front (take written out′) (unfolded f) []
-  written-front coded = record { coded = unfolded-coded 64 64 f coded; bytes = written-bytes ∙ sym (append-nil (encode (unfolded f))) }
+  pub written-front : Coded f → Front (take written out′) (unfolded f) []
+  written-front coded = record { coded = unfolded-coded propositionsMost holderCodes f coded; bytes = written-bytes ∙ sym (append-nil (encode (unfolded f))) }

@@ -18,7 +18,7 @@ use Rattle.kinds.specs.declared.Kind.the-variants.{Zero, Two}
 use Rattle.kinds.specs.Kinds.{kindOf, leafCode, joinCode}
 use Rattle.ltl.specs.Formula.{Formula, one, two, join, size, encode}
 use Rattle.ltl.specs.Progression.{unfolded}
-use Rattle.ltl.proofs.Texts.{size-some, length-encode}
+use Rattle.ltl.proofs.Decoding.{size-some, length-encode}
 use Rattle.nodes.specs.Begins.{Front, Begins, Ends}
 use Rattle.nodes.proofs.Fronts.{front-length, front-own, front-one-way, front-begins, Parts, isZero, Single, Double}
 use Rattle.unfolding.specs.Unfolds.{Room, UnfoldedTo, Unfolds, RoomBehind, UnfoldedBehind, UnfoldsBehind, Ever, Both}

@@ -9,7 +9,7 @@ use Rattle.kinds.specs.declared.Join.{Join}
 use Rattle.kinds.specs.declared.Binary.the-variants.{Joined}
 use Rattle.kinds.specs.declared.Kind.the-variants.{One, Two}
 use Rattle.kinds.specs.Kinds.{kindOf, joinCode}
-use Rattle.ltl.specs.Limits.{nodesMost}
+use Rattle.limits.specs.Limits.{nodesRoom}
 use Rattle.ltl.specs.Formula.{Formula, one, join, size, encode}
 use Rattle.ltl.specs.Progression.{unfolded}
 use Rattle.nodes.specs.Begins.{Front, Begins}
@@ -21,7 +21,7 @@ pub record Room (out s : List ℕ) : Type 0 where
 
 -- the formula in front was read, and its unfolded nodes counted up to one more than the most
 abbrev pub Counted : List ℕ → ℕ → ℕ → Type 0
-Counted s read count = (f : Formula) (rest : List ℕ) → Front s f rest → (read ≡ size f) × (count ≡ min (size (unfolded f)) (nodesMost + 1))
+Counted s read count = (f : Formula) (rest : List ℕ) → Front s f rest → (read ≡ size f) × (count ≡ min (size (unfolded f)) (nodesRoom + 1))
 
 -- the formula in front was read, and stands unfolded at the front of the output, behind which nothing changed
 pub record UnfoldedTo (f : Formula) (out out′ : List ℕ) (read written : ℕ) : Type 0 where

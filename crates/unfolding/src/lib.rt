@@ -112,7 +112,7 @@ pub fn unfold_into(out: &mut [u8], s: &[u8]) -> Walk
             }
             Unary::Next => {
                 let n = nodes::operand_end(s);
-                runs::copy(out, &s[..n]);
+                buffers::copy(out, &s[..n]);
                 Walk {
                     read: n,
                     written: n,
@@ -152,7 +152,7 @@ fn put_next(out: &mut [u8], f: &[u8])
     ensures { λ _. ⌜ now (out .exit) ≡ (5 ∷ now (f .entry)) ++ drop (1 + length (now (f .entry))) (now (out .entry)) ⌝ }
 {
     out[0] = Kind::NEXT;
-    runs::copy(&mut out[1..], f);
+    buffers::copy(&mut out[1..], f);
 }
 
 // Eventually or always: the join, the operand unfolded, and the whole under next.

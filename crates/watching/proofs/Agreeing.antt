@@ -17,7 +17,7 @@ use Rattle.network.proofs.Choosing.{masks-choice}
 use Rattle.state.specs.Fields.{boardsIn, ticksIn, masksIn, sampleIn}
 use Rattle.state.specs.Bytes.{stateOf, networkOf}
 use Rattle.state.specs.Calls.{doneIn, nextIn, closeSays}
-use Rattle.passing.proofs.Passing.{passing}
+use Rattle.checked.proofs.Passing.{passing}
 use Rattle.watching.specs.Watch.{Calls}
 use Rattle.watching.proofs.Networks.{marksOf}
 use Rattle.watching.proofs.InTick.{InTick, steps-partly, steps-by, board-there, boards-kept}

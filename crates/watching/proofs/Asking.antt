@@ -22,7 +22,7 @@ use Rattle.state.specs.Clauses.{stateOk}
 use Rattle.state.specs.Bytes.{nodesOf, networkOf}
 use Rattle.state.specs.Calls.{finishedIn, verdictIn, askSays}
 use Rattle.state.proofs.Rows.{network-length, network-at}
-use Rattle.passing.proofs.Passing.{passing}
+use Rattle.checked.proofs.Passing.{passing}
 use Rattle.watching.specs.Watch.{Calls}
 use Rattle.watching.proofs.InTick.{slots-kept}
 use Rattle.watching.proofs.Started.{Started, started-laid}

@@ -11,10 +11,10 @@ use Rattle.lists.specs.Tests.{both}
 use Rattle.kinds.specs.declared.Leaf.the-variants.{Const, Prop, Hold}
 use Rattle.ltl.specs.Formula.{Formula, leaf, one, two, size, encode}
 use Rattle.ltl.specs.Progression.{verdictOf}
-use Rattle.ltl.proofs.Texts.{size-some}
+use Rattle.ltl.proofs.Decoding.{size-some}
 use Rattle.state.specs.Clauses.{isConstantIn}
 use Rattle.state.specs.Bytes.{formulaAt}
-use Rattle.passing.proofs.Passing.{SlotPassing}
+use Rattle.checked.proofs.Passing.{SlotPassing}
 use Rattle.watching.specs.Claims.{known}
 
 test-is : (f : Formula) → both (eqb (size f) 1) (leb (getD (encode f) 0 0) 1) ≡ known (verdictOf f)

@@ -19,7 +19,7 @@ use Rattle.state.specs.Fields.{boardsIn, masksIn, sampleIn}
 use Rattle.state.specs.Clauses.{stateOk}
 use Rattle.state.specs.Calls.{closeSays, closeLeaves}
 use Rattle.state.proofs.Rows.{masks-length, masks-at}
-use Rattle.passing.proofs.Passing.{passing}
+use Rattle.checked.proofs.Passing.{passing}
 use Rattle.watching.specs.Watch.{Calls, Saw, Tick}
 use Rattle.lists.specs.Listed.{listed}
 use Rattle.lists.proofs.Listed.{listed-length, listed-at}

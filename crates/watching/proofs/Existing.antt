@@ -22,7 +22,7 @@ use Rattle.state.specs.Fields.{boardsIn, slotsIn, maskIn, sampleIn, sampledIn, 
 use Rattle.state.specs.Clauses.{inMask, stateOk}
 use Rattle.state.specs.Calls.{finishedIn, sampleSays, sampleLeaves, stepSays, stepLeaves, doneIn}
 use Rattle.state.proofs.Rows.{masks-at}
-use Rattle.passing.proofs.Passing.{passing}
+use Rattle.checked.proofs.Passing.{passing}
 use Rattle.watching.specs.Watch.{Calls, none, sample, step, Saw}
 use Rattle.watching.specs.Claims.{Accepted, Closing, Reached}
 use Rattle.watching.proofs.Bits.{and-twice}

@@ -26,7 +26,7 @@ use Rattle.network.proofs.Numbers.{timesIn}
 use Rattle.network.proofs.Settling.{free-only}
 use Rattle.network.proofs.Choosing.{masks-has, masks-below}
 use Rattle.state.specs.Clauses.{tidy, loneOther}
-use Rattle.passing.proofs.Fitting.{free-within}
+use Rattle.checked.proofs.Fitting.{free-within}
 
 module _ (choose : Formula → Option ℕ) where
   pub plain-clean : (b : ℕ) (f : Formula) → Plain choose b f → Clean choose f

@@ -13,7 +13,7 @@ use borrow.Author.Tests.{lt-ltb, le-ltb}
 use Rattle.lists.specs.Tests.{pick, both, inRange}
 use Rattle.le.specs.Le.{leAt}
 use Rattle.le.proofs.Laws.{leAt-same}
-use Rattle.ltl.specs.Limits.{propositionsMost}
+use Rattle.limits.specs.Limits.{propositionsMost}
 use Rattle.masks.specs.Masks.{sumOnes, masksRule}
 use Rattle.state.specs.Fields.{boardsIn, slotsIn, nodesIn, boardsOffsetIn, slotsOffsetIn, nodesOffsetIn, ticksIn, nodesAt, boardAt, masksIn, slotRecordAt, boardOfIn, startIn, stretchEnd}
 use Rattle.state.specs.Clauses.{allZero, headerOk, masksOk, restOk}

@@ -17,16 +17,16 @@ use Rattle.watching.proofs.Slots.{zero-flag}
 use Rattle.lists.proofs.Tests.{both-true}
 use Rattle.answers.specs.Said.{accepted, check, inOrder}
 use Rattle.answers.proofs.Answers.{order-ok, order-refused, order-done}
-use Rattle.ltl.specs.Limits.{nodesMost}
+use Rattle.limits.specs.Limits.{nodesMost}
 use Rattle.network.proofs.Holding.{holds-map}
 use Rattle.state.specs.Fields.{stateLength, boardsIn, slotsIn, ticksIn, maskIn, sampledIn, boardOfIn, steppedIn}
 use Rattle.state.specs.Clauses.{slotsMost, inMask, stateOk}
 use Rattle.state.specs.Bytes.{nodesOf, formulaAt}
 use Rattle.state.specs.Calls.{finishedIn, sampleSays, readyIn, stepSays, doneIn, nextIn, closeSays}
-use Rattle.passing.proofs.Checked.{each-of}
-use Rattle.passing.proofs.Passing.{passing}
-use Rattle.passing.proofs.Held.{slot-holds}
-use Rattle.passing.proofs.Tidy.{tidy-only}
+use Rattle.checked.proofs.Checked.{each-of}
+use Rattle.checked.proofs.Passing.{passing}
+use Rattle.checked.proofs.Held.{slot-holds}
+use Rattle.checked.proofs.Tidy.{tidy-only}
 use Rattle.watching.specs.Claims.{Closing, accepts, refuses, GoesOn, samples, steps, closes}
 
 -- the last of n flags that is not 1

@@ -28,9 +28,9 @@ use Rattle.state.specs.Clauses.{inMask, stateOk}
 use Rattle.state.specs.Bytes.{formulaAt, networkOf}
 use Rattle.state.specs.Calls.{readyIn, sampleSays, stepSays}
 use Rattle.state.proofs.Rows.{masks-length, network-length, network-at}
-use Rattle.passing.proofs.Passing.{passing}
-use Rattle.passing.proofs.Held.{slot-holds}
-use Rattle.passing.proofs.Tidy.{tidy-only}
+use Rattle.checked.proofs.Passing.{passing}
+use Rattle.checked.proofs.Held.{slot-holds}
+use Rattle.checked.proofs.Tidy.{tidy-only}
 use Rattle.watching.specs.Watch.{Calls, none, sample, step}
 use Rattle.watching.proofs.Framed.{nodes-same, ticks-same, masks-same}
 use Rattle.watching.proofs.Slots.{holds-both}

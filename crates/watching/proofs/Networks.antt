@@ -10,7 +10,7 @@ use lib.ListN.{length, set, length-set}
 use lib.Seq.{getD-set-same, getD-set-other, ext-getD}
 use lib.Dec.{eqb}
 use borrow.Author.Tests.{eq-eqb}
-use Rattle.ltl.specs.Text.{someFormula}
+use Rattle.ltl.specs.Decode.{someFormula}
 use Rattle.ltl.specs.Formula.{Formula, constant}
 use Rattle.ltl.specs.Progression.{resolved, filled, verdictOf}
 use Rattle.network.specs.Scores.{chosen}
@@ -24,8 +24,8 @@ use Rattle.state.specs.Clauses.{inMask, stateOk}
 use Rattle.state.specs.Bytes.{formulaAt, networkOf}
 use Rattle.state.specs.Calls.{readyIn, steppedTo}
 use Rattle.state.proofs.Rows.{network-length, network-at}
-use Rattle.passing.proofs.Passing.{passing}
-use Rattle.passing.proofs.Held.{slot-holds}
+use Rattle.checked.proofs.Passing.{passing}
+use Rattle.checked.proofs.Held.{slot-holds}
 use Rattle.lists.specs.Listed.{listed}
 use Rattle.lists.proofs.Listed.{listed-length, listed-at}
 use Rattle.watching.proofs.Framed.{slots-same, board-of-same}

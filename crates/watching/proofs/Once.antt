@@ -12,7 +12,7 @@ use Rattle.lists.specs.Tests.{pick, either}
 use Rattle.lists.proofs.Tests.{no-true, both-0, both-1}
 use Rattle.state.specs.Fields.{formulaIn}
 use Rattle.state.specs.Clauses.{among, distinct, heldOf, holdersIn}
-use Rattle.passing.proofs.Holders.{times, times-append, found-one, distinct-of}
+use Rattle.checked.proofs.Holders.{times, times-append, found-one, distinct-of}
 
 found-none : (n m : ℕ) → (n ≡ m → ⊥) → _≡_ {A = ℕ} (pick (eqb n m) 1 0) 0
 unfolding pick

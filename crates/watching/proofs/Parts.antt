@@ -12,12 +12,12 @@ use borrow.Author.Tests.{eqb-true, eqb-false, eq-eqb, le-leb, lt-ltb}
 use Rattle.lists.specs.Tests.{both, either}
 use Rattle.lists.proofs.Tests.{both-true, either-right, pick-elim}
 use Rattle.ltl.specs.Formula.{Formula, Within}
-use Rattle.ltl.proofs.Texts.{within-over}
+use Rattle.ltl.proofs.Decoding.{within-over}
 use Rattle.network.proofs.Laying.{HoldsIn}
 use Rattle.network.proofs.Holding.{holds-map}
 use Rattle.state.specs.Fields.{boardsIn, slotsIn, maskIn, sampledIn, boardOfIn, steppedIn, startIn, lengthIn, stretchEnd, formulaIn}
 use Rattle.state.specs.Clauses.{tidy, unfoldedOwn, loneOther, isConstantIn, recordOk, formulaOk}
-use Rattle.passing.proofs.Tidy.{tidy-only}
+use Rattle.checked.proofs.Tidy.{tidy-only}
 
 module _ (s : List ℕ) (k : ℕ) where
   pub record-of : boardOfIn s k < boardsIn s → steppedIn s k ≤ 1 → 1 ≤ lengthIn s k → startIn s k + lengthIn s k ≤ stretchEnd s k

@@ -26,9 +26,9 @@ use Rattle.state.specs.Fields.{boardsIn, slotsIn, boardAt, maskIn, sampleIn, sa
 use Rattle.state.specs.Clauses.{inMask, heldOf, boardOk, recordOk, formulaOk, gapOk, stateOk}
 use Rattle.state.specs.Calls.{putAt}
 use Rattle.state.proofs.Rows.{masks-length, masks-at}
-use Rattle.passing.proofs.Checked.{checked, checked-of, each-of}
-use Rattle.passing.proofs.Passing.{passing}
-use Rattle.passing.proofs.Holders.{times}
+use Rattle.checked.proofs.Checked.{checked, checked-of, each-of}
+use Rattle.checked.proofs.Passing.{passing}
+use Rattle.checked.proofs.Holders.{times}
 use Rattle.watching.proofs.Puts.{put-length, put-byte, put-other, put-field}
 use Rattle.watching.proofs.Framed.{Framed, boards-same, slots-same, start-same, header-same, masks-pass, rest-same}
 use Rattle.watching.proofs.Once.{held-once}

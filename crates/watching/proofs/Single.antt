@@ -14,7 +14,7 @@ use Rattle.kinds.specs.declared.Unary.the-variants.{Not, Next, Eventually, Alwa
 use Rattle.kinds.specs.declared.Binary.the-variants.{Joined, Until}
 use Rattle.ltl.specs.Formula.{Formula, leaf, one, two, constant, size}
 use Rattle.ltl.specs.Progression.{unfolded}
-use Rattle.ltl.proofs.Texts.{size-some}
+use Rattle.ltl.proofs.Decoding.{size-some}
 use Rattle.network.specs.Layout.{Slot, Laid, orZero, noHold, laid, load, slotAt, relaid, close}
 
 hold-not : (m : ℕ) (v : Bool) → leaf (Hold m) ≡ constant v → ⊥

@@ -13,15 +13,15 @@ use Rattle.kinds.specs.declared.Leaf.the-variants.{Const, Prop, Hold}
 use Rattle.kinds.specs.declared.Unary.the-variants.{Not, Next, Eventually, Always}
 use Rattle.kinds.specs.declared.Binary.the-variants.{Joined, Until}
 use Rattle.ltl.specs.Formula.{Formula, leaf, one, two, Within}
-use Rattle.ltl.specs.Text.{textOf, someFormula}
+use Rattle.ltl.specs.Decode.{decoded, someFormula}
 use Rattle.masks.specs.Masks.{sumOnes}
 use Rattle.network.proofs.Laying.{HoldsIn}
 use Rattle.network.proofs.Holding.{holds-map}
 use Rattle.state.specs.Fields.{boardsIn, slotsIn, nodesAt, maskIn, sampledIn, masksIn, slotRecordAt, boardOfIn, steppedIn, startIn, lengthIn, stretchEnd, slotBytes, formulaIn}
 use Rattle.state.specs.Clauses.{allZero, unfoldedOwn, loneOther, isConstantIn, recordOk, formulaOk, gapOk}
 use Rattle.state.specs.Bytes.{formulaAt}
-use Rattle.passing.proofs.Passing.{SlotPassing}
-use Rattle.passing.proofs.Held.{slot-holds, slot-held}
+use Rattle.checked.proofs.Passing.{SlotPassing}
+use Rattle.checked.proofs.Held.{slot-holds, slot-held}
 use Rattle.watching.proofs.Puts.{run-same}
 use Rattle.watching.proofs.Framed.{Framed, boards-same, slots-same, nodes-at-same, record-at-same, masks-same, board-of-same, start-same, end-same}
 use Rattle.watching.proofs.Parts.{record-of, formula-of}
@@ -78,7 +78,7 @@ module _ (s t : List ℕ) (f : Framed s t) where
 -- ---- what it has in common
 module _ (s t : List ℕ) (k : ℕ) (x : SameSlot s t k) where
   pub same-reads : formulaIn t k ≡ formulaIn s k
-  same-reads = ap textOf (x .bytes)
+  same-reads = ap decoded (x .bytes)
 
   pub same-formula-at : formulaAt t k ≡ formulaAt s k
   same-formula-at = ap someFormula same-reads

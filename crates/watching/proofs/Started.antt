@@ -9,11 +9,11 @@ use native.Mathlib.Nat.{lt-of-lt-of-le}
 use native.Mathlib.Omega.{arith}
 use lib.ListN.{length}
 use lib.Pow.{pow-mono}
-use Rattle.ltl.specs.Text.{someFormula}
-use Rattle.ltl.specs.Limits.{nodesMost}
-use Rattle.ltl.specs.Formula.{Formula, constant, Within}
+use Rattle.ltl.specs.Decode.{someFormula}
+use Rattle.limits.specs.Limits.{nodesMost, propositionsMost, holderCodes}
+use Rattle.ltl.specs.Formula.{Formula, constant, Coded}
 use Rattle.ltl.specs.Meaning.{Event}
-use Rattle.ltl.proofs.Texts.{wider}
+use Rattle.ltl.proofs.Decoding.{wider}
 use Rattle.masks.proofs.Exact.{rule-less}
 use Rattle.network.specs.Scores.{chosen, sampleOf}
 use Rattle.network.specs.Layout.{Slot, slotAt}
@@ -28,7 +28,7 @@ use Rattle.state.specs.Clauses.{slotsMost, stateOk}
 use Rattle.state.specs.Bytes.{nodesOf, stateOf, formulaAt, networkOf}
 use Rattle.state.proofs.Reading.{reads-boards, reads-slots, reads-nodes, reads-mark, reads-formula, network-reads}
 use Rattle.state.proofs.Fresh.{reads-sampled, reads-masks, reads-ticks}
-use Rattle.passing.proofs.Passing.{passing}
+use Rattle.checked.proofs.Passing.{passing}
 use Rattle.watching.specs.Watch.{Loads}
 use Rattle.watching.proofs.Formulas.{plain-clean, clean-within}
 
@@ -56,11 +56,11 @@ module _ (p : ℕ) (masks : List ℕ) (rule : Formula) where
 
   module _ (l : Loads p masks rule) (us : List Event) (slots : List Slot) (w : Watch (chosen masks) (sampleOf masks) rule us slots) (ticks : ℕ) (many-ticks : ticks ≡ length us) (few-ticks : ticks < 2 ^ 32)
       (few-slots : length slots ≤ slotsMost) (few-nodes : nodesOf slots ≤ nodesMost) where
-    coded : (k : ℕ) → k < length slots → Within 64 64 (slotAt slots k .formula)
+    coded : (k : ℕ) → k < length slots → Coded (slotAt slots k .formula)
     coded k h =
         let o = each-slot (SlotOk (chosen masks) (masks-choice masks) (length slots)) slots (watch-laid l us slots w) k h in
         let f = slotAt slots k .formula in
-        wider p (length slots) 64 64 (l .few-propositions) few-slots f
+        wider p (length slots) propositionsMost holderCodes (l .few-propositions) few-slots f
         (clean-within p masks (l .few-propositions) (l .follow) (length slots) f (plain-clean (chosen masks) (slotAt slots k .board) f (o .plain))
         (holds-map (λ m. (k < m) × (m < length slots)) (λ m. m < length slots) (λ m q. q .1) f (o .holds)))
 

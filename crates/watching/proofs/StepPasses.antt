@@ -10,12 +10,13 @@ use native.Mathlib.Decide.{ℕ-discrete}
 use native.Mathlib.Omega.{arith}
 use lib.Dec.{eqb}
 use borrow.Author.Tests.{eqb-true}
+use Rattle.limits.specs.Limits.{propositionsMost, holderCodes}
 use Rattle.lists.proofs.Tests.{both-0, both-1}
 use Rattle.answers.specs.declared.Verdict.the-variants.{Pending}
 use Rattle.ltl.specs.Formula.{Formula, Within}
-use Rattle.ltl.specs.Text.{textOf}
+use Rattle.ltl.specs.Decode.{decoded}
 use Rattle.ltl.specs.Progression.{verdictOf}
-use Rattle.ltl.proofs.Texts.{text-of, size-some, wider}
+use Rattle.ltl.proofs.Decoding.{decoded-of, size-some, wider}
 use Rattle.masks.specs.Masks.{sumOnes}
 use Rattle.checking.proofs.Each.{each-at}
 use Rattle.network.specs.Scores.{chosen}
@@ -28,11 +29,11 @@ use Rattle.state.specs.Clauses.{loneOther, isConstantIn, heldOf, boardOk, recor
 use Rattle.state.specs.Bytes.{formulaAt}
 use Rattle.state.specs.Calls.{readyIn, steppedTo}
 use Rattle.state.proofs.Rows.{masks-at}
-use Rattle.passing.proofs.Checked.{checked, checked-of, each-of}
-use Rattle.passing.proofs.Passing.{passing}
-use Rattle.passing.proofs.Held.{slot-holds}
-use Rattle.passing.proofs.Holders.{times, held-times}
-use Rattle.passing.proofs.Stepping.{step-fits}
+use Rattle.checked.proofs.Checked.{checked, checked-of, each-of}
+use Rattle.checked.proofs.Passing.{passing}
+use Rattle.checked.proofs.Held.{slot-holds}
+use Rattle.checked.proofs.Holders.{times, held-times}
+use Rattle.checked.proofs.Stepping.{step-fits}
 use Rattle.watching.specs.Claims.{known}
 use Rattle.watching.proofs.Framed.{Framed, boards-same, slots-same, masks-same, board-of-same, start-same, end-same, header-same, masks-pass, rest-same}
 use Rattle.watching.proofs.Parts.{record-of, formula-of}
@@ -85,7 +86,7 @@ module _ (s : List ℕ) (ok : stateOk s ≡ true) (k : ℕ) (l : k < slotsIn s) 
   pub step-reads : formulaIn left k ≡ some result
   step-reads =
       let c = passing s ok in
-      ap textOf (step-bytes s ok k l) ∙ text-of result (wider (sumOnes (masksIn s)) (slotsIn s) 64 64 (c .few-propositions) (c .header .few-slots) result within)
+      ap decoded (step-bytes s ok k l) ∙ decoded-of result (wider (sumOnes (masksIn s)) (slotsIn s) propositionsMost holderCodes (c .few-propositions) (c .header .few-slots) result within)
 
   -- a stepped slot is another one
   untouched : (m : ℕ) → steppedIn s m ≡ 1 → m ≡ k → ⊥

@@ -15,13 +15,13 @@ use Rattle.lists.specs.Runs.{padded}
 use Rattle.le.specs.Le.{le, leAt}
 use Rattle.le.proofs.Laws.{le-length, leAt-same, leAt-le}
 use Rattle.ltl.specs.Formula.{Formula, size, encode}
-use Rattle.ltl.proofs.Texts.{length-encode}
+use Rattle.ltl.proofs.Decoding.{length-encode}
 use Rattle.state.specs.Fields.{boardsIn, slotsIn, nodesIn, nodesAt, boardAt, sampleIn, sampledIn, slotRecordAt, steppedIn, startIn, lengthIn, stretchEnd, slotBytes}
 use Rattle.state.specs.Clauses.{allZero, gapOk, stateOk}
 use Rattle.state.specs.Calls.{putAt, steppedTo}
 use Rattle.state.proofs.Fresh.{zeros-zero}
-use Rattle.passing.proofs.Passing.{passing}
-use Rattle.passing.proofs.Stepping.{step-fits, step-room}
+use Rattle.checked.proofs.Passing.{passing}
+use Rattle.checked.proofs.Stepping.{step-fits, step-room}
 use Rattle.watching.proofs.Puts.{put-length, put-other, put-field, put-run}
 use Rattle.watching.proofs.Framed.{Framed, nodes-at-same, record-at-same, start-same, end-same}
 use Rattle.watching.proofs.Slots.{SameSlot, same-slot}

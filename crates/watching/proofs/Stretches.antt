@@ -7,7 +7,7 @@ use native.Mathlib.Omega.{arith}
 use Rattle.checking.proofs.Stretched.{next-end}
 use Rattle.state.specs.Fields.{slotsIn, startIn, stretchEnd}
 use Rattle.state.specs.Clauses.{stateOk}
-use Rattle.passing.proofs.Passing.{passing}
+use Rattle.checked.proofs.Passing.{passing}
 
 module _ (s : List ℕ) (ok : stateOk s ≡ true) where
   stretch-order : (d j : ℕ) → j + 1 + d < slotsIn s → stretchEnd s j ≤ startIn s (j + 1 + d)

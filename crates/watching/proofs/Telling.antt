@@ -27,7 +27,7 @@ use Rattle.state.specs.Clauses.{isConstantIn, stateOk}
 use Rattle.state.specs.Bytes.{formulaAt}
 use Rattle.state.specs.Calls.{finishedIn, verdictIn, doneIn, sampleSays, sampleLeaves, stepSays, stepLeaves, closeSays}
 use Rattle.state.proofs.Rows.{network-at}
-use Rattle.passing.proofs.Passing.{SlotPassing, passing}
+use Rattle.checked.proofs.Passing.{SlotPassing, passing}
 use Rattle.watching.specs.Watch.{Calls, none, sample, step}
 use Rattle.watching.specs.Claims.{known, Over}
 use Rattle.watching.proofs.Constants.{constant-is}

@@ -13,7 +13,7 @@ use borrow.Author.Tests.{leb-true, ltb-true, ne-eqb}
 use Rattle.lists.proofs.Tests.{both-1}
 use Rattle.answers.specs.Said.{Said, accepted, left}
 use Rattle.answers.proofs.Answers.{left-accepted, order-passed}
-use Rattle.ltl.specs.Limits.{nodesMost}
+use Rattle.limits.specs.Limits.{nodesMost}
 use Rattle.ltl.specs.Formula.{Formula}
 use Rattle.ltl.specs.Meaning.{Event}
 use Rattle.checking.proofs.Each.{each-at}
@@ -27,8 +27,8 @@ use Rattle.state.specs.Clauses.{slotsMost, stateOk}
 use Rattle.state.specs.Bytes.{nodesOf, stateOf, networkOf}
 use Rattle.state.specs.Calls.{doneIn, nextIn, closeSays, closeLeaves}
 use Rattle.state.proofs.Rows.{network-length}
-use Rattle.passing.proofs.Loaded.{loaded-passes}
-use Rattle.passing.proofs.Closed.{closed-passes}
+use Rattle.checked.proofs.Loaded.{loaded-passes}
+use Rattle.checked.proofs.Closed.{closed-passes}
 use Rattle.watching.specs.Watch.{Calls, Tick, Watch, begun, ticked}
 use Rattle.watching.proofs.Networks.{marksOf, mark-is, marks-are}
 use Rattle.watching.proofs.InTick.{InTick, steps-by, board-there, calls-in-tick}

@@ -6,7 +6,7 @@ use mathlib.Core.List.{List, [], _∷_, _++_}
 use Prim.Native.Nat.{ℕ, _<_, _≤_}
 use lib.ListN.{length}
 use Rattle.answers.specs.Said.{accepted}
-use Rattle.ltl.specs.Limits.{boardsMost, propositionsMost, nodesMost}
+use Rattle.limits.specs.Limits.{boardsMost, propositionsMost, nodesMost}
 use Rattle.ltl.specs.Formula.{Formula, Within}
 use Rattle.ltl.specs.Meaning.{Event}
 use Rattle.masks.specs.Masks.{masksRule}

@@ -1,5 +1,5 @@
 -- The part that is lent is the slot's nodes. Assumes nothing.
-use Rattle.passing.proofs.Lying.{Lying}
+use Rattle.checked.proofs.Lying.{Lying}
 use Rattle.counting.proofs.Slots.{slot-placed, slot-numbers, formula-ask, slot-counted}
 use native.Mathlib.Omega.{arith}
 use borrow.Author.Needs.{needs}

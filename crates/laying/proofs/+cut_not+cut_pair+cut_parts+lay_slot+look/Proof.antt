@@ -95,12 +95,12 @@ module _ (t : ℕ) where
   not-in c = c .before .before .before .before .before .before
 
   -- where the byte is put: what is there, and what is asked of the operand
-  not-begun : (c : NotIn) → let a = not-first c .args in Begun (a .u .now) (a .marks .now) (a .at) (a .p .now) (a .r .now) 2
+  not-begun : (c : NotIn) → let a = not-first c .args in Begun (a .u .now) (a .tags .now) (a .at) (a .p .now) (a .r .now) 2
   not-begun c = let a = not-first c .pre .1 in begun (a .0) not (a .1) 2
 
   -- where the operand was laid: it has taken no more than there was
   not-done : (c : NotOut)
-      → let a = not-first (not-in c) .args in FirstDone (a .u .now) (a .marks .now) (a .at) (a .p .now) (a .r .now) 2 (c .look .last .1 .1 .1 .0) (c .look .result)
+      → let a = not-first (not-in c) .args in FirstDone (a .u .now) (a .tags .now) (a .at) (a .p .now) (a .r .now) 2 (c .look .last .1 .1 .1 .0) (c .look .result)
   not-done c = first-done (not-begun (not-in c)) (c .look .ensures) (c .look .kept .1 .1 .1 .0)
 
   not-spec : {M : Type 1} → cut-not-lts.Closed not-calls not-here cut-not.Post M
@@ -161,16 +161,16 @@ module _ (t : ℕ) where
   left-nodes c = let a = pair-first (pair-in c) .args in tailAs 1 (set (a .p .now) 0 (getD (a .u .now) 0 0)) (c .look .last .1 .1 .1 .0)
 
   -- where the byte is put: what is there, and what is asked of the left one
-  pair-begun : (c : PairIn) → let a = pair-first c .args in Begun (a .u .now) (a .marks .now) (a .at) (a .p .now) (a .r .now) (getD (a .u .now) 0 0)
+  pair-begun : (c : PairIn) → let a = pair-first c .args in Begun (a .u .now) (a .tags .now) (a .at) (a .p .now) (a .r .now) (getD (a .u .now) 0 0)
   pair-begun c = let a = pair-first c in begun (a .pre .1 .0) pair (a .pre .1 .1 .kind) (getD (a .args .u .now) 0 0)
 
   -- where the left one was laid: it has taken no more than there was, and what is asked of the right one
   left-done : (c : LeftOut)
-      → let a = pair-first (pair-in c) .args in FirstDone (a .u .now) (a .marks .now) (a .at) (a .p .now) (a .r .now) (getD (a .u .now) 0 0) (c .look .last .1 .1 .1 .0) (c .look .result)
+      → let a = pair-first (pair-in c) .args in FirstDone (a .u .now) (a .tags .now) (a .at) (a .p .now) (a .r .now) (getD (a .u .now) 0 0) (c .look .last .1 .1 .1 .0) (c .look .result)
   left-done c = first-done (pair-begun (pair-in c)) (c .look .ensures) (c .look .kept .1 .1 .1 .0)
 
   right-begins : (c : LeftOut)
-      → let a = pair-first (pair-in c) .args in RightBegun (a .u .now) (a .marks .now) (a .at) (left-nodes c) (c .look .last .1 .1 .1 .1 .0) (c .look .result)
+      → let a = pair-first (pair-in c) .args in RightBegun (a .u .now) (a .tags .now) (a .at) (left-nodes c) (c .look .last .1 .1 .1 .1 .0) (c .look .result)
   right-begins c = let a = pair-first (pair-in c) .pre .1 in right-begun (a .0) (a .1 .kind) (c .look .ensures) (left-done c) (c .look .kept .1 .1 .1 .1 .0)
 
   -- where both were laid
@@ -240,7 +240,7 @@ module _ (t : ℕ) where
   PartsIn = cut-parts-lts.Start parts-calls parts-here cut-parts.Post
 
   -- at the entry: what is there
-  parts-entry : (c : PartsIn) → Entry (c .args .u .now) (c .args .marks .now) (c .args .at) (length (c .args .p .now))
+  parts-entry : (c : PartsIn) → Entry (c .args .u .now) (c .args .tags .now) (c .args .at) (length (c .args .p .now))
   parts-entry c = entry (c .pre .1 .source) (c .pre .1 .front) (c .pre .1 .fits)
 
   -- where the first byte's kind is known, and what it is in each arm
@@ -260,7 +260,7 @@ module _ (t : ℕ) where
   hold-first c = parts-first (c .before .before .before .before .before)
 
   -- at a place holder: its slot stands further on
-  hold : (c : cut-parts-lts.After-enum-told3 parts-calls parts-here cut-parts.Post) → HoldEntry (hold-first c .args .u .now) (hold-first c .args .marks .now)
+  hold : (c : cut-parts-lts.After-enum-told3 parts-calls parts-here cut-parts.Post) → HoldEntry (hold-first c .args .u .now) (hold-first c .args .tags .now)
   hold c = hold-entry (hold-first c .pre .1) (zero-is (c .before .before .before) (c .enum-told3 .given .1))
 
   parts-spec : {M : Type 1} → cut-parts-lts.Closed parts-calls parts-here cut-parts.Post M
@@ -351,13 +351,13 @@ module _ (t : ℕ) where
   slot-put c = c .before .before .before .before .before .before .before
 
   -- at the entry: what is there, and what is asked of the parts once the record was put
-  slot : (c : SlotIn) → let a = slot-first c .args in SlotBegun (a .u .now) (a .marks .now) (a .at) (a .p .now) (a .r .now)
+  slot : (c : SlotIn) → let a = slot-first c .args in SlotBegun (a .u .now) (a .tags .now) (a .at) (a .p .now) (a .r .now)
   slot c = slot-begun (slot-first c .pre .1)
 
   slot-spec : {M : Type 1} → lay-slot-lts.Closed slot-calls slot-here lay-slot.Post M
   slot-spec =
       lay-slot-lts.spec slot-calls slot-here lay-slot.Post
-      (λ c. slot c .some-marks)
+      (λ c. slot c .some-tags)
       (λ c. let n = slot c in omega arith)
       (λ c. omega arith)
       (λ c. let n = slot (c .before) in omega arith)

@@ -6,7 +6,7 @@ use Rattle.laying.proofs.lay_root.Statement.{statement}
 use Rattle.laying.proofs.lay_root.Tie as tie
 
 -- at the entry, and where the record was put
-root : (c : tie.After-shared-slice-known3) → let a = c .before .before .before .before .before .args in RootBegun (a .u .now) (a .marks .now) (a .p .now) (a .r .now)
+root : (c : tie.After-shared-slice-known3) → let a = c .before .before .before .before .before .args in RootBegun (a .u .now) (a .tags .now) (a .p .now) (a .r .now)
 root c = root-begun (c .before .before .before .before .before .pre)
 
 abbrev root-in : tie.After-put-record → tie.After-shared-slice-known3
@@ -16,7 +16,7 @@ pub lay-root-spec : {M : Type 1} → statement M
 lay-root-spec =
     tie.close
     (tie.spec
-    (λ c. root c .some-marks)
+    (λ c. root c .some-tags)
     (λ c. let n = root c in omega arith)
     (λ c. omega arith)
     (λ c. let n = root (c .before) in omega arith)

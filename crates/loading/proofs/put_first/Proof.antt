@@ -1,10 +1,10 @@
--- The rule unfolded, marked and laid out. Assumes nothing.
+-- The rule unfolded, tagged and laid out. Assumes nothing.
 use mathlib.Core.Path.{sym}
 use mathlib.Core.List.{[]}
 use Prim.Native.Nat.{_≤_}
 use lib.ListN.{length}
 use lib.Seq.{length-take-le}
-use Rattle.loading.proofs.Firsts.{first-size, unfold-ask, mark-ask, state-ask, first-put}
+use Rattle.loading.proofs.Firsts.{first-size, unfold-ask, tag-ask, state-ask, first-put}
 use native.Mathlib.Omega.{arith}
 use borrow.Author.Needs.{needs}
 use Rattle.loading.proofs.put_first.Statement.{statement}
@@ -24,11 +24,11 @@ put-first-spec =
     (λ c κs. unfold-ask (c .before .before .before .before .before .before .before .pre))
     (λ c. inside (c .before .before))
     (λ c. sym (length-take-le _ _ (inside (c .before .before .before))))
-    (λ c κs. let k = c .before .before .before .before in let u = k .unfold-into in mark-ask (first k .pre) (u .result) (u .ensures))
+    (λ c κs. let k = c .before .before .before .before in let u = k .unfold-into in tag-ask (first k .pre) (u .result) (u .ensures))
     (λ c. inside (c .before .before .before .before .before .before .before .before))
     (λ c. sym (length-take-le _ _ (inside (c .before .before .before .before .before .before .before .before .before))))
-    (λ c κs. let k = c .before .before .before .before .before .before .before .before .before .before in let u = k .unfold-into in let m = c .before .before .before .before .before .mark in state-ask (first k .pre) (u .result) (u .ensures) (m .result) (m .ensures) (m .kept .1 .0))
+    (λ c κs. let k = c .before .before .before .before .before .before .before .before .before .before in let u = k .unfold-into in let m = c .before .before .before .before .before .tag in state-ask (first k .pre) (u .result) (u .ensures) (m .result) (m .ensures) (m .kept .1 .0))
     (λ c. search needs)
     (λ c. search needs)
     (λ c. search needs)
-    (λ c. let k = c .before .before .before .before .before .before .before .before .before .before .before .before .before in let u = k .unfold-into in let m = c .before .before .before .before .before .before .before .before .mark in first-put (first k .pre) (u .result) (u .ensures) (m .result) (m .ensures) (m .kept .1 .0) (c .before .before .put-state .ensures)))
+    (λ c. let k = c .before .before .before .before .before .before .before .before .before .before .before .before .before in let u = k .unfold-into in let m = c .before .before .before .before .before .before .before .before .tag in first-put (first k .pre) (u .result) (u .ensures) (m .result) (m .ensures) (m .kept .1 .0) (c .before .before .put-state .ensures)))

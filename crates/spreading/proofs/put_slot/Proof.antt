@@ -1,11 +1,11 @@
--- Where the slot lies, and what unfolding and marking gave. Assumes nothing.
+-- Where the slot lies, and what unfolding and tagging gave. Assumes nothing.
 use mathlib.Core.Path.{sym}
 use Prim.Native.Nat.{_≤_}
 use lib.ListN.{length}
 use lib.Seq.{length-take-le}
-use Rattle.passing.proofs.Lying.{Lying}
+use Rattle.checked.proofs.Lying.{Lying}
 use Rattle.counting.proofs.Slots.{slot-placed, slot-numbers}
-use Rattle.spreading.proofs.Slots.{unfold-ask, written-is, mark-ask, slot-put}
+use Rattle.spreading.proofs.Slots.{unfold-ask, written-is, tag-ask, slot-put}
 use native.Mathlib.Omega.{arith}
 use borrow.Author.Needs.{needs}
 use Rattle.spreading.proofs.put_slot.Statement.{statement}
@@ -37,7 +37,7 @@ put-slot-spec =
     (λ c. let x = numbers (c .before .before .before .before) in omega arith)
     (λ c. inside (c .before .before .before .before))
     (λ c. sym (length-take-le _ _ (inside (c .before .before .before .before .before))))
-    (λ c κs. let k = c .before .before .before .before .before .before in let u = k .unfold-into in mark-ask (first k .pre) (k .before .before .before .span-of .ensures) (u .result) (u .ensures) (u .kept .0))
+    (λ c κs. let k = c .before .before .before .before .before .before in let u = k .unfold-into in tag-ask (first k .pre) (k .before .before .before .span-of .ensures) (u .result) (u .ensures) (u .kept .0))
     (λ c. search needs)
     (λ c. search needs)
-    (λ c. let k = c .before .before .before .before .before .before .before .before .before in let u = k .unfold-into in slot-put (first k .pre) (k .before .before .before .span-of .ensures) (u .result) (u .ensures) (c .before .before .mark .result) (c .before .before .mark .ensures)))
+    (λ c. let k = c .before .before .before .before .before .before .before .before .before in let u = k .unfold-into in slot-put (first k .pre) (k .before .before .before .span-of .ensures) (u .result) (u .ensures) (c .before .before .tag .result) (c .before .before .tag .ensures)))

@@ -3,7 +3,7 @@ use mathlib.Core.Path.{refl}
 use Prim.Native.Nat.{_-_}
 use mathlib.Core.Logic.{⊎-elim}
 use Rattle.spreading.proofs.Turns.{Turn, first-ask, first-turn, turn-past, turn-as}
-use Rattle.spreading.proofs.Putting.{Holder, inside-marks, holder-few, holder-ask, put-inside, turn-put}
+use Rattle.spreading.proofs.Putting.{Holder, inside-tags, holder-few, holder-ask, put-inside, turn-put}
 use Rattle.spreading.proofs.Done.{spread-done}
 use native.Mathlib.Omega.{arith}
 use borrow.Author.Needs.{needs}
@@ -11,14 +11,14 @@ use Rattle.spreading.proofs.spread.Statement.{statement}
 use Rattle.spreading.proofs.spread.Tie as tie
 
 abbrev Inv-loop : tie.InvT-loop
-Inv-loop state c owner u₀ marks₀ end₀ i₀ u marks end i = Turn state u marks i end
+Inv-loop state c owner u₀ tags₀ end₀ i₀ u tags end i = Turn state u tags i end
 
 abbrev μ-loop : tie.MeasureT-loop
-μ-loop state c owner u₀ marks₀ end₀ i₀ u marks end i = 4096 - i
+μ-loop state c owner u₀ tags₀ end₀ i₀ u tags end i = 4096 - i
 
 -- at a place holder before the end
 holder : (c : tie.Then1 Inv-loop μ-loop)
-    → let a = c .before .before .before .before .before .before .before .before .before .before .before .before .before .before .before .args in let k = c .before .before .before .loop in Holder (a .state .now) (a .c .boards) (a .c .slots) (a .c .nodes) (a .owner .now) (k .u) (k .marks) (k .i) (k .end)
+    → let a = c .before .before .before .before .before .before .before .before .before .before .before .before .before .before .before .args in let k = c .before .before .before .loop in Holder (a .state .now) (a .c .boards) (a .c .slots) (a .c .nodes) (a .owner .now) (k .u) (k .tags) (k .i) (k .end)
 holder c = record { known = c .before .before .before .before .before .before .before .before .before .before .before .before .before .before .before .pre .known; turn = c .before .before .before .loop .inv; before = c .before .before .loop-test .taken; big = c .if1 .taken }
 
 pub spread-spec : {M : Type 1} → statement M
@@ -43,8 +43,8 @@ spread-spec =
     (λ c. search needs)
     (λ c. search needs)
     (λ c. search needs)
-    (λ c. inside-marks (holder (c .before .before)) _)
-    (λ c. inside-marks (holder (c .before .before)) _)
+    (λ c. inside-tags (holder (c .before .before)) _)
+    (λ c. inside-tags (holder (c .before .before)) _)
     (λ c. search needs)
     (λ c κs. holder-ask (holder (c .before .before .before)) _)
     (λ c. let t = put-inside (holder (c .before .before .before .before .before .before .before .before)) (c .before .before .before .before .put-slot2 .ensures) in omega arith)

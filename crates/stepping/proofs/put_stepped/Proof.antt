@@ -1,7 +1,7 @@
 -- The mark is set, the slot's bytes are lent on and rewritten, and the length is put. Assumes nothing.
 use mathlib.Core.Path.{refl, _∙_}
 use lib.ListN.{length-set}
-use Rattle.passing.proofs.Lying.{Lying}
+use Rattle.checked.proofs.Lying.{Lying}
 use Rattle.stepping.proofs.Counting.{placed, lying}
 use Rattle.stepping.proofs.Rewriting.{set-fits, lent-begins, count-few, put-done}
 use native.Mathlib.Omega.{arith}

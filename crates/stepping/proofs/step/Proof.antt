@@ -9,7 +9,7 @@ use Rattle.state.specs.Clauses.{stateOk}
 use Rattle.state.specs.Calls.{finishedIn}
 use Rattle.checking.proofs.Assembled.{passed-length}
 use Rattle.checking.proofs.Records.{mark-at}
-use Rattle.passing.proofs.Lying.{Lying}
+use Rattle.checked.proofs.Lying.{Lying}
 use Rattle.stepping.specs.Seeing.{Counted}
 use Rattle.stepping.proofs.Counting.{placed, lying}
 use Rattle.stepping.proofs.Outcomes.{refused-state, refused-finished, refused-nowhere, refused-already, refused-unready, done}

@@ -33,7 +33,7 @@ use Rattle.unfolding.proofs.unfold_until.Kinds as until-kinds
 use Rattle.unfolding.proofs.+unfold_behind+unfold_both+unfold_ever+unfold_into+unfold_until.Lts-unfold_until as until-lts
 use Rattle.kinds.proofs.Kind.of.Reads as of-reads
 use Rattle.nodes.proofs.operand_end.Reads as operand-end-reads
-use Rattle.runs.proofs.copy.Reads as copy-reads
+use Rattle.buffers.proofs.copy.Reads as copy-reads
 use Rattle.unfolding.proofs.put_next.Reads as put-next-reads
 use Rattle.unfolding.proofs.+unfold_behind+unfold_both+unfold_ever+unfold_into+unfold_until.{statement}
 use Rattle.unfolding.proofs.+unfold_behind+unfold_both+unfold_ever+unfold_into+unfold_until.Tie.{close}

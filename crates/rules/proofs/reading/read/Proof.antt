@@ -9,14 +9,14 @@ use lib.ListN.{length, take, drop, length-take, length-drop}
 use lib.Seq.{length-take-le}
 use lib.Dec.{eqb}
 use borrow.Author.Tests.{eq-eqb, ne-eqb, not-true, not-false}
-use Rattle.ltl.specs.Limits.{boardsMost, propositionsMost, ruleNodesMost}
+use Rattle.limits.specs.Limits.{boardsMost, propositionsMost, ruleNodesMost}
 use Rattle.lists.specs.Runs.{padded}
 use Rattle.lists.specs.Listed.{listed}
 use Rattle.lists.proofs.Parts.{tail-is}
-use Rattle.ltl.specs.Text.{ruleText}
+use Rattle.ltl.specs.Decode.{isRule}
 use Rattle.masks.specs.Masks.{masksRule}
-use Rattle.rules.specs.RuleFile.{version, masksAt, formulaAt, totalOf, countsOk, versionIn, boardsIn, propositionsIn, nodesIn, maskIn, masksIn, formulaIn}
-use Rattle.rules.specs.Read.{lengthsOk, offsetsOk}
+use Rattle.rules.specs.RuleFile.{version, masksAt, fileFormulaAt, totalOf, countsOk, versionInFile, boardsInFile, propositionsInFile, nodesInFile, maskInFile, masksInFile, formulaInFile}
+use Rattle.rules.specs.Read.{readLengthsOk, offsetsOk}
 use Rattle.rules.proofs.Files.{found-length, found-front, found-padded}
 use Rattle.rules.proofs.Outcomes.{Sized, sized, counted, placed, read-length, read-version, read-range, read-offset, read-masks, read-formula, read-rule}
 use borrow.Author.Needs.{needs}
@@ -43,36 +43,36 @@ abbrev masked : tie.Else6 → tie.Else5
 masked c = c .before .before .before
 
 -- ---- the checks of the contract, behind the code's tests that decide them
-lengths-hold : (c : tie.Else1) → let a = entry c .args in lengthsOk (a .file .now) (length (a .masks .now)) (length (a .formula .now)) ≡ true
+lengths-hold : (c : tie.Else1) → let a = entry c .args in readLengthsOk (a .file .now) (length (a .masks .now)) (length (a .formula .now)) ≡ true
 lengths-hold c = sym (c .before .lengths-ok .ensures) ∙ not-false _ (c .if1 .left)
 
-version-holds : (c : tie.Else2) → eqb (versionIn (entry (long c) .args .file .now)) version ≡ true
+version-holds : (c : tie.Else2) → eqb (versionInFile (entry (long c) .args .file .now)) version ≡ true
 version-holds c = eq-eqb _ _ (sym (c .before .u16-at .ensures) ∙ c .if2 .left)
 
-counts-are : (c : tie.After-counts-ok) → let f = entry (long (c .before .before .before .before)) .args .file .now in countsOk (boardsIn f) (propositionsIn f) (nodesIn f) ≡ c .counts-ok .result
+counts-are : (c : tie.After-counts-ok) → let f = entry (long (c .before .before .before .before)) .args .file .now in countsOk (boardsInFile f) (propositionsInFile f) (nodesInFile f) ≡ c .counts-ok .result
 counts-are c = rw (← c .before .before .before .u16-at2 .ensures, ← c .before .before .u16-at3 .ensures, ← c .before .u16-at4 .ensures) (sym (c .counts-ok .ensures))
 
-counts-hold : (c : tie.Else3) → let f = entry (long (versioned c)) .args .file .now in countsOk (boardsIn f) (propositionsIn f) (nodesIn f) ≡ true
+counts-hold : (c : tie.Else3) → let f = entry (long (versioned c)) .args .file .now in countsOk (boardsInFile f) (propositionsInFile f) (nodesInFile f) ≡ true
 counts-hold c = counts-are (c .before) ∙ not-false _ (c .if3 .left)
 
 offsets-hold : (c : tie.Else4) → offsetsOk (entry (long (versioned (ranged c))) .args .file .now) ≡ true
 offsets-hold c = sym (c .before .offsets-ok .ensures) ∙ not-false _ (c .if4 .left)
 
-masks-are : (c : tie.After-follow-rule) → let f = entry (long (versioned (ranged (c .before .before .before .before .before)))) .args .file .now in masksRule (propositionsIn f) (masksIn f) ≡ c .follow-rule .result
+masks-are : (c : tie.After-follow-rule) → let f = entry (long (versioned (ranged (c .before .before .before .before .before)))) .args .file .now in masksRule (propositionsInFile f) (masksInFile f) ≡ c .follow-rule .result
 masks-are c =
     rw (← c .before .before .before .before .before .before .before .before .before .before .u16-at3 .ensures, ← c .before .before .before .before .before .before .before .before .before .before .before .u16-at2 .ensures)
     (sym (c .follow-rule .ensures ∙ ap (masksRule (c .before .before .before .before .before .before .before .before .before .before .u16-at3 .result)) (found-front _ _ (c .before .before .before .before .before .before .before .before .before .before .before .u16-at2 .result) (c .before .before .before .column .ensures))))
 
-masks-hold : (c : tie.Else5) → let f = entry (long (versioned (ranged (laid c)))) .args .file .now in masksRule (propositionsIn f) (masksIn f) ≡ true
+masks-hold : (c : tie.Else5) → let f = entry (long (versioned (ranged (laid c)))) .args .file .now in masksRule (propositionsInFile f) (masksInFile f) ≡ true
 masks-hold c = masks-are (c .before) ∙ not-false _ (c .if5 .left)
 
-text-is : (c : tie.After-is-rule) → let f = entry (long (versioned (ranged (laid (c .before .before))))) .args .file .now in ruleText (propositionsIn f) (formulaIn f) ≡ c .is-rule .result
-text-is c =
+decoded-is : (c : tie.After-is-rule) → let f = entry (long (versioned (ranged (laid (c .before .before))))) .args .file .now in isRule (propositionsInFile f) (formulaInFile f) ≡ c .is-rule .result
+decoded-is c =
     rw (← c .before .before .before .before .before .before .before .before .before .before .before .before .before .u16-at3 .ensures, ← c .before .before .before .before .before .before .before .before .before .before .before .before .before .before .u16-at2 .ensures)
-    (sym (c .is-rule .ensures ∙ ap (ruleText (c .before .before .before .before .before .before .before .before .before .before .before .before .before .u16-at3 .result)) (tail-is (formulaAt (c .before .before .before .before .before .before .before .before .before .before .before .before .before .before .u16-at2 .result)) _)))
+    (sym (c .is-rule .ensures ∙ ap (isRule (c .before .before .before .before .before .before .before .before .before .before .before .before .before .u16-at3 .result)) (tail-is (fileFormulaAt (c .before .before .before .before .before .before .before .before .before .before .before .before .before .before .u16-at2 .result)) _)))
 
-text-holds : (c : tie.Else6) → let f = entry (long (versioned (ranged (laid (masked c))))) .args .file .now in ruleText (propositionsIn f) (formulaIn f) ≡ true
-text-holds c = text-is (c .before) ∙ not-false _ (c .if6 .left)
+decoded-holds : (c : tie.Else6) → let f = entry (long (versioned (ranged (laid (masked c))))) .args .file .now in isRule (propositionsInFile f) (formulaInFile f) ≡ true
+decoded-holds c = decoded-is (c .before) ∙ not-false _ (c .if6 .left)
 
 -- ---- what they tell
 sized-is : (c : tie.Else1) → let a = entry c .args in Sized (a .file .now) (length (a .masks .now)) (length (a .formula .now))
@@ -80,8 +80,8 @@ sized-is c = sized _ _ _ (lengths-hold c)
 
 pub record Known (file : List ℕ) (b p n : ℕ) : Type 0 where
   pub headed : masksAt ≤ length file
-  pub boards : b ≡ boardsIn file
-  pub nodes : n ≡ nodesIn file
+  pub boards : b ≡ boardsInFile file
+  pub nodes : n ≡ nodesInFile file
   pub boards-few : b ≤ boardsMost
   pub propositions-few : p ≤ propositionsMost
   pub nodes-few : n ≤ ruleNodesMost
@@ -109,7 +109,7 @@ hand-out-requires c κs =
     let l = total o in
     let s = sized-is (long (versioned (ranged o))) in
     let a = entry (long (versioned (ranged o))) .args in
-    let at = formulaAt (o .before .before .before .before .before .before .u16-at2 .result) in
+    let at = fileFormulaAt (o .before .before .before .before .before .before .u16-at2 .result) in
     let t = ap length (tail-is at (a .file .now)) in
     let d = length-drop at (a .file .now) in
     let f : length (take (length (a .file .now) - at) (drop at (a .file .now))) ≤ length (a .formula .now) = omega arith in
@@ -125,10 +125,10 @@ rule-read c =
     let l = long v in
     let file = entry l .args .file .now in
     let e = n .before .before .before .before .u16-at2 .ensures in
-    read-rule _ _ _ (lengths-hold l) (version-holds v) (counts-hold n) (offsets-hold o) (masks-hold m) (text-holds t) _ _ _
+    read-rule _ _ _ (lengths-hold l) (version-holds v) (counts-hold n) (offsets-hold o) (masks-hold m) (decoded-holds t) _ _ _
     e (n .before .before .before .u16-at3 .ensures) (n .before .before .u16-at4 .ensures)
-    (c .before .before .before .before .hand-out .ensures .0 ∙ found-padded file _ _ (c .before .before .before .before .before .before .before .before .before .before .before .before .before .before .before .before .column .ensures) ∙ ap (λ (i : ℕ). padded boardsMost (listed (maskIn file) i)) e)
-    (c .before .before .before .before .hand-out .ensures .1 ∙ ap₂ (λ (n : ℕ) (u : List ℕ). padded n u) (sized-is l .formula-room) (tail-is (formulaAt (n .before .before .before .before .u16-at2 .result)) file ∙ ap (λ (i : ℕ). drop (formulaAt i) file) e))
+    (c .before .before .before .before .hand-out .ensures .0 ∙ found-padded file _ _ (c .before .before .before .before .before .before .before .before .before .before .before .before .before .before .before .before .column .ensures) ∙ ap (λ (i : ℕ). padded boardsMost (listed (maskInFile file) i)) e)
+    (c .before .before .before .before .hand-out .ensures .1 ∙ ap₂ (λ (n : ℕ) (u : List ℕ). padded n u) (sized-is l .formula-room) (tail-is (fileFormulaAt (n .before .before .before .before .u16-at2 .result)) file ∙ ap (λ (i : ℕ). drop (fileFormulaAt i) file) e))
 
 pub read-spec : {M : Type 1} → statement M
 read-spec =
@@ -163,7 +163,7 @@ read-spec =
     (λ c. search needs)
     (λ c κs. search needs)
     (λ c. let m = c .before .before .before in let o = laid m in let n = ranged o in let v = versioned n in
-    read-formula _ _ _ (lengths-hold (long v)) (version-holds v) (counts-hold n) (offsets-hold o) (masks-hold m) (text-is (c .before) ∙ not-true _ (c .if6 .taken)))
+    read-formula _ _ _ (lengths-hold (long v)) (version-holds v) (counts-hold n) (offsets-hold o) (masks-hold m) (decoded-is (c .before) ∙ not-true _ (c .if6 .taken)))
     (λ c. search needs)
     (λ c. let l = total (c .before .before .before .before .before .before .before .before .before .before) in omega arith)
     (λ c. let l = total (c .before .before .before .before .before .before .before .before .before .before) in omega arith)

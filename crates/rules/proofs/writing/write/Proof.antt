@@ -7,9 +7,9 @@ use lib.ListN.{length, length-drop}
 use lib.Dec.{eqb}
 use borrow.Author.Tests.{eq-eqb, ne-eqb, not-true, not-false}
 use Rattle.lists.proofs.Parts.{tail-is}
-use Rattle.ltl.specs.Text.{ruleText}
+use Rattle.ltl.specs.Decode.{isRule}
 use Rattle.masks.specs.Masks.{masksRule}
-use Rattle.rules.specs.RuleFile.{masksAt, formulaAt, fileMost, countsOk}
+use Rattle.rules.specs.RuleFile.{masksAt, fileFormulaAt, fileMost, countsOk}
 use Rattle.lists.specs.Runs.{tailAs}
 use Rattle.rules.proofs.Files.{file-put}
 use Rattle.rules.proofs.Outcomes.{Counted, counted, write-length, write-range, write-masks, write-formula, write-written}
@@ -27,8 +27,8 @@ counts-hold c = sym (c .before .counts-ok .ensures) ∙ not-false _ (c .if2 .lef
 masks-hold : (c : tie.Else3) → let a = c .before .before .before .before .before .before .before .before .args in masksRule (a .propositions) (a .masks .now) ≡ true
 masks-hold c = sym (c .before .follow-rule .ensures) ∙ not-false _ (c .if3 .left)
 
-text-holds : (c : tie.Else4) → let a = c .before .before .before .before .before .before .before .before .before .before .args in ruleText (a .propositions) (a .formula .now) ≡ true
-text-holds c = sym (c .before .is-rule .ensures) ∙ not-false _ (c .if4 .left)
+decoded-holds : (c : tie.Else4) → let a = c .before .before .before .before .before .before .before .before .before .before .args in isRule (a .propositions) (a .formula .now) ≡ true
+decoded-holds c = sym (c .before .is-rule .ensures) ∙ not-false _ (c .if4 .left)
 
 counted-is : (c : tie.Else2) → let a = c .before .before .before .before .before .before .args in Counted (length (a .masks .now)) (a .propositions) (length (a .formula .now))
 counted-is c = counted _ _ _ (counts-hold c)
@@ -60,7 +60,7 @@ write-spec =
     (λ c. search needs)
     (λ c κs. let k = counted-is (c .before .before .before .before .before .before .before .before .before .before .before .before .before) in
     let s = tailAs masksAt (c .before .before .before .before .before .before .before .put-header .last .0) (c .before .before .before .put-masks .last .0) in
-    let at = formulaAt (length (c .before .before .before .before .before .before .before .before .before .before .before .before .before .before .before .before .before .before .before .args .masks .now)) in
+    let at = fileFormulaAt (length (c .before .before .before .before .before .before .before .before .before .before .before .before .before .before .before .before .before .before .before .args .masks .now)) in
     omega (arith, ap length (tail-is at s), length-drop at s))
     (λ c. let k = counted-is (c .before .before .before .before .before .before .before .before .before .before .before .before .before .before .before .before) in omega arith)
     (λ c. let k = counted-is (c .before .before .before .before .before .before .before .before .before .before .before .before .before .before .before .before) in omega arith)
@@ -68,5 +68,5 @@ write-spec =
     (λ c κs. search needs)
     (λ c. search needs)
     (λ c. let t = c .before .before .before .before .before .before .before .before .before .before .before .before .before .before .before .before in let m = t .before .before in let n = m .before .before in let r = n .before .before in
-    write-written _ _ _ _ (room-holds r) (counts-hold n) (masks-hold m) (text-holds t) _
+    write-written _ _ _ _ (room-holds r) (counts-hold n) (masks-hold m) (decoded-holds t) _
     (file-put _ _ _ (r .before .before .before .before .args .file .now) _ _ _ _ (r .if1 .left) (c .before .before .before .before .before .before .before .before .before .before .before .before .before .before .put-header .ensures) (c .before .before .before .before .before .before .before .before .before .before .put-masks .ensures) (c .before .before .before .before .before .before .copy .ensures) (c .before .before .clear .ensures))))

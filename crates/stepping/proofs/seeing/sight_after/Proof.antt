@@ -4,7 +4,7 @@ use Prim.Native.Nat.{_+_, _-_, _*_, _<_}
 use lib.ListN.{getD}
 use Rattle.state.specs.Fields.{steppedIn}
 use Rattle.checking.proofs.Records.{mark-at}
-use Rattle.passing.proofs.Lying.{Lying}
+use Rattle.checked.proofs.Lying.{Lying}
 use Rattle.stepping.proofs.Counting.{placed, lying}
 use Rattle.stepping.proofs.Sights.{after-low, after-waits, after-sees}
 use Rattle.stepping.specs.declared.seeing.Sight.the-variants.{Sees}

@@ -3,7 +3,7 @@ use mathlib.Core.Path.{sym, ap₂, _∙_}
 use mathlib.Core.List.{List}
 use Prim.Native.Nat.{ℕ}
 use Rattle.checking.proofs.Records.{bytes-at}
-use Rattle.passing.proofs.Lying.{Lying}
+use Rattle.checked.proofs.Lying.{Lying}
 use Rattle.stepping.specs.Seeing.{sampleAlone, sightOver}
 use Rattle.stepping.proofs.Counting.{placed, slot-passing, lying, lent-holds, flag-at, sample-at}
 use Rattle.stepping.proofs.Sights.{sight-unsampled, sight-sampled}

@@ -1,0 +1,106 @@
+-- What a step writes. It is never longer than the slot was (`step-no-longer`), so that it fits the slot's bytes (`step-fits`, `step-room`;
+-- whatever is sampled and held, `result-fits`, `result-room`). It depends only on the slot's nodes, its board's sample and, for each held slot,
+-- whether it is true, false or neither (`step-depends`), and so do all bytes that are written, those of the nodes and those of the length
+-- (`step-writes`); the mark becomes 1 in any case. Assumes nothing.
+use mathlib.Core.Path.{_≡_, refl, sym, ap, ap₂, _∙_}
+use mathlib.Core.Bool.{true}
+use mathlib.Core.List.{List}
+use Prim.Native.Nat.{ℕ, _+_, _-_, _<_, _≤_}
+use native.Mathlib.Omega.{arith}
+use lib.ListN.{length, replicate, length-append, length-replicate}
+use Rattle.lists.specs.Runs.{padded}
+use Rattle.kinds.specs.declared.Leaf.the-variants.{Const, Prop, Hold}
+use Rattle.kinds.specs.declared.Unary.the-variants.{Not, Next, Eventually, Always}
+use Rattle.kinds.specs.declared.Binary.the-variants.{Joined, Until}
+use Rattle.answers.specs.declared.Verdict.{Verdict}
+use Rattle.le.specs.Le.{le}
+use Rattle.ltl.specs.Formula.{Formula, leaf, one, two, size, encode}
+use Rattle.ltl.specs.Meaning.{Event}
+use Rattle.ltl.specs.Decode.{decoded, someFormula}
+use Rattle.ltl.specs.Progression.{resolved, filled, verdictOf}
+use Rattle.ltl.proofs.Joining.{joined-elim, negated-elim}
+use Rattle.ltl.proofs.Decoding.{length-encode}
+use Rattle.network.proofs.Laying.{HoldsIn}
+use Rattle.network.proofs.Settling.{filled-same}
+use Rattle.state.specs.Fields.{slotsIn, sampleIn, boardOfIn, lengthIn, slotBytes}
+use Rattle.state.specs.Clauses.{stateOk}
+use Rattle.state.specs.Bytes.{formulaAt}
+use Rattle.state.specs.Calls.{steppedTo}
+use Rattle.checked.proofs.Passing.{passing}
+
+-- ---- over formulas
+resolved-size : (e : Event) (f : Formula) → size (resolved e f) ≤ size f
+resolved-size e (leaf (Const v)) = omega arith
+resolved-size e (leaf (Prop i)) = omega arith
+resolved-size e (leaf (Hold k)) = omega arith
+resolved-size e (one Not f) =
+    let h = resolved-size e f in
+    negated-elim (λ g. size g ≤ 1 + size f) (resolved e f) (λ q. omega arith) (λ q. omega arith) (omega arith)
+resolved-size e (one Next f) = omega arith
+resolved-size e (one Eventually f) = omega arith
+resolved-size e (one Always f) = omega arith
+resolved-size e (two (Joined j) f g) =
+    let h = resolved-size e f in
+    let i = resolved-size e g in
+    joined-elim (λ x. size x ≤ 1 + size f + size g) j (resolved e f) (resolved e g) (λ q. omega arith) (λ q. omega arith) (λ q. omega arith) (λ q. omega arith) (λ q. omega arith) (omega arith)
+resolved-size e (two Until f g) = omega arith
+
+filled-size : (held : ℕ → Verdict) (f : Formula) → size (filled held f) ≡ size f
+filled-size held (leaf a) = refl
+filled-size held (one Not f) = ap (1 +_) (filled-size held f)
+filled-size held (one Next f) = refl
+filled-size held (one Eventually f) = refl
+filled-size held (one Always f) = refl
+filled-size held (two (Joined j) f g) = omega (arith, filled-size held f, filled-size held g)
+filled-size held (two Until f g) = refl
+
+resolved-no-longer : (e : Event) (held : ℕ → Verdict) (f : Formula) → size (resolved e (filled held f)) ≤ size f
+resolved-no-longer e held f = omega (arith, resolved-size e (filled held f), filled-size held f)
+
+-- ---- in a state
+pub step-no-longer : (s : List ℕ) (k : ℕ) → size (steppedTo s k) ≤ size (formulaAt s k)
+unfolding steppedTo
+step-no-longer s k = resolved-no-longer (sampleIn s (boardOfIn s k)) (λ m. verdictOf (formulaAt s m)) (formulaAt s k)
+
+module _ (s : List ℕ) (ok : stateOk s ≡ true) (k : ℕ) (l : k < slotsIn s) where
+  -- whatever is sampled and held
+  module _ (e : Event) (held : ℕ → Verdict) where
+    abbrev result : Formula
+    result = resolved e (filled held (formulaAt s k))
+
+    pub result-fits : size result ≤ lengthIn s k
+    result-fits = omega (arith, resolved-no-longer e held (formulaAt s k), passing s ok .slots k l .length-is)
+
+    -- the bytes that are written are as many as the slot had
+    pub result-room : length (padded (lengthIn s k) (encode result)) ≡ lengthIn s k
+    result-room =
+        let n = lengthIn s k - length (encode result) in
+        omega (arith, result-fits, length-encode result, length-append (encode result) (replicate n 0), length-replicate {A = ℕ} n 0)
+
+  pub step-fits : size (steppedTo s k) ≤ lengthIn s k
+  unfolding steppedTo
+  step-fits = result-fits (sampleIn s (boardOfIn s k)) (λ m. verdictOf (formulaAt s m))
+
+  pub step-room : length (padded (lengthIn s k) (encode (steppedTo s k))) ≡ lengthIn s k
+  unfolding steppedTo
+  step-room = result-room (sampleIn s (boardOfIn s k)) (λ m. verdictOf (formulaAt s m))
+
+-- ---- what it depends on
+module _ (s t : List ℕ) (k l : ℕ) (bytes : slotBytes s k ≡ slotBytes t l) where
+  pub formula-depends : formulaAt s k ≡ formulaAt t l
+  formula-depends = ap (λ (b : List ℕ). someFormula (decoded b)) bytes
+
+  module _ (sample : sampleIn s (boardOfIn s k) ≡ sampleIn t (boardOfIn t l))
+      (held : HoldsIn (λ m. verdictOf (formulaAt s m) ≡ verdictOf (formulaAt t m)) (formulaAt s k)) where
+    pub step-depends : steppedTo s k ≡ steppedTo t l
+    unfolding steppedTo
+    step-depends =
+        let p : ℕ → Verdict = λ m. verdictOf (formulaAt s m) in
+        let q : ℕ → Verdict = λ m. verdictOf (formulaAt t m) in
+        ap₂ resolved sample (filled-same p q (formulaAt s k) held ∙ ap (filled q) formula-depends)
+
+    pub step-writes : stateOk s ≡ true → stateOk t ≡ true → k < slotsIn s → l < slotsIn t
+        → (padded (lengthIn s k) (encode (steppedTo s k)) ≡ padded (lengthIn t l) (encode (steppedTo t l))) × (le 2 (size (steppedTo s k)) ≡ le 2 (size (steppedTo t l)))
+    step-writes ok ok′ there there′ =
+        let n : lengthIn s k ≡ lengthIn t l = passing s ok .slots k there .length-is ∙ ap size formula-depends ∙ sym (passing t ok′ .slots l there′ .length-is) in
+        (ap₂ (λ (i : ℕ) (f : Formula). padded i (encode f)) n step-depends, ap (λ (f : Formula). le 2 (size f)) step-depends)

@@ -1,0 +1,2 @@
+-- What the contracts of `giving` cite.
+pub mod Give

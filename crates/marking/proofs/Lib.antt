@@ -1,4 +1,0 @@
--- Laws of marks.
-pub mod Places
-pub mod Tops
-pub mod Walks

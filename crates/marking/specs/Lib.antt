@@ -1,2 +1,0 @@
--- What the contracts of `marking` cite.
-pub mod Marks

@@ -1,0 +1,34 @@
+-- At each turn the pass from here with what is owed now answers as the whole does; the bytes left fall. Assumes nothing.
+use Prim.Native.Nat.{_-_}
+use lib.ListN.{length}
+use Rattle.owing.proofs.Scans.{Owing, owing-begins, owing-over, owing-more, owing-broken, owing-ends}
+use native.Mathlib.Omega.{arith}
+use borrow.Author.Needs.{needs}
+use Rattle.owing.proofs.is_formula.Statement.{statement}
+use Rattle.owing.proofs.is_formula.Tie as tie
+
+abbrev Inv-loop : tie.InvT-loop
+Inv-loop s p h owed₀ i₀ owed i = Owing p h s i owed
+
+abbrev μ-loop : tie.MeasureT-loop
+μ-loop s p h owed₀ i₀ owed i = length s - i
+
+pub is-formula-spec : {M : Type 1} → statement M
+is-formula-spec =
+    tie.close
+    (tie.spec
+    Inv-loop
+    μ-loop
+    (λ c. owing-begins)
+    (λ c. owing-over (c .before .before .loop .inv) (c .before .loop-test .taken) (c .if1 .taken))
+    (λ c. search needs)
+    (λ c κs. search needs)
+    (λ c. search needs)
+    (λ c κs. omega arith)
+    (λ c. search needs)
+    (λ c. search needs)
+    (λ c. owing-broken (c .before .before .before .before .before .before .before .loop .inv) (c .before .before .before .before .before .before .loop-test .taken) (c .before .before .before .before .before .if1 .left) (c .before .before .before .of .ensures) (c .before .before .after .ensures) (c .enum-told .given .1))
+    (λ c. search needs)
+    (λ c. omega arith)
+    (λ c. owing-more (c .before .before .before .before .before .before .before .before .loop .inv) (c .before .before .before .before .before .before .before .loop-test .taken) (c .before .before .before .before .before .before .if1 .left) (c .before .before .before .before .of .ensures) (c .before .before .before .after .ensures) (c .before .next .given .1))
+    (λ c. owing-ends (c .before .loop .inv) (c .loop-test .left)))

@@ -1,0 +1,2 @@
+-- What the contracts of `owing` cite.
+pub mod Scan

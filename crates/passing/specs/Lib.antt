@@ -1,2 +1,0 @@
--- What the contracts above `passing` cite of a state that passes.
-pub mod Holds

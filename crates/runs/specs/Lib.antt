@@ -1,2 +1,0 @@
--- What the contracts of `runs` cite.
-pub mod Starts

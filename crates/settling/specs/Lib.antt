@@ -1,2 +1,0 @@
--- What the contracts of `settling` cite.
-pub mod Settle

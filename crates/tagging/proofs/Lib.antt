@@ -1,0 +1,4 @@
+-- Laws of tags.
+pub mod Places
+pub mod Tops
+pub mod Walks

@@ -1,0 +1,2 @@
+-- What the contracts of `tagging` cite.
+pub mod Tags

@@ -1,2 +1,0 @@
--- What the contracts of `texts` cite.
-pub mod Scan
