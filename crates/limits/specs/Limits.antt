@@ -27,3 +27,7 @@ slotsRoom = 64
 
 abbrev pub nodesRoom : ℕ
 nodesRoom = 4096
+
+-- the nodes of a network
+abbrev pub nodesMost : ℕ
+nodesMost = nodesRoom
