@@ -12,7 +12,7 @@ use Rattle.nodes.proofs.Fronts.{parts-as, no-code}
 use Rattle.laying.proofs.Parts.{not, pair}
 use Rattle.laying.proofs.Slots.{stay-asks, cut-asks, hold-asks}
 use Rattle.laying.proofs.Room.{Entry, entry, cut-done, Begun, begun, FirstDone, first-done, RightBegun, right-begun, BothDone, both-done, HoldEntry, hold-entry, SlotBegun, slot-begun}
-use Rattle.laying.proofs.Cutting.{constant, proposition, next, eventually, always, until, whole-asks, whole-cuts, leaf-cuts, not-cuts, pair-cuts, stay-looks, cut-looks, slot-lays, hold-cuts}
+use Rattle.laying.proofs.Cutting.{constant, proposition, next, ever, until, whole-asks, whole-cuts, leaf-cuts, not-cuts, pair-cuts, stay-looks, cut-looks, slot-lays, hold-cuts}
 use native.Mathlib.Omega.{arith}
 use borrow.Author.Needs.{needs}
 use Prim.Native.Nat.{ℕ, _+_, _*_, _<_}
@@ -290,14 +290,12 @@ module _ (t : ℕ) where
       (λ c. search needs)
       (λ c κs. let e = c .before in whole-asks (parts-first (e .before .before .before .before .before) .pre .1) next (one-is (e .before .before .before) (e .enum-told5 .given .1)))
       (λ c. search needs)
-      (λ c κs. let e = c .before in whole-asks (parts-first (e .before .before .before .before .before) .pre .1) eventually (one-is (e .before .before .before) (e .enum-told6 .given .1)))
-      (λ c. search needs)
-      (λ c κs. let e = c .before in whole-asks (parts-first (e .before .before .before .before .before) .pre .1) always (one-is (e .before .before .before) (e .enum-told7 .given .1)))
+      (λ c κs. let e = c .before in whole-asks (parts-first (e .before .before .before .before .before) .pre .1) ever (one-is (e .before .before .before) (e .enum-told6 .given .1)))
       (λ c. search needs)
       (λ c. search needs)
-      (λ c κs. let e = c .before .before in let a = parts-first (e .before .before .before .before .before) .pre in let q = a .0 in (omega arith, (a .1, record { by = _; kind = two-is (e .before .before .before) (e .enum-told8 .given .1) })))
+      (λ c κs. let e = c .before .before in let a = parts-first (e .before .before .before .before .before) .pre in let q = a .0 in (omega arith, (a .1, record { by = _; kind = two-is (e .before .before .before) (e .enum-told7 .given .1) })))
       (λ c. search needs)
-      (λ c κs. let e = c .before in whole-asks (parts-first (e .before .before .before .before .before) .pre .1) until (two-is (e .before .before .before) (e .enum-told9 .given .1)))
+      (λ c κs. let e = c .before in whole-asks (parts-first (e .before .before .before .before .before) .pre .1) until (two-is (e .before .before .before) (e .enum-told8 .given .1)))
       (λ c. search needs)
       (λ c κs. let n = parts-entry (parts-first (c .before .before .before)) in omega arith)
       (λ c. search needs)
@@ -313,16 +311,14 @@ module _ (t : ℕ) where
       (λ c. search needs)
       (λ c. let e = c .before .before .before .before in whole-cuts next (one-is (e .before .before .before) (e .enum-told5 .given .1)) (c .before .before .put-whole .ensures))
       (λ c. search needs)
-      (λ c. let e = c .before .before .before .before in whole-cuts eventually (one-is (e .before .before .before) (e .enum-told6 .given .1)) (c .before .before .put-whole2 .ensures))
-      (λ c. search needs)
-      (λ c. let e = c .before .before .before .before in whole-cuts always (one-is (e .before .before .before) (e .enum-told7 .given .1)) (c .before .before .put-whole3 .ensures))
+      (λ c. let e = c .before .before .before .before in whole-cuts ever (one-is (e .before .before .before) (e .enum-told6 .given .1)) (c .before .before .put-whole2 .ensures))
       (λ c. search needs)
       (λ c. search needs)
       (λ c. c .before .before .before .before .cut-pair .ensures)
       (λ c. search needs)
-      (λ c. let e = c .before .before .before .before in whole-cuts until (two-is (e .before .before .before) (e .enum-told9 .given .1)) (c .before .before .put-whole4 .ensures))
+      (λ c. let e = c .before .before .before .before in whole-cuts until (two-is (e .before .before .before) (e .enum-told8 .given .1)) (c .before .before .put-whole3 .ensures))
       (λ c. search needs)
-      (λ c choose hold f rest s front m. let e = c .before .before .before .before in absurd (no-code (parts-as _ f rest front (e .before .before .of .ensures) (e .enum-told10 .given .1))))
+      (λ c choose hold f rest s front m. let e = c .before .before .before .before in absurd (no-code (parts-as _ f rest front (e .before .before .of .ensures) (e .enum-told9 .given .1))))
 
 -- ---- a slot of its own
 module _ (t : ℕ) where

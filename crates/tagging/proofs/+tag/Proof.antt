@@ -10,7 +10,7 @@ use lib.ListN.{length}
 use Rattle.nodes.proofs.Fronts.{Single, Double, parts-as, begins-some, no-code, leaf-within}
 use Rattle.nodes.proofs.Operands.{one-of, two-of, single-as, double-as, LeftRead, left-read}
 use Rattle.tagging.proofs.Tops.{leaf-over, not-small, pair-small}
-use Rattle.tagging.proofs.Walks.{asks-some, asks-operand, asks-right, leaf-done, next-done, eventually-done, always-done, until-done, not-done, pair-done}
+use Rattle.tagging.proofs.Walks.{asks-some, asks-operand, asks-right, leaf-done, next-done, ever-done, until-done, not-done, pair-done}
 use Rattle.tagging.proofs.tag.Reads as tag
 use Rattle.tagging.proofs.tag.Kinds as tag-kinds
 use Rattle.tagging.proofs.+tag.Lts-tag as lts
@@ -82,8 +82,6 @@ pub +tag-spec : {M : Type 1} → statement M
     (λ c. search needs)
     (λ c κs. first t (c .before .before .before .before .before .before) .pre .1)
     (λ c. search needs)
-    (λ c κs. first t (c .before .before .before .before .before .before) .pre .1)
-    (λ c. search needs)
     (λ c. search needs)
     (λ c. let x = double t (c .before .before) in omega arith)
     (λ c. let x = double t (c .before .before) in omega arith)
@@ -108,7 +106,7 @@ pub +tag-spec : {M : Type 1} → statement M
     let n = double t (d .before .before .before .before .before) in
     let x = left-done t d in
     let s = some t a in
-    let k = c .before .before .tags8 .given .1 ∙ c .before .before .before .before .before .before .before .before .tags7 .given .1 in
+    let k = c .before .before .tags7 .given .1 ∙ c .before .before .before .before .before .before .before .before .tags6 .given .1 in
     (omega arith, pair-small (d .tag2 .ensures _ _ (n .front)) (c .before .before .before .tag3 .ensures _ _ (x .front)) (omega arith)))
     (λ c. search needs)
     (λ c κs. first t (c .before .before .before .before .before .before) .pre .1)
@@ -127,16 +125,13 @@ pub +tag-spec : {M : Type 1} → statement M
     next-done (first t (k .before .before .before .before .before) .pre .1) y (c .before .before .tag-whole .ensures f rest y) (single-as (single t (k .before .before)) (k .enum-told2 .given .1) y))
     (λ c. search needs)
     (λ c f rest y. let k = c .before .before .before .before in
-    eventually-done (first t (k .before .before .before .before .before) .pre .1) y (c .before .before .tag-whole2 .ensures f rest y) (single-as (single t (k .before .before)) (k .enum-told3 .given .1) y))
-    (λ c. search needs)
-    (λ c f rest y. let k = c .before .before .before .before in
-    always-done (first t (k .before .before .before .before .before) .pre .1) y (c .before .before .tag-whole3 .ensures f rest y) (single-as (single t (k .before .before)) (k .enum-told4 .given .1) y))
+    ever-done (first t (k .before .before .before .before .before) .pre .1) y (c .before .before .tag-whole2 .ensures f rest y) (single-as (single t (k .before .before)) (k .enum-told3 .given .1) y))
     (λ c. search needs)
     (λ c f rest y. let e = c .before .before .before .before .before .before in let d = e .before .before .before .before .before .before in let a = first t (d .before .before .before .before .before .before .before .before) in
-    let x = double-as (double t (d .before .before .before .before .before)) (d .before .before .before .enum-told5 .given .1) y in
+    let x = double-as (double t (d .before .before .before .before .before)) (d .before .before .before .enum-told4 .given .1) y in
     pair-done (a .args .tags .now) (a .pre .1) (d .tag2 .kept .1 .0) x (d .tag2 .ensures) (e .tag3 .ensures) (e .tag3 .kept .1 .0) (c .before .before .over-pair .ensures))
     (λ c. search needs)
     (λ c f rest y. let k = c .before .before .before .before in
-    until-done (first t (k .before .before .before .before .before) .pre .1) y (c .before .before .tag-whole4 .ensures f rest y) (double-as (double t (k .before .before)) (k .enum-told6 .given .1) y))
+    until-done (first t (k .before .before .before .before .before) .pre .1) y (c .before .before .tag-whole3 .ensures f rest y) (double-as (double t (k .before .before)) (k .enum-told5 .given .1) y))
     (λ c. search needs)
-    (λ c f rest y. absurd (no-code (parts-as _ f rest y (c .before .before .before .before .before .before .of .ensures) (c .before .before .before .before .enum-told7 .given .1))))
+    (λ c f rest y. absurd (no-code (parts-as _ f rest y (c .before .before .before .before .before .before .of .ensures) (c .before .before .before .before .enum-told6 .given .1))))
