@@ -15,12 +15,13 @@ use Rattle.kinds.specs.declared.Unary.the-variants.{Not, Next, Eventually, Alwa
 use Rattle.kinds.specs.declared.Binary.the-variants.{Joined, Until}
 use Rattle.answers.specs.declared.Verdict.{Verdict}
 use Rattle.answers.specs.declared.Verdict.the-variants.{Pending}
-use Rattle.lists.proofs.Tests.{no-bits}
 use Rattle.ltl.specs.Formula.{Formula, leaf, one, two, join, size, encode, Coded}
 use Rattle.ltl.specs.Meaning.{Event}
 use Rattle.ltl.specs.Progression.{unfolded, resolved, progressed, verdictOf, filled, filledBy}
 use Rattle.ltl.proofs.Decoding.{unfolded-coded}
 use Rattle.nodes.specs.Begins.{Front, Begins}
+use Rattle.slot_sets.specs.SlotSets.{noSlots}
+use Rattle.slot_sets.proofs.SlotSets.{none-has}
 use Rattle.resolving.specs.declared.Seen.{Seen}
 use Rattle.resolving.specs.Settles.{heldBy, settled, Rewritten}
 use Rattle.resolving.proofs.Firsts.{first, first-is, unary-high, binary-high}
@@ -54,11 +55,11 @@ filled-none held h (two (Joined j) f g) = ap₂ (join j) (filled-none held h f) 
 filled-none held h (two Until f g) = refl
 
 abbrev pub alone : Event → Seen
-alone event = record { event = event; yes = 0; no = 0 }
+alone event = record { event = event; yes = noSlots; no = noSlots }
 
 pub settled-alone : (event : Event) (f : Formula) → settled (alone event) f ≡ resolved event f
 unfolding pick
-settled-alone event f = ap (resolved event) (filled-none (heldBy (alone event)) (λ k. rw (no-bits k)) f)
+settled-alone event f = ap (resolved event) (filled-none (heldBy (alone event)) (λ k. rw (none-has k)) f)
 
 -- ---- from the unfolded formula in the output to the progressed one, and zeros
 module _ (f : Formula) {out out₁ : List ℕ} {read written : ℕ} (coded : Coded f) (u : UnfoldedTo f out out₁ read written) where

@@ -6,6 +6,7 @@ ghost use Rattle.central.specs.Central.{centralLengthsOk, verdictByte, P
 use answers::Refusal;
 use answers::Verdict;
 use resolving::Seen;
+use slot_sets::no_slots;
 use unfolding::NODES_MOST;
 
 pub struct Progress {
@@ -53,12 +54,13 @@ fn progress_into(output: &mut [u8], formula: &[u8], event: u64) -> usize
     ensures { λ r. ⌜ ProgressedTo (now (formula .entry)) event (now (output .entry)) (now (output .exit)) r ⌝ }
 {
     unfolding::unfold_into(output, formula);
+    let none = no_slots();
     resolving::rewrite(
         output,
         Seen {
             event: event,
-            yes: 0,
-            no: 0,
+            yes: none,
+            no: none,
         },
     )
 }

@@ -15,12 +15,13 @@ use Rattle.answers.specs.declared.Verdict.the-variants.{False, True, Pending}
 use Rattle.ltl.specs.Formula.{Formula, size, encode, Coded}
 use Rattle.ltl.specs.Progression.{isConstant, negated, deciding, member, joined, resolved, filledBy, filled}
 use Rattle.nodes.specs.Begins.{Front}
+use Rattle.slot_sets.specs.SlotSets.{hasSlot}
 use Rattle.resolving.specs.declared.Seen.{Seen}
 use Rattle.resolving.specs.declared.Settled.{Settled}
 
--- the verdict of slot k, where the slots that are true and those that are false are the bits of two masks
+-- the verdict of slot k, by the set of the slots that are true and the set of those that are false
 abbrev pub heldBy : Seen → ℕ → Verdict
-heldBy seen k = pick (bit (seen .yes) k) True (pick (bit (seen .no) k) False Pending)
+heldBy seen k = pick (hasSlot (seen .yes) k) True (pick (hasSlot (seen .no) k) False Pending)
 
 -- constant held slots replaced by their values, then resolved under the event
 abbrev pub settled : Seen → Formula → Formula

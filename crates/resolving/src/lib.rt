@@ -4,6 +4,7 @@
 ghost use mathlib.Core.Path.{_≡_};
 ghost use Prim.Native.Nat.{_+_, _<_};
 ghost use lib.ListN.{drop};
+ghost use Rattle.limits.specs.Limits.{propositionsMost, holderCodes};
 ghost use Rattle.lists.specs.Tests as tests;
 ghost use Rattle.kinds.specs.declared.Leaf.the-variants.{Const, Hold};
 ghost use Rattle.kinds.specs.Kinds.{leafCode, leafCoded};
@@ -14,12 +15,14 @@ use kinds::Join;
 use kinds::Kind;
 use kinds::Leaf;
 use kinds::Unary;
+use slot_sets::SlotSet;
+use slot_sets::has_slot;
 
 // What a board sees at a tick: its event, and which of the slots that it holds have answered true, and false.
 pub struct Seen {
     pub event: u64,
-    pub yes: u64,
-    pub no: u64,
+    pub yes: SlotSet,
+    pub no: SlotSet,
 }
 
 // Where a result stands, from `start` to `end`, and where the bytes begin that were not read.
@@ -29,9 +32,9 @@ pub struct Settled {
     pub end: usize,
 }
 
-// Bit i of n.
+// Whether proposition i is true in the event n.
 fn bit(n: u64, i: u8) -> bool
-    requires { ⌜ i < 64 ⌝ }
+    requires { ⌜ i < propositionsMost ⌝ }
     ensures { λ r. ⌜ r ≡ tests.bit n i ⌝ }
 {
     (n >> i) % 2 == 1
@@ -58,13 +61,13 @@ fn leaf_under(a: Leaf, seen: Seen) -> u8
 
 // The byte that the place holder of slot k becomes.
 fn held_under(k: u8, seen: Seen) -> u8
-    requires { ⌜ k < 64 ⌝ }
+    requires { ⌜ k < holderCodes ⌝ }
     ensures { λ r. ⌜ r ≡ leafCode (settledLeaf seen (Hold k)) ⌝ }
 {
-    if bit(seen.yes, k) {
+    if has_slot(seen.yes, k) {
         return Kind::TRUE;
     }
-    if bit(seen.no, k) {
+    if has_slot(seen.no, k) {
         return Kind::FALSE;
     }
     Kind::HOLD + k
