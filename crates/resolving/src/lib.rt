@@ -9,7 +9,8 @@ ghost use Rattle.lists.specs.Tests as tests;
 ghost use Rattle.kinds.specs.declared.Leaf.the-variants.{Const, Hold};
 ghost use Rattle.kinds.specs.Kinds.{leafCode, leafCoded};
 ghost use Rattle.nodes.specs.Begins.{Begins};
-ghost use Rattle.resolving.specs.Settles.{settled, settledLeaf, Makes, NotMakes, Pairs, PairMakes, Joinable, Joins, Comparable, IsMember, Rewritten};
+ghost use Rattle.resolving.specs.Settles.{settled, settledLeaf, Makes, NotMakes, Pairs, PairMakes, Rewritten};
+use joining::Settled;
 use kinds::Binary;
 use kinds::Join;
 use kinds::Kind;
@@ -23,13 +24,6 @@ pub struct Seen {
     pub event: u64,
     pub yes: SlotSet,
     pub no: SlotSet,
-}
-
-// Where a result stands, from `start` to `end`, and where the bytes begin that were not read.
-pub struct Settled {
-    pub next: usize,
-    pub start: usize,
-    pub end: usize,
 }
 
 // Whether proposition i is true in the event n.
@@ -71,27 +65,6 @@ fn held_under(k: u8, seen: Seen) -> u8
         return Kind::FALSE;
     }
     Kind::HOLD + k
-}
-
-// Whether the formula l is a member of the formula r by the join op: r itself and, where r is joined so, its left operand and
-// the members of its right. No formula's bytes begin another's, so that a formula is found by comparing what bytes begin with.
-fn is_member(l: &[u8], r: &[u8], op: u8) -> bool
-    requires { ⌜ Comparable (now l) (now r) op ⌝ }
-    ensures { λ x. ⌜ IsMember (now (l .entry)) (now (r .entry)) op x ⌝ }
-{
-    let mut at: usize = 0;
-    while r[at] == op {
-        // A formula that is not longer than l has no other member that l could be.
-        if r.len() - at <= l.len() {
-            return buffers::begins(l, &r[at..]);
-        }
-        let left = at + 1;
-        if buffers::begins(l, &r[left..]) {
-            return true;
-        }
-        at = left + nodes::operand_end(&r[left..]);
-    }
-    buffers::begins(l, &r[at..])
 }
 
 // Moves the formula from `at` on to the front.
@@ -192,49 +165,7 @@ fn resolve_pair(p: &mut [u8], from: usize, op: u8, decide: u8, seen: Seen) -> Se
         return resolve(p, next, seen);
     }
     let c = resolve(&mut p[end..], next - end, seen);
-    join(p, op, decide, start, end, c)
-}
-
-// Joins two resolved operands, the left one from `start` to `end` and no constant, the right one where `right` says behind `end`.
-fn join(p: &mut [u8], op: u8, decide: u8, start: usize, end: usize, right: Settled) -> Settled
-    requires { ⌜ Joinable (now p) op decide start end right ⌝ }
-    ensures { λ r. ⌜ Joins op decide start end right (now (p .entry)) (now (p .exit)) r ⌝ }
-{
-    let from = end + right.start;
-    let to = end + right.end;
-    let next = end + right.next;
-    let first = p[from];
-    if first == decide {
-        p[0] = decide;
-        return Settled {
-            next: next,
-            start: 0,
-            end: 1,
-        };
-    }
-    if first < 2 {
-        return Settled {
-            next: next,
-            start: start,
-            end: end,
-        };
-    }
-    if is_member(&p[start..end], &p[from..to], op) {
-        return Settled {
-            next: next,
-            start: from,
-            end: to,
-        };
-    }
-    let n = right.end - right.start;
-    buffers::slide(&mut p[end..to], right.start, n);
-    let top = start - 1;
-    p[top] = op;
-    Settled {
-        next: next,
-        start: top,
-        end: end + n,
-    }
+    joining::join(p, op, decide, start, end, c)
 }
 
 // Resolves the formula that p begins with, moves the result to the front, clears the rest and answers the result's length.
