@@ -13,27 +13,29 @@ use Rattle.lists.specs.Runs.{padded}
 use Rattle.kinds.specs.declared.Leaf.the-variants.{Const, Prop, Hold}
 use Rattle.kinds.specs.declared.Unary.the-variants.{Not, Next, Ever}
 use Rattle.kinds.specs.declared.Binary.the-variants.{Joined, Until}
+use Rattle.kinds.specs.Kinds.{propCode, holdCode}
 use Rattle.answers.specs.declared.Verdict.{Verdict}
 use Rattle.answers.specs.declared.Verdict.the-variants.{Pending}
-use Rattle.lists.proofs.Tests.{no-bits}
 use Rattle.ltl.specs.Formula.{Formula, leaf, one, two, join, size, encode, Coded}
 use Rattle.ltl.specs.Meaning.{Event}
 use Rattle.ltl.specs.Progression.{unfolded, resolved, progressed, verdictOf, filled, filledBy}
 use Rattle.ltl.proofs.Decoding.{unfolded-coded}
 use Rattle.nodes.specs.Begins.{Front, Begins}
+use Rattle.slot_sets.specs.SlotSets.{noSlots}
+use Rattle.slot_sets.proofs.SlotSets.{none-has}
 use Rattle.resolving.specs.declared.Seen.{Seen}
 use Rattle.resolving.specs.Settles.{heldBy, settled, Rewritten}
-use Rattle.resolving.proofs.Firsts.{first, first-is, unary-high, binary-high}
+use Rattle.joining.proofs.Firsts.{first, first-is, unary-high, binary-high}
 use Rattle.unfolding.specs.Unfolds.{UnfoldedTo}
-use Rattle.central.specs.Central.{verdictByte}
+use Rattle.central.specs.Progressing.{verdictByte}
 
 -- ---- the verdict
 pub verdict-first : (g : Formula) → verdictByte (first g) ≡ verdictOf g
 unfolding verdictByte pick
 verdict-first (leaf (Const true)) = refl
 verdict-first (leaf (Const false)) = refl
-verdict-first (leaf (Prop i)) = rw (ne-eqb (64 + i) 0 (λ e. omega arith), ne-eqb (64 + i) 1 (λ e. omega arith))
-verdict-first (leaf (Hold k)) = rw (ne-eqb (128 + k) 0 (λ e. omega arith), ne-eqb (128 + k) 1 (λ e. omega arith))
+verdict-first (leaf (Prop i)) = rw (ne-eqb (propCode + i) 0 (λ e. omega arith), ne-eqb (propCode + i) 1 (λ e. omega arith))
+verdict-first (leaf (Hold k)) = rw (ne-eqb (holdCode + k) 0 (λ e. omega arith), ne-eqb (holdCode + k) 1 (λ e. omega arith))
 verdict-first (one o f) = let h = unary-high o in rw (ne-eqb (first (one o f)) 0 (λ e. omega arith), ne-eqb (first (one o f)) 1 (λ e. omega arith))
 verdict-first (two o f g) = let h = binary-high o in rw (ne-eqb (first (two o f g)) 0 (λ e. omega arith), ne-eqb (first (two o f g)) 1 (λ e. omega arith))
 
@@ -53,11 +55,11 @@ filled-none held h (two (Joined j) f g) = ap₂ (join j) (filled-none held h f) 
 filled-none held h (two Until f g) = refl
 
 abbrev pub alone : Event → Seen
-alone event = record { event = event; yes = 0; no = 0 }
+alone event = record { event = event; yes = noSlots; no = noSlots }
 
 pub settled-alone : (event : Event) (f : Formula) → settled (alone event) f ≡ resolved event f
 unfolding pick
-settled-alone event f = ap (resolved event) (filled-none (heldBy (alone event)) (λ k. rw (no-bits k)) f)
+settled-alone event f = ap (resolved event) (filled-none (heldBy (alone event)) (λ k. rw (none-has k)) f)
 
 -- ---- from the unfolded formula in the output to the progressed one, and zeros
 module _ (f : Formula) {out out₁ : List ℕ} {read written : ℕ} (coded : Coded f) (u : UnfoldedTo f out out₁ read written) where

@@ -1,21 +1,18 @@
 -- Progressing a whole rule in one place: the answer and the lent buffer. Assumes nothing: these are definitions.
 use mathlib.Core.Path.{_≡_}
-use Prim.Native.Nat.{ℕ, _≤_}
+use Prim.Native.Nat.{ℕ}
 use mathlib.Core.Bool.{Bool}
 use mathlib.Core.List.{List, [], _∷_}
 use lib.ListN.{length}
 use lib.Dec.{leb, eqb}
-use Rattle.lists.specs.Tests.{pick, both}
+use Rattle.lists.specs.Tests.{both}
 use Rattle.lists.specs.Runs.{padded}
 use Rattle.answers.specs.Said.{Said, accepted, refused, left, numberOf, verdictNumber, check, inOrder}
-use Rattle.answers.specs.declared.Verdict.{Verdict}
-use Rattle.answers.specs.declared.Verdict.the-variants.{False, True, Pending}
 use Rattle.limits.specs.Limits.{propositionsMost, centralNodesMost}
 use Rattle.ltl.specs.Formula.{Formula, size, encode}
 use Rattle.ltl.specs.Meaning.{Event}
 use Rattle.ltl.specs.Progression.{unfolded, progressed, verdictOf}
 use Rattle.ltl.specs.Decode.{formulaOf, isRule}
-use Rattle.nodes.specs.Begins.{Front}
 use Rattle.central.specs.declared.CentralAnswer.{CentralAnswer}
 use Rattle.central.specs.declared.CentralAnswer.the-variants.{Refused, Progressed}
 
@@ -45,19 +42,3 @@ saidCentral (Progressed p) = accepted (verdictNumber (p .verdict) ∷ p .length 
 pub record Centrally (formula : List ℕ) (event : Event) (output output′ : List ℕ) (answer : CentralAnswer) : Type 0 where
   pub says : saidCentral answer ≡ centralSays formula event (length output)
   pub leaves : output′ ≡ left (centralSays formula event (length output)) (padded centralNodesMost (encode (progressed event (formulaOf formula)))) output
-
--- ---- what the functions below the call ask and give
--- the verdict of a formula by its first byte
-unfoldable pub verdictByte : ℕ → Verdict
-verdictByte b = pick (eqb b 0) False (pick (eqb b 1) True Pending)
-
--- the bytes are one formula, and there is room for what it unfolds to
-pub record Progressable (output formula : List ℕ) : Type 0 where
-  pub whole : Formula
-  pub front : Front formula whole []
-  pub room : size (unfolded whole) ≤ length output
-
--- the progressed formula stands in the output, zero past it
-pub record ProgressedTo (formula : List ℕ) (event : Event) (output output′ : List ℕ) (n : ℕ) : Type 0 where
-  pub bytes : (f : Formula) → Front formula f [] → output′ ≡ padded (length output) (encode (progressed event f))
-  pub count : (f : Formula) → Front formula f [] → n ≡ size (progressed event f)

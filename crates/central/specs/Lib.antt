@@ -1,2 +1,3 @@
 -- What the contracts of `central` cite.
 pub mod Central
+pub mod Progressing

@@ -1,12 +1,14 @@
 // The call `central`: a whole rule progressed in one place. One walk counts what the formula unfolds to, one unfolds it into the
 // output, and one resolves it there.
 ghost use mathlib.Core.Path.{_≡_};
-ghost use lib.ListN.{length};
-ghost use Rattle.central.specs.Central.{centralLengthsOk, verdictByte, Progressable, ProgressedTo, Centrally};
+ghost use Rattle.central.specs.Central.{centralLengthsOk, Centrally};
+ghost use Rattle.central.specs.Progressing.{verdictByte, Progressable, ProgressedTo};
 use answers::Refusal;
 use answers::Verdict;
+use limits::CENTRAL_NODES_MOST;
+use limits::PROPOSITIONS_MOST;
 use resolving::Seen;
-use unfolding::NODES_MOST;
+use slot_sets::no_slots;
 
 pub struct Progress {
     pub verdict: Verdict,
@@ -18,9 +20,6 @@ pub enum CentralAnswer {
     Progressed(Progress),
 }
 
-// Propositions have numbers below this.
-const PROPOSITIONS_MOST: u64 = 64;
-
 // A formula of 1 to 4,096 bytes, and an output of 4,096.
 fn lengths_ok(formula: usize, output: usize) -> bool
     ensures { λ r. ⌜ r ≡ centralLengthsOk formula output ⌝ }
@@ -28,10 +27,10 @@ fn lengths_ok(formula: usize, output: usize) -> bool
     if formula < 1 {
         return false;
     }
-    if NODES_MOST < formula {
+    if CENTRAL_NODES_MOST < formula {
         return false;
     }
-    output == NODES_MOST
+    output == CENTRAL_NODES_MOST
 }
 
 // The verdict of the formula whose first byte is b.
@@ -53,12 +52,13 @@ fn progress_into(output: &mut [u8], formula: &[u8], event: u64) -> usize
     ensures { λ r. ⌜ ProgressedTo (now (formula .entry)) event (now (output .entry)) (now (output .exit)) r ⌝ }
 {
     unfolding::unfold_into(output, formula);
+    let none = no_slots();
     resolving::rewrite(
         output,
         Seen {
             event: event,
-            yes: 0,
-            no: 0,
+            yes: none,
+            no: none,
         },
     )
 }
@@ -70,11 +70,11 @@ pub fn central(formula: &[u8], event: u64, output: &mut [u8]) -> CentralAnswer
     if !lengths_ok(formula.len(), output.len()) {
         return CentralAnswer::Refused(Refusal::Length);
     }
-    if !owing::is_rule(formula, PROPOSITIONS_MOST) {
+    if !owing::is_rule(formula, PROPOSITIONS_MOST as u64) {
         return CentralAnswer::Refused(Refusal::Formula);
     }
     let unfolded = unfolding::count_unfolded(formula);
-    if NODES_MOST < unfolded.written {
+    if CENTRAL_NODES_MOST < unfolded.written {
         return CentralAnswer::Refused(Refusal::Nodes);
     }
     let n = progress_into(output, formula, event);

@@ -5,7 +5,8 @@ use mathlib.Core.Bool.{Bool, true, false, not}
 use Prim.Native.Nat.{ℕ, _-_, _^_, _<_}
 use native.Mathlib.Omega.{arith}
 use lib.Dec.{ltb, eqb}
-use borrow.Author.Tests.{le-ltb, lt-ltb, eq-eqb, ne-eqb}
+use borrow.Author.Tests.{le-ltb, eq-eqb, ne-eqb}
+use Rattle.limits.specs.Limits.{propositionsMost, holderCodes}
 use Rattle.lists.specs.Tests.{pick, both, bit}
 use Rattle.lists.proofs.Tests.{both-0, both-1, both-true}
 use Rattle.kinds.specs.declared.Leaf.the-variants.{Const, Prop, Hold}
@@ -13,9 +14,10 @@ use Rattle.kinds.specs.declared.Unary.the-variants.{Not, Next, Ever}
 use Rattle.kinds.specs.declared.Binary.the-variants.{Joined, Until}
 use Rattle.ltl.specs.Formula.{Formula, leaf, one, two, size, Within, leafOver, over, Coded}
 use Rattle.ltl.proofs.Decoding.{size-some}
-use Rattle.masks.proofs.Exact.{below, low-bits-bit}
 use Rattle.network.specs.Tick.{holdsOnly}
 use Rattle.state.specs.Clauses.{tidy, unfoldedOwn, loneOther}
+use Rattle.slot_sets.specs.SlotSets.{hasSlot}
+use Rattle.slot_sets.proofs.Bits.{bit-all}
 use Rattle.scanning.specs.declared.Allowed.{Allowed}
 use Rattle.checking.proofs.Each.{both-false, both-last}
 use Rattle.scanning.proofs.Passes.{leafStands, stands}
@@ -98,7 +100,7 @@ module _ (a : Allowed) where
   above m = ltb (a .slot) m
 
   abbrev pub held : ℕ → Bool
-  held m = bit (a .holders) m
+  held m = hasSlot (a .holders) m
 
   abbrev clauses : Formula → Bool
   clauses f =
@@ -132,7 +134,7 @@ module _ (a : Allowed) where
 
 -- ---- the clauses of a slot
 -- a test that holds of every slot, and of the slots below a number
-pub holds-all : (t : ℕ → Bool) (f : Formula) → Coded f → ((m : ℕ) → m < 64 → t m ≡ true) → holdsOnly t f ≡ true
+pub holds-all : (t : ℕ → Bool) (f : Formula) → Coded f → ((m : ℕ) → m < holderCodes → t m ≡ true) → holdsOnly t f ≡ true
 unfolding holdsOnly
 holds-all t (leaf (Const v)) w h = refl
 holds-all t (leaf (Prop i)) w h = refl
@@ -149,7 +151,7 @@ holds-same p s t u (one o f) w h = holds-same p s t u f w h
 holds-same p s t u (two o f g) w h = ap₂ both (holds-same p s t u f (w .0) h) (holds-same p s t u g (w .1) h)
 
 -- every proposition, and temporal operators too
-own-all : (own : ℕ) (f : Formula) → Coded f → ((i : ℕ) → i < 64 → bit own i ≡ true) → outsideOwn true own f ≡ true
+own-all : (own : ℕ) (f : Formula) → Coded f → ((i : ℕ) → i < propositionsMost → bit own i ≡ true) → outsideOwn true own f ≡ true
 unfolding outsideOwn
 own-all own (leaf (Const v)) w h = refl
 own-all own (leaf (Prop i)) w h = h i w
@@ -171,18 +173,6 @@ own-unfolded mask (one (Ever j) f) = refl
 own-unfolded mask (two (Joined j) f g) = ap₂ both (own-unfolded mask f) (own-unfolded mask g)
 own-unfolded mask (two Until f g) = refl
 
--- ---- all 64 bits
-bit-low : (p i : ℕ) → bit (2 ^ p - 1) i ≡ ltb i p
-unfolding bit below pick
-bit-low p i = ap (λ (x : ℕ). eqb x 1) (low-bits-bit p i) ∙ go (ltb i p)
-  where
-    go : (x : Bool) → eqb (pick x 1 0) 1 ≡ x
-    go true = refl
-    go false = refl
-
-pub all-bits : (i : ℕ) → i < 64 → bit (2 ^ 64 - 1) i ≡ true
-all-bits i h = bit-low 64 i ∙ lt-ltb i 64 h
-
 double-not : (b : Bool) → b ≡ not (not b)
 double-not true = refl
 double-not false = refl
@@ -190,7 +180,7 @@ double-not false = refl
 -- a stepped slot of one node has its own board's propositions alone, a longer one any
 own-longer : (mask n : ℕ) (f : Formula) → Coded f → (n ≡ 1 → ⊥) → outsideOwn true (pick (eqb n 1) mask (2 ^ 64 - 1)) f ≡ true
 unfolding pick
-own-longer mask n f w h = rw (ne-eqb n 1 h) (own-all (2 ^ 64 - 1) f w all-bits)
+own-longer mask n f w h = rw (ne-eqb n 1 h) (own-all (2 ^ 64 - 1) f w (bit-all 64))
 
 pub own-stepped : (mask n : ℕ) (f : Formula) → Coded f → n ≡ size f → outsideOwn true (pick (eqb n 1) mask (2 ^ 64 - 1)) f ≡ not (loneOther mask f)
 unfolding loneOther outsideOwn pick

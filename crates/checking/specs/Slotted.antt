@@ -6,9 +6,11 @@ use mathlib.Core.Bool.{Bool, true, false, not}
 use mathlib.Core.List.{List}
 use lib.ListN.{length}
 use lib.Dec.{ltb, eqb}
-use Rattle.lists.specs.Tests.{pick, both, either, bit}
+use Rattle.lists.specs.Tests.{pick, both, either}
 use Rattle.state.specs.Fields.{nodesAt, boardsIn, slotsIn, maskIn, sampledIn, boardOfIn, steppedIn, startIn, lengthIn, formulaIn}
 use Rattle.state.specs.Clauses.{eachBelow, distinct, isConstantIn, formulaOk, heldOf, holdersIn}
+use Rattle.slot_sets.specs.declared.SlotSet.{SlotSet}
+use Rattle.slot_sets.specs.SlotSets.{hasSlot, everySlot}
 use Rattle.scanning.specs.declared.Allowed.{Allowed}
 use Rattle.scanning.specs.declared.Held.{Held}
 use Rattle.scanning.specs.declared.Held.the-variants.{Wrong}
@@ -29,12 +31,12 @@ pub record Spans (s : List ℕ) (k from to : ℕ) : Type 0 where
   pub within : to ≤ length s
 
 -- a slot that a stepped slot may hold: it is stepped and no constant
-unfoldable pub settledIn : List ℕ → ℕ → Bool
-settledIn s m = both (eqb (steppedIn s m) 1) (not (isConstantIn s m))
+unfoldable pub holdableIn : List ℕ → ℕ → Bool
+holdableIn s m = both (eqb (steppedIn s m) 1) (not (isConstantIn s m))
 
--- the mask of these slots
-abbrev pub Settled : List ℕ → ℕ → Type 0
-Settled s mask = (m : ℕ) → bit mask m ≡ both (ltb m (slotsIn s)) (settledIn s m)
+-- the set of these slots
+abbrev pub Holdable : List ℕ → SlotSet → Type 0
+Holdable s slots = (m : ℕ) → hasSlot slots m ≡ both (ltb m (slotsIn s)) (holdableIn s m)
 
 -- the board of a stepped slot has sampled
 unfoldable pub sampledFor : List ℕ → ℕ → Bool
@@ -45,16 +47,16 @@ unfoldable pub ownStepped : ℕ → ℕ → ℕ
 ownStepped mask n = pick (eqb n 1) mask (2 ^ 64 - 1)
 
 -- what may stand in slot k: where it is not stepped, no temporal operator and no other board's proposition outside next; where it is
--- stepped, place holders of settled slots alone
-unfoldable pub allowedIn : List ℕ → ℕ → ℕ → ℕ → Allowed
-allowedIn s p settled k =
+-- stepped, place holders of the slots that it may hold
+unfoldable pub allowedIn : List ℕ → ℕ → SlotSet → ℕ → Allowed
+allowedIn s p holdable k =
     pick (eqb (steppedIn s k) 1)
     (record {
       propositions = p;
       slots = slotsIn s;
       slot = k;
       own = ownStepped (maskIn s (boardOfIn s k)) (lengthIn s k);
-      holders = settled;
+      holders = holdable;
       temporal = true;
     })
     (record {
@@ -62,12 +64,12 @@ allowedIn s p settled k =
       slots = slotsIn s;
       slot = k;
       own = maskIn s (boardOfIn s k);
-      holders = 2 ^ 64 - 1;
+      holders = everySlot;
       temporal = false;
     })
 
 -- slot k's clause, and its place holders noted beside those seen before
-unfoldable pub heldIn : List ℕ → ℕ → ℕ → ℕ → Held
+unfoldable pub heldIn : List ℕ → ℕ → ℕ → SlotSet → Held
 heldIn s p k seen = pick (formulaOk s p k (formulaIn s k)) (noted (heldOf (formulaIn s k)) seen) Wrong
 
 -- the clauses of the first n slots' formulas and of their place holders together

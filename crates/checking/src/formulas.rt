@@ -2,15 +2,20 @@
 ghost use mathlib.Core.Path.{_≡_};
 ghost use mathlib.Core.Bool.{true};
 ghost use Prim.Native.Nat.{_≤_};
+ghost use Rattle.limits.specs.Limits.{propositionsMost};
 ghost use Rattle.state.specs.Fields.{slotBytes};
 ghost use Rattle.state.specs.Clauses.{eachBelow, isConstantIn, recordOk};
 ghost use Rattle.checking.specs.Header.{Sized};
 ghost use Rattle.scanning.specs.OnePass.{Fitted, at, pass};
-ghost use Rattle.checking.specs.Slotted.{Placed, Spans, settledIn, Settled, sampledFor, ownStepped, allowedIn, heldIn, formulasOk};
+ghost use Rattle.checking.specs.Slotted.{Placed, Spans, holdableIn, Holdable, sampledFor, ownStepped, allowedIn, heldIn, formulasOk};
 use crate::Counts;
 use scanning::Allowed;
 use scanning::Held;
 use scanning::pass_over;
+use slot_sets::SlotSet;
+use slot_sets::every_slot;
+use slot_sets::no_slots;
+use slot_sets::with_slot;
 
 // Where a slot's nodes lie in the state.
 pub struct Span {
@@ -44,9 +49,9 @@ pub fn is_constant(s: &[u8], c: Counts, k: usize) -> bool
 }
 
 // Slot k is stepped and no constant: a stepped slot may hold it.
-fn is_settled(s: &[u8], c: Counts, k: usize) -> bool
+fn is_holdable(s: &[u8], c: Counts, k: usize) -> bool
     requires { ⌜ Placed (now s) (c .boards) (c .slots) (c .nodes) k ⌝ }
-    ensures { λ r. ⌜ r ≡ settledIn (now (s .entry)) k ⌝ }
+    ensures { λ r. ⌜ r ≡ holdableIn (now (s .entry)) k ⌝ }
 {
     if s[16 + 17 * c.boards + 6 * k + 1] != 1 {
         return false;
@@ -54,17 +59,17 @@ fn is_settled(s: &[u8], c: Counts, k: usize) -> bool
     !is_constant(s, c, k)
 }
 
-// The mask of the slots that a stepped slot may hold.
-fn settled(s: &[u8], c: Counts) -> u64
+// The slots that a stepped slot may hold.
+fn holdable(s: &[u8], c: Counts) -> SlotSet
     requires { ⌜ Sized (now s) (c .boards) (c .slots) (c .nodes) × (eachBelow (c .slots) (recordOk (now s)) ≡ true) ⌝ }
-    ensures { λ r. ⌜ Settled (now (s .entry)) r ⌝ }
+    ensures { λ r. ⌜ Holdable (now (s .entry)) r ⌝ }
 {
     let n = c.slots;
-    let mut slots: u64 = 0;
+    let mut slots = no_slots();
     let mut k: usize = 0;
     while k < n {
-        if is_settled(s, c, k) {
-            slots = slots | (1u64 << k);
+        if is_holdable(s, c, k) {
+            slots = with_slot(slots, k as u8);
         }
         k += 1;
     }
@@ -92,9 +97,9 @@ fn own_stepped(mask: u64, n: u16) -> u64
 }
 
 // What may stand in slot k's formula.
-fn allowed_in(s: &[u8], c: Counts, k: usize, p: u64, settled: u64) -> Allowed
+fn allowed_in(s: &[u8], c: Counts, k: usize, p: u64, holdable: SlotSet) -> Allowed
     requires { ⌜ Placed (now s) (c .boards) (c .slots) (c .nodes) k ⌝ }
-    ensures { λ r. ⌜ r ≡ allowedIn (now (s .entry)) p settled k ⌝ }
+    ensures { λ r. ⌜ r ≡ allowedIn (now (s .entry)) p holdable k ⌝ }
 {
     let at = 16 + 17 * c.boards + 6 * k;
     let board = s[at] as usize;
@@ -105,7 +110,7 @@ fn allowed_in(s: &[u8], c: Counts, k: usize, p: u64, settled: u64) -> Allowed
             slots: c.slots as u64,
             slot: k as u64,
             own: own_stepped(mask, le::u16_at(s, at + 4)),
-            holders: settled,
+            holders: holdable,
             temporal: true,
         };
     }
@@ -114,13 +119,13 @@ fn allowed_in(s: &[u8], c: Counts, k: usize, p: u64, settled: u64) -> Allowed
         slots: c.slots as u64,
         slot: k as u64,
         own: mask,
-        holders: u64::MAX,
+        holders: every_slot(),
         temporal: false,
     }
 }
 
 // Slot k's formula, with the place holders that the slots before it have.
-fn slot_held(s: &[u8], c: Counts, k: usize, allowed: Allowed, seen: u64) -> Held
+fn slot_held(s: &[u8], c: Counts, k: usize, allowed: Allowed, seen: SlotSet) -> Held
     requires { ⌜ Placed (now s) (c .boards) (c .slots) (c .nodes) k × Fitted allowed ⌝ }
     ensures { λ r. ⌜ r ≡ pass allowed (slotBytes (now (s .entry)) k) (at 1 0 seen) ⌝ }
 {
@@ -129,24 +134,24 @@ fn slot_held(s: &[u8], c: Counts, k: usize, allowed: Allowed, seen: u64) -> Held
 }
 
 // Slot k's clause, and the place holders seen behind it.
-fn formula_held(s: &[u8], c: Counts, k: usize, p: u64, settled: u64, seen: u64) -> Held
-    requires { ⌜ Placed (now s) (c .boards) (c .slots) (c .nodes) k × (p ≤ 64) × Settled (now s) settled ⌝ }
+fn formula_held(s: &[u8], c: Counts, k: usize, p: u64, holdable: SlotSet, seen: SlotSet) -> Held
+    requires { ⌜ Placed (now s) (c .boards) (c .slots) (c .nodes) k × (p ≤ propositionsMost) × Holdable (now s) holdable ⌝ }
     ensures { λ r. ⌜ r ≡ heldIn (now (s .entry)) p k seen ⌝ }
 {
     if !sampled_for(s, c, k) {
         return Held::Wrong;
     }
-    slot_held(s, c, k, allowed_in(s, c, k, p, settled), seen)
+    slot_held(s, c, k, allowed_in(s, c, k, p, holdable), seen)
 }
 
 // Every slot's formula passes its clause, and no place holder stands twice.
 pub fn formulas_ok(s: &[u8], c: Counts, p: u64) -> bool
-    requires { ⌜ Sized (now s) (c .boards) (c .slots) (c .nodes) × (eachBelow (c .slots) (recordOk (now s)) ≡ true) × (p ≤ 64) ⌝ }
+    requires { ⌜ Sized (now s) (c .boards) (c .slots) (c .nodes) × (eachBelow (c .slots) (recordOk (now s)) ≡ true) × (p ≤ propositionsMost) ⌝ }
     ensures { λ r. ⌜ r ≡ formulasOk (now (s .entry)) p (c .slots) ⌝ }
 {
     let n = c.slots;
-    let holders = settled(s, c);
-    let mut seen: u64 = 0;
+    let holders = holdable(s, c);
+    let mut seen = no_slots();
     let mut k: usize = 0;
     while k < n {
         let held = formula_held(s, c, k, p, holders, seen);

@@ -1,4 +1,4 @@
--- Resolving keeps every number of a proposition or place holder below 64, so that its result has a code. Assumes nothing.
+-- Resolving a formula whose numbers have codes gives one whose numbers have codes. Assumes nothing.
 use mathlib.Core.Path.{_≡_, refl, sym, subst}
 use Rattle.kinds.specs.Kinds.{leafCoded}
 use Rattle.kinds.specs.declared.Leaf.{Leaf}

@@ -12,9 +12,10 @@ use Rattle.ltl.specs.Formula.{Formula, size, encode}
 use Rattle.ltl.proofs.Decoding.{size-some, length-encode}
 use Rattle.nodes.specs.Begins.{Front, Begins}
 use Rattle.resolving.specs.declared.Seen.{Seen}
-use Rattle.resolving.specs.declared.Settled.{Settled}
-use Rattle.resolving.specs.Settles.{settled, Stands, Makes, Rewritten}
-use Rattle.resolving.proofs.Places.{stands-length, stands-bounds}
+use Rattle.joining.specs.declared.Settled.{Settled}
+use Rattle.joining.specs.Results.{StandsAt}
+use Rattle.resolving.specs.Settles.{settled, Makes, Rewritten}
+use Rattle.joining.proofs.Places.{stands-length, stands-bounds}
 
 pub record Result (g : Formula) (p : List ℕ) (at : Settled) : Type 0 where
   pub order : at .start ≤ at .end
@@ -23,7 +24,7 @@ pub record Result (g : Formula) (p : List ℕ) (at : Settled) : Type 0 where
   pub within : at .next ≤ length p
   pub some : 0 < at .end - at .start
 
-module _ {g : Formula} {p rest : List ℕ} {at : Settled} (stood : Stands g p rest at) where
+module _ {g : Formula} {p rest : List ℕ} {at : Settled} (stood : StandsAt g p rest at) where
   result : Result g p at
   result =
       let b = stands-bounds stood in

@@ -22,20 +22,22 @@ use Rattle.ltl.proofs.Decoding.{size-some, length-encode}
 use Rattle.nodes.specs.Begins.{Front, Begins, Ends}
 use Rattle.nodes.proofs.Fronts.{Parts, isZero, front-tail, front-begins, begins-tail, front-own}
 use Rattle.resolving.specs.declared.Seen.{Seen}
-use Rattle.resolving.specs.declared.Settled.{Settled}
-use Rattle.resolving.specs.Settles.{settled, settledLeaf, Stands, Settles, Makes, Pair, Pairs, PairMakes, Sides, Joinable, Joins}
+use Rattle.joining.specs.declared.Settled.{Settled}
+use Rattle.joining.specs.Results.{StandsAt, Settles}
+use Rattle.joining.specs.Joins.{Sides, Sided, Joins}
+use Rattle.resolving.specs.Settles.{settled, settledLeaf, Makes, Pair, Pairs, PairMakes}
 use Rattle.resolving.proofs.Coded.{settled-leaf, settled-coded}
-use Rattle.resolving.proofs.Firsts.{first, first-constant, first-other, first-pending, first-negated, joined-left, joined-skip, negated-pending}
-use Rattle.resolving.proofs.Places.{stands-front, stands-length, stands-bounds, stands-first, stands-rest, stands-behind, stands-top}
-use Rattle.resolving.proofs.Standing.{placed, front-behind, front-part, SingleAt, DoubleAt}
-use Rattle.resolving.proofs.Sides.{settles-as, stands-constant}
+use Rattle.joining.proofs.Firsts.{first, first-constant, first-other, first-pending, first-negated, joined-left, joined-skip, negated-pending}
+use Rattle.joining.proofs.Places.{stands-front, stands-length, stands-bounds, stands-first, stands-rest, stands-behind, stands-top}
+use Rattle.joining.proofs.Standing.{contained, front-behind, front-part, SingleAt, DoubleAt}
+use Rattle.joining.proofs.Sides.{settles-as, stands-constant}
 
 -- ---- moved to the front as it is
 pub kept : (p : List ℕ) (at : ℕ) {f : Formula} {rest : List ℕ} → Front (drop at p) f rest → {p′ : List ℕ} {n : ℕ} → Ends (tail at p) n → p′ ≡ take n (drop at p) ++ drop n p
     → Settles f (at + size f) p′ rest (record { next = at + n; start = 0; end = n })
 kept p at {f} {rest} x {p′} e k =
     let q = e f rest (front-tail at p x) in
-    let l = placed p at x in
+    let l = contained p at x in
     let b : p′ ≡ encode f ++ drop (size f) p = k ∙ ap (λ (i : ℕ). take i (drop at p) ++ drop i p) q ∙ ap (_++ drop (size f) p) (front-own (drop at p) f rest x) in
     rw q (record { reads = refl; stands = stands-front p b (omega arith) (front-behind p at x) (omega arith) })
 
@@ -79,7 +81,7 @@ pub leaf-settles : (seen : Seen) (p : List ℕ) (from : ℕ) {f : Formula} {rest
 leaf-settles seen p from {f} {rest} x {a = a} y {b = b} e =
     let z = leaf-is y in
     let s : size f ≡ 1 = ap size z in
-    let l = placed p from x in
+    let l = contained p from x in
     let r : drop (from + 1) p ≡ rest = ap (λ (n : ℕ). drop (from + n) p) (sym s) ∙ front-behind p from x in
     settles-as (ap (settled seen) z ∙ settled-leaf seen a)
     (stands-front p (set-first p b (omega arith) ∙ ap (_∷ drop 1 p) e) (omega arith) r (omega arith))
@@ -101,22 +103,22 @@ abbrev one-on : Settled → Settled
 one-on a = record { next = 1 + a .next; start = 1 + a .start; end = 1 + a .end }
 
 -- the operand resolved: what was read, where the result stands in the whole, and its first byte
-pub record Operand (seen : Seen) (p q : List ℕ) (from : ℕ) (a : Settled) (f : Formula) (rest : List ℕ) : Type 0 where
+pub record OperandSettled (seen : Seen) (p q : List ℕ) (from : ℕ) (a : Settled) (f : Formula) (rest : List ℕ) : Type 0 where
   pub reads : a .next ≡ from + size f
-  pub stands : Stands (settled seen f) (after-first p q) rest (one-on a)
+  pub stands : StandsAt (settled seen f) (after-first p q) rest (one-on a)
   pub long : length (after-first p q) ≡ 1 + a .next + length rest
   pub some : a .start < a .end
   pub order : a .end ≤ a .next
   pub first-is : getD (after-first p q) (1 + a .start) 0 ≡ first (settled seen f)
 
-pub operand-done : {seen : Seen} {p q : List ℕ} {from : ℕ} {a : Settled} {f : Formula} {rest : List ℕ}
-    → Makes (settled seen) from (tail 1 p) q a → Front (drop (from + 1) p) f rest → Operand seen p q from a f rest
-operand-done {seen} {p} {q} {from} {a} {f} {rest} m x =
+pub operand-settled : {seen : Seen} {p q : List ℕ} {from : ℕ} {a : Settled} {f : Formula} {rest : List ℕ}
+    → Makes (settled seen) from (tail 1 p) q a → Front (drop (from + 1) p) f rest → OperandSettled seen p q from a f rest
+operand-settled {seen} {p} {q} {from} {a} {f} {rest} m x =
     let s = m f rest (first-behind p from x) in
-    let h = length-take-le 1 p (let l = placed p (from + 1) x in omega arith) in
+    let h = length-take-le 1 p (let l = contained p (from + 1) x in omega arith) in
     let e = handed-tail p (take 1 p) (drop 1 p) 1 (sym (take-append-drop 1 p)) h q in
     let y = stands-behind (s .stands) (take 1 p) 1 h in
-    let z = subst (λ (k : List ℕ). Stands (settled seen f) k rest (one-on a)) (sym e) y in
+    let z = subst (λ (k : List ℕ). StandsAt (settled seen f) k rest (one-on a)) (sym e) y in
     let w = stands-bounds (s .stands) in
     record {
       reads = s .reads;
@@ -128,7 +130,7 @@ operand-done {seen} {p} {q} {from} {a} {f} {rest} m x =
     }
 
 -- ---- not
-module _ {seen : Seen} {p q : List ℕ} {from : ℕ} {a : Settled} {f : Formula} {rest : List ℕ} (x : Operand seen p q from a f rest) where
+module _ {seen : Seen} {p q : List ℕ} {from : ℕ} {a : Settled} {f : Formula} {rest : List ℕ} (x : OperandSettled seen p q from a f rest) where
   abbrev now : List ℕ
   now = after-first p q
 
@@ -151,7 +153,7 @@ module _ {seen : Seen} {p q : List ℕ} {from : ℕ} {a : Settled} {f : Formula}
 -- ---- and and or, where the left operand was resolved; the right one stands behind what was read
 pub record LeftSettled (seen : Seen) (p q : List ℕ) (from : ℕ) (a : Settled) (op decide : ℕ) (j : Join) (f g : Formula) (rest : List ℕ) : Type 0 where
   pub pair : Pair p (from + 1) op decide j f g rest
-  pub left : Operand seen p q from a f (encode g ++ rest)
+  pub left : OperandSettled seen p q from a f (encode g ++ rest)
   pub right : Front (drop (1 + a .next) (after-first p q)) g rest
   pub long : length (after-first p q) ≡ 1 + a .next + size g + length rest
   pub some-left : 0 < size f
@@ -161,7 +163,7 @@ pub record LeftSettled (seen : Seen) (p q : List ℕ) (from : ℕ) (a : Settled)
 pub left-settled : {seen : Seen} {p q : List ℕ} {from : ℕ} {a : Settled} {op decide : ℕ} {j : Join} {f g : Formula} {rest : List ℕ}
     → Makes (settled seen) from (tail 1 p) q a → Pair p (from + 1) op decide j f g rest → LeftSettled seen p q from a op decide j f g rest
 left-settled {seen} {p} {q} {from} {a} {f = f} {g = g} {rest = rest} m y =
-    let x : Operand seen p q from a f (encode g ++ rest) = operand-done m (y .left) in
+    let x : OperandSettled seen p q from a f (encode g ++ rest) = operand-settled m (y .left) in
     let k = length-append (encode g) rest in
     let n = length-encode g in
     record {
@@ -233,7 +235,7 @@ module _ {seen : Seen} {p q : List ℕ} {from : ℕ} {a : Settled} {op decide : 
           start-is = v .start-is;
           some = omega arith;
           end-is = v .end-is;
-          stands = subst (λ (t : List ℕ). Stands (settled seen g) t rest c) (sym d) (s .stands);
+          stands = subst (λ (t : List ℕ). StandsAt (settled seen g) t rest c) (sym d) (s .stands);
           coded-l = settled-coded seen f (x .pair .left .coded);
           coded-r = settled-coded seen g (x .pair .right);
           pending = first-pending lf (omega arith);
@@ -242,8 +244,8 @@ module _ {seen : Seen} {p q : List ℕ} {from : ℕ} {a : Settled} {op decide : 
         }
 
     -- both are resolved: they can be joined, and joined they are what was asked for
-    pub pair-joinable : Joinable both-now op decide (1 + a .start) (1 + a .end) c
-    pair-joinable = record { j = j; l = settled seen f; r = settled seen g; rest = rest; sides = both-sides }
+    pub pair-sided : Sided both-now op decide (1 + a .start) (1 + a .end) c
+    pair-sided = record { j = j; l = settled seen f; r = settled seen g; rest = rest; sides = both-sides }
 
     pub pair-joined : {p′ : List ℕ} {at : Settled} → Joins op decide (1 + a .start) (1 + a .end) c both-now p′ at
         → Settles (joined j (settled seen f) (settled seen g)) (from + 1 + size f + size g) p′ rest at

@@ -1,8 +1,7 @@
--- Resolving formula bytes in place: what is seen, and where the result stands. Assumes nothing: these are definitions.
+-- Resolving formula bytes in place: what is seen, and what is made of a formula. Assumes nothing: these are definitions.
 use mathlib.Core.Path.{_≡_}
-use Prim.Native.Nat.{ℕ, _+_, _<_}
-use mathlib.Core.Bool.{Bool, false}
-use mathlib.Core.List.{List, [], _++_}
+use Prim.Native.Nat.{ℕ, _+_}
+use mathlib.Core.List.{List, _++_}
 use lib.ListN.{length, drop}
 use Rattle.lists.specs.Tests.{pick, bit}
 use Rattle.lists.specs.Runs.{padded}
@@ -13,14 +12,16 @@ use Rattle.kinds.specs.Kinds.{leafCode, joinCode}
 use Rattle.answers.specs.declared.Verdict.{Verdict}
 use Rattle.answers.specs.declared.Verdict.the-variants.{False, True, Pending}
 use Rattle.ltl.specs.Formula.{Formula, size, encode, Coded}
-use Rattle.ltl.specs.Progression.{isConstant, negated, deciding, member, joined, resolved, filledBy, filled}
+use Rattle.ltl.specs.Progression.{negated, deciding, joined, resolved, filledBy, filled}
 use Rattle.nodes.specs.Begins.{Front}
+use Rattle.slot_sets.specs.SlotSets.{hasSlot}
+use Rattle.joining.specs.declared.Settled.{Settled}
+use Rattle.joining.specs.Results.{Settles}
 use Rattle.resolving.specs.declared.Seen.{Seen}
-use Rattle.resolving.specs.declared.Settled.{Settled}
 
--- the verdict of slot k, where the slots that are true and those that are false are the bits of two masks
+-- the verdict of slot k, by the set of the slots that are true and the set of those that are false
 abbrev pub heldBy : Seen → ℕ → Verdict
-heldBy seen k = pick (bit (seen .yes) k) True (pick (bit (seen .no) k) False Pending)
+heldBy seen k = pick (hasSlot (seen .yes) k) True (pick (hasSlot (seen .no) k) False Pending)
 
 -- constant held slots replaced by their values, then resolved under the event
 abbrev pub settled : Seen → Formula → Formula
@@ -31,20 +32,6 @@ abbrev pub settledLeaf : Seen → Leaf → Leaf
 settledLeaf seen (Const v) = Const v
 settledLeaf seen (Prop i) = Const (bit (seen .event) i)
 settledLeaf seen (Hold k) = filledBy (heldBy seen k) k
-
--- ---- where a result stands: g from `start` to `end`, and behind `next` the bytes that were not read
-pub record Stands (g : Formula) (p rest : List ℕ) (at : Settled) : Type 0 where
-  pub low : List ℕ
-  pub high : List ℕ
-  pub bytes : p ≡ low ++ (encode g ++ (high ++ rest))
-  pub start-is : at .start ≡ length low
-  pub end-is : at .end ≡ at .start + size g
-  pub next-is : at .next ≡ at .end + length high
-
--- the formula that stood from `from` on was read, and g stands in its place or before it
-pub record Settles (g : Formula) (read : ℕ) (p rest : List ℕ) (at : Settled) : Type 0 where
-  pub reads : at .next ≡ read
-  pub stands : Stands g p rest at
 
 -- each formula that stands from a place on is made into another one
 abbrev pub Makes : (Formula → Formula) → ℕ → List ℕ → List ℕ → Settled → Type 0
@@ -73,47 +60,6 @@ abbrev pub PairMakes : Seen → ℕ → ℕ → ℕ → List ℕ → List ℕ �
 PairMakes seen from op decide p p′ at =
     (j : Join) (f g : Formula) (rest : List ℕ) → Pair p (from + 1) op decide j f g rest
     → Settles (joined j (settled seen f) (settled seen g)) (from + 1 + size f + size g) p′ rest at
-
--- ---- two resolved operands: l from `start` to `end`, behind a byte at least, and r where `right` says behind `end`
-pub record Sides (p : List ℕ) (op decide start end : ℕ) (right : Settled) (j : Join) (l r : Formula) (rest : List ℕ) : Type 0 where
-  pub low : List ℕ
-  pub bytes : p ≡ low ++ (encode l ++ drop end p)
-  pub start-is : start ≡ length low
-  pub some : 0 < start
-  pub end-is : end ≡ start + size l
-  pub stands : Stands r (drop end p) rest right
-  pub coded-l : Coded l
-  pub coded-r : Coded r
-  pub pending : (v : Bool) → isConstant v l ≡ false
-  pub op-is : op ≡ joinCode j
-  pub decide-is : decide ≡ leafCode (Const (deciding j))
-
-pub record Joinable (p : List ℕ) (op decide start end : ℕ) (right : Settled) : Type 0 where
-  pub j : Join
-  pub l : Formula
-  pub r : Formula
-  pub rest : List ℕ
-  pub sides : Sides p op decide start end right j l r rest
-
-abbrev pub Joins : ℕ → ℕ → ℕ → ℕ → Settled → List ℕ → List ℕ → Settled → Type 0
-Joins op decide start end right p p′ at =
-    (j : Join) (l r : Formula) (rest : List ℕ) → Sides p op decide start end right j l r rest
-    → Settles (joined j l r) (end + right .next) p′ rest at
-
--- ---- the member test over bytes: l and r are the bytes of two formulas, and op is the code of a join
-pub record Compared (l r : List ℕ) (op : ℕ) (j : Join) (f g : Formula) : Type 0 where
-  pub left : Front l f []
-  pub right : Front r g []
-  pub op-is : op ≡ joinCode j
-
-pub record Comparable (l r : List ℕ) (op : ℕ) : Type 0 where
-  pub j : Join
-  pub f : Formula
-  pub g : Formula
-  pub compared : Compared l r op j f g
-
-abbrev pub IsMember : List ℕ → List ℕ → ℕ → Bool → Type 0
-IsMember l r op x = (j : Join) (f g : Formula) → Compared l r op j f g → x ≡ member j f g
 
 -- ---- a formula's bytes rewritten as what it becomes, zero past the result
 pub record Rewritten (seen : Seen) (p p′ : List ℕ) (n : ℕ) : Type 0 where

@@ -4,34 +4,31 @@
 ghost use mathlib.Core.Path.{_≡_};
 ghost use Prim.Native.Nat.{_+_, _<_};
 ghost use lib.ListN.{drop};
+ghost use Rattle.limits.specs.Limits.{propositionsMost, holderCodes};
 ghost use Rattle.lists.specs.Tests as tests;
 ghost use Rattle.kinds.specs.declared.Leaf.the-variants.{Const, Hold};
 ghost use Rattle.kinds.specs.Kinds.{leafCode, leafCoded};
 ghost use Rattle.nodes.specs.Begins.{Begins};
-ghost use Rattle.resolving.specs.Settles.{settled, settledLeaf, Makes, NotMakes, Pairs, PairMakes, Joinable, Joins, Comparable, IsMember, Rewritten};
+ghost use Rattle.resolving.specs.Settles.{settled, settledLeaf, Makes, NotMakes, Pairs, PairMakes, Rewritten};
+use joining::Settled;
 use kinds::Binary;
 use kinds::Join;
 use kinds::Kind;
 use kinds::Leaf;
 use kinds::Unary;
+use slot_sets::SlotSet;
+use slot_sets::has_slot;
 
 // What a board sees at a tick: its event, and which of the slots that it holds have answered true, and false.
 pub struct Seen {
     pub event: u64,
-    pub yes: u64,
-    pub no: u64,
+    pub yes: SlotSet,
+    pub no: SlotSet,
 }
 
-// Where a result stands, from `start` to `end`, and where the bytes begin that were not read.
-pub struct Settled {
-    pub next: usize,
-    pub start: usize,
-    pub end: usize,
-}
-
-// Bit i of n.
+// Whether proposition i is true in the event n.
 fn bit(n: u64, i: u8) -> bool
-    requires { ⌜ i < 64 ⌝ }
+    requires { ⌜ i < propositionsMost ⌝ }
     ensures { λ r. ⌜ r ≡ tests.bit n i ⌝ }
 {
     (n >> i) % 2 == 1
@@ -58,37 +55,16 @@ fn leaf_under(a: Leaf, seen: Seen) -> u8
 
 // The byte that the place holder of slot k becomes.
 fn held_under(k: u8, seen: Seen) -> u8
-    requires { ⌜ k < 64 ⌝ }
+    requires { ⌜ k < holderCodes ⌝ }
     ensures { λ r. ⌜ r ≡ leafCode (settledLeaf seen (Hold k)) ⌝ }
 {
-    if bit(seen.yes, k) {
+    if has_slot(seen.yes, k) {
         return Kind::TRUE;
     }
-    if bit(seen.no, k) {
+    if has_slot(seen.no, k) {
         return Kind::FALSE;
     }
     Kind::HOLD + k
-}
-
-// Whether the formula l is a member of the formula r by the join op: r itself and, where r is joined so, its left operand and
-// the members of its right. No formula's bytes begin another's, so that a formula is found by comparing what bytes begin with.
-fn is_member(l: &[u8], r: &[u8], op: u8) -> bool
-    requires { ⌜ Comparable (now l) (now r) op ⌝ }
-    ensures { λ x. ⌜ IsMember (now (l .entry)) (now (r .entry)) op x ⌝ }
-{
-    let mut at: usize = 0;
-    while r[at] == op {
-        // A formula that is not longer than l has no other member that l could be.
-        if r.len() - at <= l.len() {
-            return buffers::begins(l, &r[at..]);
-        }
-        let left = at + 1;
-        if buffers::begins(l, &r[left..]) {
-            return true;
-        }
-        at = left + nodes::operand_end(&r[left..]);
-    }
-    buffers::begins(l, &r[at..])
 }
 
 // Moves the formula from `at` on to the front.
@@ -188,49 +164,7 @@ fn resolve_pair(p: &mut [u8], from: usize, op: u8, decide: u8, seen: Seen) -> Se
         return resolve(p, next, seen);
     }
     let c = resolve(&mut p[end..], next - end, seen);
-    join(p, op, decide, start, end, c)
-}
-
-// Joins two resolved operands, the left one from `start` to `end` and no constant, the right one where `right` says behind `end`.
-fn join(p: &mut [u8], op: u8, decide: u8, start: usize, end: usize, right: Settled) -> Settled
-    requires { ⌜ Joinable (now p) op decide start end right ⌝ }
-    ensures { λ r. ⌜ Joins op decide start end right (now (p .entry)) (now (p .exit)) r ⌝ }
-{
-    let from = end + right.start;
-    let to = end + right.end;
-    let next = end + right.next;
-    let first = p[from];
-    if first == decide {
-        p[0] = decide;
-        return Settled {
-            next: next,
-            start: 0,
-            end: 1,
-        };
-    }
-    if first < 2 {
-        return Settled {
-            next: next,
-            start: start,
-            end: end,
-        };
-    }
-    if is_member(&p[start..end], &p[from..to], op) {
-        return Settled {
-            next: next,
-            start: from,
-            end: to,
-        };
-    }
-    let n = right.end - right.start;
-    buffers::slide(&mut p[end..to], right.start, n);
-    let top = start - 1;
-    p[top] = op;
-    Settled {
-        next: next,
-        start: top,
-        end: end + n,
-    }
+    joining::join(p, op, decide, start, end, c)
 }
 
 // Resolves the formula that p begins with, moves the result to the front, clears the rest and answers the result's length.

@@ -5,13 +5,12 @@ use mathlib.Core.Path.{_≡_, refl, sym, ap, _∙_}
 use mathlib.Core.Bool.{Bool, true, false, not}
 use mathlib.Core.List.{List, [], _∷_, append-nil}
 use mathlib.Core.Option.{Option, none, some}
-use Prim.Native.Nat.{ℕ, _+_, _-_, _^_, _<_, _≤_}
+use Prim.Native.Nat.{ℕ, _+_, _-_, _<_, _≤_}
 use native.Mathlib.Numerals.{add-one}
 use native.Mathlib.Omega.{arith}
 use lib.ListN.{length, drop, getD, drop-of-length-le}
 use lib.Seq.{drop-cons}
 use lib.Dec.{ltb}
-use lib.Bits.{bitOr}
 use borrow.Author.Tests.{ltb-true, ltb-false, lt-ltb, eq-eqb}
 use Rattle.limits.specs.Limits.{propositionsMost, holderCodes}
 use Rattle.lists.specs.Tests.{pick, both, bit}
@@ -28,52 +27,54 @@ use Rattle.ltl.proofs.Decoding.{decoded-is}
 use Rattle.owing.specs.declared.Owed.the-variants.{Operands, Broken}
 use Rattle.owing.specs.Scan.{owedAfter, scan}
 use Rattle.owing.proofs.Scans.{scan-is, owed-bound, turn-on, turn-end}
+use Rattle.slot_sets.specs.declared.SlotSet.{SlotSet}
+use Rattle.slot_sets.specs.SlotSets.{hasSlot, withSlot}
 use Rattle.scanning.specs.declared.Allowed.{Allowed}
 use Rattle.scanning.specs.declared.Pass.{Pass}
 use Rattle.scanning.specs.declared.Passed.{Passed}
 use Rattle.scanning.specs.declared.Passed.the-variants.{On, Off}
 use Rattle.scanning.specs.declared.Held.{Held}
 use Rattle.scanning.specs.declared.Held.the-variants.{Slots, Wrong}
-use Rattle.scanning.specs.OnePass.{at, holdable, outsideAfter, inward, insideAfter, passAfter, goOn, ended, pass}
+use Rattle.scanning.specs.OnePass.{at, holderOk, outsideAfter, inward, insideAfter, passAfter, goOn, ended, pass}
 use Rattle.scanning.proofs.Passes.{checked, thereafter, thereafter-slots, pass-ends, pass-outside}
 
 -- ---- a pass that succeeds is one over a formula of the language
 off-on : (y : Pass) → _≡_ {A = Passed} Off (On y) → ⊥
 off-on y e = let z : _≡_ {A = ℕ} 0 1 = cc in omega arith
 
-on-owed : (n m seen k : ℕ) (y : Pass) → _≡_ {A = Passed} (On (at n m seen)) (On y) → k ≡ n + m → Operands k ≡ Operands (y .outer + y .inner)
+on-owed : (n m : ℕ) (seen : SlotSet) (k : ℕ) (y : Pass) → _≡_ {A = Passed} (On (at n m seen)) (On y) → k ≡ n + m → Operands k ≡ Operands (y .outer + y .inner)
 on-owed n m seen k y e q = let f : at n m seen ≡ y = cc in ap Operands (q ∙ ap (λ (x : Pass). x .outer + x .inner) f)
 
-on-owed-if : (b : Bool) (n m seen k : ℕ) (y : Pass) → pick b (On (at n m seen)) Off ≡ On y → k ≡ n + m → Operands k ≡ Operands (y .outer + y .inner)
+on-owed-if : (b : Bool) (n m : ℕ) (seen : SlotSet) (k : ℕ) (y : Pass) → pick b (On (at n m seen)) Off ≡ On y → k ≡ n + m → Operands k ≡ Operands (y .outer + y .inner)
 unfolding pick
 on-owed-if true n m seen k y e q = on-owed n m seen k y e q
 on-owed-if false n m seen k y e q = absurd (off-on y e)
 
-inward-pick : (b : Bool) (n m seen : ℕ) → inward (pick b (Operands m) Broken) n seen ≡ pick b (On (at n m seen)) Off
+inward-pick : (b : Bool) (n m : ℕ) (seen : SlotSet) → inward (pick b (Operands m) Broken) n seen ≡ pick b (On (at n m seen)) Off
 unfolding pick
 inward-pick true n m seen = refl
 inward-pick false n m seen = refl
 
-inside-scans : (p b : ℕ) {k : Kind} → CodeOf b k → (m n seen : ℕ) (y : Pass) → insideAfter p k m n seen ≡ On y
+inside-scans : (p b : ℕ) {k : Kind} → CodeOf b k → (m n : ℕ) (seen : SlotSet) (y : Pass) → insideAfter p k m n seen ≡ On y
     → owedAfter propositionsMost holderCodes k (n + m) ≡ Operands (y .outer + y .inner)
 unfolding pick
 inside-scans p b (isZero {a = Const v} e c) m n seen y h = on-owed n m seen (n + m) y h refl
 inside-scans p b (isZero {a = Prop i} e c) m n seen y h =
-    rw (lt-ltb i 64 c) (on-owed-if (ltb i p) n m seen (n + m) y (sym (inward-pick (ltb i p) n m seen) ∙ h) refl)
+    rw (lt-ltb i propositionsMost c) (on-owed-if (ltb i p) n m seen (n + m) y (sym (inward-pick (ltb i p) n m seen) ∙ h) refl)
 inside-scans p b (isZero {a = Hold k} e c) m n seen y h =
-    rw (lt-ltb k 64 c) (on-owed-if (ltb k 0) n m seen (n + m) y (sym (inward-pick (ltb k 0) n m seen) ∙ h) refl)
+    rw (lt-ltb k holderCodes c) (on-owed-if (ltb k 0) n m seen (n + m) y (sym (inward-pick (ltb k 0) n m seen) ∙ h) refl)
 inside-scans p b (isOne {o = o} e) m n seen y h = on-owed n (m + 1) seen (n + m + 1) y h (omega arith)
 inside-scans p b (isTwo {o = o} e) m n seen y h = on-owed n (m + 2) seen (n + m + 2) y h (omega arith)
 inside-scans p b isNone m n seen y h = absurd (off-on y h)
 
-outside-scans : (a : Allowed) (b : ℕ) {k : Kind} → CodeOf b k → (n seen : ℕ) (y : Pass) → outsideAfter a k n seen ≡ On y
+outside-scans : (a : Allowed) (b : ℕ) {k : Kind} → CodeOf b k → (n : ℕ) (seen : SlotSet) (y : Pass) → outsideAfter a k n seen ≡ On y
     → owedAfter propositionsMost holderCodes k n ≡ Operands (y .outer + y .inner)
 unfolding pick
 outside-scans a b (isZero {a = Const v} e c) n seen y h = on-owed n 0 seen n y h (omega arith)
 outside-scans a b (isZero {a = Prop i} e c) n seen y h =
-    rw (lt-ltb i 64 c) (on-owed-if (both (ltb i (a .propositions)) (bit (a .own) i)) n 0 seen n y h (omega arith))
+    rw (lt-ltb i propositionsMost c) (on-owed-if (both (ltb i (a .propositions)) (bit (a .own) i)) n 0 seen n y h (omega arith))
 outside-scans a b (isZero {a = Hold m} e c) n seen y h =
-    rw (lt-ltb m 64 c) (on-owed-if (both (holdable a m) (not (bit seen m))) n 0 (bitOr seen (2 ^ m)) n y h (omega arith))
+    rw (lt-ltb m holderCodes c) (on-owed-if (both (holderOk a m) (not (hasSlot seen m))) n 0 (withSlot seen m) n y h (omega arith))
 outside-scans a b (isOne {o = Not} e) n seen y h = on-owed (n + 1) 0 seen (n + 1) y h (omega arith)
 outside-scans a b (isOne {o = Next} e) n seen y h = on-owed n 1 seen (n + 1) y h refl
 outside-scans a b (isOne {o = Ever j} e) n seen y h = on-owed-if (a .temporal) n 1 seen (n + 1) y h refl
@@ -108,10 +109,10 @@ owing a b x y h = go (ltb 0 (x .inner)) refl (ltb (x .outer) 1) refl h
 pub owing-few : (a : Allowed) (b : ℕ) (x y : Pass) → passAfter a (kindOf b) x ≡ On y → y .outer + y .inner ≤ x .outer + x .inner + 1
 owing-few a b x y h = let w = owing a b x y h in let s = w .some in let f = owed-bound propositionsMost holderCodes (kindOf b) (x .outer + x .inner - 1) (y .outer + y .inner) (w .owed) in omega arith
 
-pub wrong-slots : (r : ℕ) → _≡_ {A = Held} Wrong (Slots r) → ⊥
+pub wrong-slots : (r : SlotSet) → _≡_ {A = Held} Wrong (Slots r) → ⊥
 wrong-slots r e = let z : _≡_ {A = ℕ} 0 1 = cc in omega arith
 
-ended-owes : (x : Pass) (r : ℕ) → ended x ≡ Slots r → x .outer + x .inner ≡ 0
+ended-owes : (x : Pass) (r : SlotSet) → ended x ≡ Slots r → x .outer + x .inner ≡ 0
 unfolding ended pick
 ended-owes x r h = go (ltb 0 (x .outer)) refl (ltb 0 (x .inner)) refl h
   where
@@ -120,7 +121,7 @@ ended-owes x r h = go (ltb 0 (x .outer)) refl (ltb 0 (x .inner)) refl h
     go false p true q h = absurd (wrong-slots r h)
     go false p false q h = let y = ltb-false 0 (x .outer) p in let z = ltb-false 0 (x .inner) q in omega arith
 
-pass-scans : (a : Allowed) (l : List ℕ) (x : Pass) (r : ℕ) → pass a l x ≡ Slots r → scan propositionsMost holderCodes l (x .outer + x .inner) ≡ true
+pass-scans : (a : Allowed) (l : List ℕ) (x : Pass) (r : SlotSet) → pass a l x ≡ Slots r → scan propositionsMost holderCodes l (x .outer + x .inner) ≡ true
 unfolding pass
 pass-scans a [] x r h = turn-end propositionsMost holderCodes [] 0 (x .outer + x .inner) (omega arith) ∙ eq-eqb (x .outer + x .inner) 0 (ended-owes x r h)
 pass-scans a (b ∷ l) x r h = go (passAfter a (kindOf b) x) refl h (λ y. pass-scans a l y r)
@@ -134,11 +135,11 @@ pass-scans a (b ∷ l) x r h = go (passAfter a (kindOf b) x) refl h (λ y. pass-
     go Off e h ih = absurd (wrong-slots r h)
 
 -- ---- the pass is the formula's clause
-abbrev pub checkedText : Allowed → Option Formula → ℕ → Held
+abbrev pub checkedText : Allowed → Option Formula → SlotSet → Held
 checkedText a none seen = Wrong
 checkedText a (some f) seen = checked a f seen
 
-pub pass-is : (a : Allowed) (l : List ℕ) (seen : ℕ) → pass a l (at 1 0 seen) ≡ checkedText a (decoded l) seen
+pub pass-is : (a : Allowed) (l : List ℕ) (seen : SlotSet) → pass a l (at 1 0 seen) ≡ checkedText a (decoded l) seen
 unfolding isFormula
 pass-is a l seen = go (decoded l) refl
   where
@@ -154,7 +155,7 @@ pass-is a l seen = go (decoded l) refl
         let t = decoded-is l f q in
         ap (λ (k : List ℕ). pass a k (at 1 0 seen)) (t .1 ∙ sym (append-nil (encode f)))
         ∙ pass-outside a f 0 seen [] (t .0)
-        ∙ ap (λ (h : ℕ → Held). thereafter (checked a f seen) h) (λ i s. pass-ends a s i)
+        ∙ ap (λ (h : SlotSet → Held). thereafter (checked a f seen) h) (λ i s. pass-ends a s i)
         ∙ thereafter-slots (checked a f seen)
 
 -- ---- one turn of the loop, over plain lists

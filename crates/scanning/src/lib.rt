@@ -9,6 +9,9 @@ use kinds::Kind;
 use kinds::Leaf;
 use kinds::Unary;
 use owing::Owed;
+use slot_sets::SlotSet;
+use slot_sets::has_slot;
+use slot_sets::with_slot;
 
 // What may stand in a slot's formula. Propositions are below `propositions`, and outside next and the temporal operators in `own`;
 // place holders are above `slot`, below `slots` and in `holders`. Temporal operators stand outside next where `temporal` says so.
@@ -17,7 +20,7 @@ pub struct Allowed {
     pub slots: u64,
     pub slot: u64,
     pub own: u64,
-    pub holders: u64,
+    pub holders: SlotSet,
     pub temporal: bool,
 }
 
@@ -25,7 +28,7 @@ pub struct Allowed {
 pub struct Pass {
     pub outer: usize,
     pub inner: usize,
-    pub seen: u64,
+    pub seen: SlotSet,
 }
 
 // Where the pass stands behind a node, or that the node may not stand there.
@@ -36,12 +39,12 @@ pub enum Passed {
 
 // The slots whose place holders were seen up to a formula's end, or that the formula fails.
 pub enum Held {
-    Slots(u64),
+    Slots(SlotSet),
     Wrong,
 }
 
 // Outside, behind a node without operands.
-fn leaf_outside(a: Leaf, allowed: Allowed, others: usize, seen: u64) -> Passed
+fn leaf_outside(a: Leaf, allowed: Allowed, others: usize, seen: SlotSet) -> Passed
     requires { ⌜ Fitted allowed ⌝ }
     ensures { λ r. ⌜ r ≡ leafOutside allowed a others seen ⌝ }
 {
@@ -71,23 +74,23 @@ fn leaf_outside(a: Leaf, allowed: Allowed, others: usize, seen: u64) -> Passed
             if m as u64 <= allowed.slot {
                 return Passed::Off;
             }
-            if (allowed.holders >> m) % 2 != 1 {
+            if !has_slot(allowed.holders, m) {
                 return Passed::Off;
             }
-            if (seen >> m) % 2 == 1 {
+            if has_slot(seen, m) {
                 return Passed::Off;
             }
             Passed::On(Pass {
                 outer: others,
                 inner: 0,
-                seen: seen | (1u64 << m),
+                seen: with_slot(seen, m),
             })
         }
     }
 }
 
 // Outside, behind a node with one operand.
-fn unary_outside(o: Unary, temporal: bool, others: usize, seen: u64) -> Passed
+fn unary_outside(o: Unary, temporal: bool, others: usize, seen: SlotSet) -> Passed
     requires { ⌜ others + 2 < 2 ^ 64 ⌝ }
     ensures { λ r. ⌜ r ≡ unaryOutside temporal o others seen ⌝ }
 {
@@ -112,7 +115,7 @@ fn unary_outside(o: Unary, temporal: bool, others: usize, seen: u64) -> Passed
 }
 
 // Outside, behind a node with two operands.
-fn binary_outside(o: Binary, temporal: bool, others: usize, seen: u64) -> Passed
+fn binary_outside(o: Binary, temporal: bool, others: usize, seen: SlotSet) -> Passed
     requires { ⌜ others + 2 < 2 ^ 64 ⌝ }
     ensures { λ r. ⌜ r ≡ binaryOutside temporal o others seen ⌝ }
 {
@@ -135,7 +138,7 @@ fn binary_outside(o: Binary, temporal: bool, others: usize, seen: u64) -> Passed
 }
 
 // Outside, with `others` operands owed beside this node.
-fn outside(k: Kind, allowed: Allowed, others: usize, seen: u64) -> Passed
+fn outside(k: Kind, allowed: Allowed, others: usize, seen: SlotSet) -> Passed
     requires { ⌜ Fitted allowed × (others + 2 < 2 ^ 64) ⌝ }
     ensures { λ r. ⌜ r ≡ outsideAfter allowed k others seen ⌝ }
 {
@@ -148,7 +151,7 @@ fn outside(k: Kind, allowed: Allowed, others: usize, seen: u64) -> Passed
 }
 
 // Inside, a rule's nodes may stand: no place holder.
-fn inside(k: Kind, p: u64, others: usize, outer: usize, seen: u64) -> Passed
+fn inside(k: Kind, p: u64, others: usize, outer: usize, seen: SlotSet) -> Passed
     requires { ⌜ others + 2 < 2 ^ 64 ⌝ }
     ensures { λ r. ⌜ r ≡ insideAfter p k others outer seen ⌝ }
 {
@@ -184,7 +187,7 @@ fn after(b: u8, allowed: Allowed, at: Pass) -> Passed
 }
 
 // The pass over a slot's bytes, with the place holders that the slots before it have.
-pub fn pass_over(s: &[u8], allowed: Allowed, seen: u64) -> Held
+pub fn pass_over(s: &[u8], allowed: Allowed, seen: SlotSet) -> Held
     requires { ⌜ Fitted allowed ⌝ }
     ensures { λ r. ⌜ r ≡ pass allowed (now (s .entry)) (record { outer = 1; inner = 0; seen = seen }) ⌝ }
 {
@@ -208,5 +211,6 @@ pub fn pass_over(s: &[u8], allowed: Allowed, seen: u64) -> Held
     if 0 < at.inner {
         return Held::Wrong;
     }
-    Held::Slots(at.seen)
+    let held = at.seen;
+    Held::Slots(held)
 }

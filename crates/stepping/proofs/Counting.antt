@@ -15,7 +15,7 @@ use Rattle.checking.proofs.Records as records
 use Rattle.checked.specs.Holds.{Holds}
 use Rattle.checked.proofs.Passing.{SlotPassing}
 use Rattle.checked.proofs.Lying as there
-use Rattle.central.specs.Central.{verdictByte}
+use Rattle.central.specs.Progressing.{verdictByte}
 use Rattle.central.proofs.Progresses.{verdict-first, first-of}
 use Rattle.stepping.specs.Seeing.{Counted, answerIn}
 

@@ -4,13 +4,10 @@ use mathlib.Core.Path.{_≡_, refl, sym, ap, ap₂, _∙_, subst}
 use mathlib.Core.Bool.{Bool, true, false}
 use mathlib.Core.List.{List, [], _∷_, _++_}
 use mathlib.Core.Logic.{_⊎_, inl, inr}
-use Prim.Native.Nat.{ℕ, _^_}
+use Prim.Native.Nat.{ℕ}
 use native.Mathlib.Decide.{ℕ-discrete}
 use native.Mathlib.Omega.{arith}
-use lib.Bits.{bitOr}
-use borrow.Author.Tests.{eq-eqb, ne-eqb}
-use Rattle.lists.specs.Tests.{pick, either, bit}
-use Rattle.lists.proofs.Tests.{either-right, no-bits}
+use Rattle.lists.specs.Tests.{pick}
 use Rattle.kinds.specs.declared.Leaf.the-variants.{Const, Prop, Hold}
 use Rattle.kinds.specs.declared.Unary.the-variants.{Not, Next, Ever}
 use Rattle.kinds.specs.declared.Binary.the-variants.{Joined, Until}
@@ -25,23 +22,17 @@ use Rattle.state.specs.Fields.{sampleIn, boardOfIn}
 use Rattle.state.specs.Clauses.{heldBy}
 use Rattle.state.specs.Bytes.{formulaAt}
 use Rattle.state.specs.Calls.{steppedTo}
-use Rattle.checking.proofs.Noting.{bit-noted, either-false}
+use Rattle.slot_sets.specs.SlotSets.{hasSlot}
+use Rattle.slot_sets.proofs.SlotSets.{none-has, with-same, with-other}
 use Rattle.resolving.specs.declared.Seen.{Seen}
 use Rattle.resolving.specs.Settles.{settled}
 use Rattle.resolving.specs.Settles as settles
 use Rattle.stepping.specs.Seeing.{answerIn, told, toldEach, sampleAlone, seenBy}
 
--- ---- a bit noted in a mask
-noted-same : (y m : ℕ) → bit (bitOr y (2 ^ m)) m ≡ true
-noted-same y m = bit-noted y m m ∙ ap (either (bit y m)) (eq-eqb m m refl) ∙ either-right (bit y m)
-
-noted-other : (y n m : ℕ) → (n ≡ m → ⊥) → bit (bitOr y (2 ^ n)) m ≡ bit y m
-noted-other y n m d = bit-noted y n m ∙ ap (either (bit y m)) (ne-eqb n m d) ∙ either-false (bit y m)
-
 -- ---- one slot told
 told-other : (x : Seen) (n m : ℕ) (v : Verdict) → (n ≡ m → ⊥) → settles.heldBy (told x n v) m ≡ settles.heldBy x m
-told-other x n m True d = rw (noted-other (x .yes) n m d)
-told-other x n m False d = rw (noted-other (x .no) n m d)
+told-other x n m True d = rw (with-other (x .yes) n m d)
+told-other x n m False d = rw (with-other (x .no) n m d)
 told-other x n m Pending d = refl
 
 -- what is seen to be pending or false is not among the true
@@ -53,8 +44,8 @@ not-true false other e = refl
 
 told-same : (x : Seen) (m : ℕ) (v : Verdict) → (settles.heldBy x m ≡ Pending) ⊎ (settles.heldBy x m ≡ v) → settles.heldBy (told x m v) m ≡ v
 unfolding pick
-told-same x m True h = rw (noted-same (x .yes) m)
-told-same x m False h = rw (not-true (bit (x .yes) m) (pick (bit (x .no) m) False Pending) h, noted-same (x .no) m)
+told-same x m True h = rw (with-same (x .yes) m)
+told-same x m False h = rw (not-true (hasSlot (x .yes) m) (pick (hasSlot (x .no) m) False Pending) h, with-same (x .no) m)
 told-same x m Pending (inl e) = e
 told-same x m Pending (inr e) = e
 
@@ -126,7 +117,7 @@ told-each answer (m ∷ ms) x h =
 
 alone-honest : (answer : ℕ → Verdict) (event : ℕ) → Honest answer (sampleAlone event)
 unfolding pick
-alone-honest answer event m = inl (rw (no-bits m))
+alone-honest answer event m = inl (rw (none-has m))
 
 -- ---- what the slot becomes
 pub seen-settles : (s : List ℕ) (k : ℕ) → settled (seenBy s k) (formulaAt s k) ≡ steppedTo s k

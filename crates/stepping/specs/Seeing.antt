@@ -3,9 +3,8 @@
 use mathlib.Core.Path.{_≡_}
 use mathlib.Core.Bool.{true}
 use mathlib.Core.List.{List, [], _∷_}
-use Prim.Native.Nat.{ℕ, _-_, _^_}
+use Prim.Native.Nat.{ℕ, _-_}
 use lib.Dec.{ltb, eqb}
-use lib.Bits.{bitOr}
 use Rattle.lists.specs.Tests.{pick}
 use Rattle.answers.specs.declared.Verdict.{Verdict}
 use Rattle.answers.specs.declared.Verdict.the-variants.{False, True, Pending}
@@ -14,6 +13,7 @@ use Rattle.state.specs.Fields.{sampleIn, boardOfIn, steppedIn}
 use Rattle.state.specs.Clauses.{heldBy, stateOk}
 use Rattle.state.specs.Bytes.{formulaAt}
 use Rattle.state.specs.Calls.{readyIn}
+use Rattle.slot_sets.specs.SlotSets.{noSlots, withSlot}
 use Rattle.checking.specs.Header.{Header}
 use Rattle.resolving.specs.declared.Seen.{Seen}
 use Rattle.stepping.specs.declared.seeing.Sight.{Sight}
@@ -30,8 +30,8 @@ answerIn s m = verdictOf (formulaAt s m)
 
 -- what is seen once slot m is seen to be so
 abbrev pub told : Seen → ℕ → Verdict → Seen
-told x m True = record { event = x .event; yes = bitOr (x .yes) (2 ^ m); no = x .no }
-told x m False = record { event = x .event; yes = x .yes; no = bitOr (x .no) (2 ^ m) }
+told x m True = record { event = x .event; yes = withSlot (x .yes) m; no = x .no }
+told x m False = record { event = x .event; yes = x .yes; no = withSlot (x .no) m }
 told x m Pending = x
 
 -- the same of some slots, one after the other
@@ -41,7 +41,7 @@ toldEach answer (m ∷ ms) x = toldEach answer ms (told x m (answer m))
 
 -- a sample, with nothing seen of any slot yet
 abbrev pub sampleAlone : ℕ → Seen
-sampleAlone event = record { event = event; yes = 0; no = 0 }
+sampleAlone event = record { event = event; yes = noSlots; no = noSlots }
 
 -- what slot k sees: its board's sample and each slot that it holds
 abbrev pub seenBy : List ℕ → ℕ → Seen

@@ -1,13 +1,16 @@
 // What a slot sees when it is stepped, found in one pass over its bytes: whether it is ready, and what the slots are that it holds.
 ghost use mathlib.Core.Path.{_≡_};
 ghost use Prim.Native.Nat.{_+_, _<_};
+ghost use Rattle.limits.specs.Limits.{holderCodes};
 ghost use Rattle.checked.specs.Holds.{Holds};
-ghost use Rattle.stepping.specs.Seeing.{Counted, answerIn, told, sightAfter, sightOver, sightIn};
+ghost use Rattle.stepping.specs.Seeing.{Counted, answerIn, told, sampleAlone, sightAfter, sightOver, sightIn};
 use answers::Verdict;
 use checking::Counts;
 use checking::Span;
 use kinds::Kind;
 use resolving::Seen;
+use slot_sets::no_slots;
+use slot_sets::with_slot;
 
 // A slot that is not ready waits; another sees its board's sample and what the slots are that it holds.
 pub enum Sight {
@@ -26,19 +29,21 @@ fn answer_of(s: &[u8], c: Counts, m: usize) -> Verdict
 
 // What is seen once slot m is seen to be v.
 fn with_answer(seen: Seen, m: u8, v: Verdict) -> Seen
-    requires { ⌜ m < 64 ⌝ }
+    requires { ⌜ m < holderCodes ⌝ }
     ensures { λ r. ⌜ r ≡ told seen m v ⌝ }
 {
+    let yes = seen.yes;
+    let no = seen.no;
     match v {
         Verdict::True => Seen {
             event: seen.event,
-            yes: seen.yes | (1u64 << m),
-            no: seen.no,
+            yes: with_slot(yes, m),
+            no: no,
         },
         Verdict::False => Seen {
             event: seen.event,
-            yes: seen.yes,
-            no: seen.no | (1u64 << m),
+            yes: yes,
+            no: with_slot(no, m),
         },
         Verdict::Pending => seen,
     }
@@ -62,12 +67,13 @@ fn sight_after(b: u8, s: &[u8], c: Counts, seen: Seen) -> Sight
 // The pass over a slot's bytes p in the state s.
 fn sight_over(p: &[u8], s: &[u8], c: Counts, event: u64) -> Sight
     requires { ⌜ Counted (now s) (c .boards) (c .slots) (c .nodes) × Holds (c .slots) (now p) ⌝ }
-    ensures { λ r. ⌜ r ≡ sightOver (now (s .entry)) (now (p .entry)) (record { event = event; yes = 0; no = 0 }) ⌝ }
+    ensures { λ r. ⌜ r ≡ sightOver (now (s .entry)) (now (p .entry)) (sampleAlone event) ⌝ }
 {
+    let none = no_slots();
     let mut seen = Seen {
         event: event,
-        yes: 0,
-        no: 0,
+        yes: none,
+        no: none,
     };
     let mut i: usize = 0;
     while i < p.len() {

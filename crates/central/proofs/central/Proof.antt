@@ -2,22 +2,51 @@
 use mathlib.Core.Path.{_≡_, sym, ap, _∙_}
 use mathlib.Core.Bool.{true}
 use native.Mathlib.Omega.{arith}
+use Prim.Native.Nat.{_≤_}
 use lib.ListN.{length}
 use borrow.Author.Needs.{needs}
 use borrow.Author.Tests.{not-true, not-false}
+use Rattle.limits.specs.Limits.{propositionsMost, centralNodesMost}
+use Rattle.ltl.specs.Formula.{size}
+use Rattle.ltl.specs.Progression.{unfolded}
 use Rattle.ltl.specs.Decode.{isRule}
 use Rattle.nodes.proofs.Fronts.{front-begins}
-use Rattle.central.specs.Central.{centralLengthsOk, verdictByte}
+use Rattle.central.specs.Central.{centralLengthsOk}
+use Rattle.central.specs.Progressing.{verdictByte}
 use Rattle.central.proofs.Progresses.{verdict-first, first-of}
-use Rattle.central.proofs.Outcomes.{sized, whole, refused-length, refused-formula, refused-nodes, room, progressed-to}
+use Rattle.central.proofs.Outcomes.{LengthsPassed, lengths-passed, whole, refused-length, refused-formula, refused-nodes, room, progressed-to}
 use Rattle.central.proofs.central.Statement.{statement}
 use Rattle.central.proofs.central.Tie as tie
 
-lengths-hold : (c : tie.Else1) → let a = c .before .before .before .before .args in centralLengthsOk (length (a .formula .now)) (length (a .output .now)) ≡ true
+-- ---- from behind a check back to the one before it
+abbrev entry : tie.Else1 → tie.Start
+entry c = c .before .before .before .before
+
+abbrev lengthy : tie.Else2 → tie.Else1
+lengthy c = c .before .before
+
+abbrev ruled : tie.Else3 → tie.Else2
+ruled c = c .before .before .before
+
+abbrev counted : tie.After-progress-into → tie.Else3
+counted c = c .before .before
+
+-- ---- what is known there
+lengths-hold : (c : tie.Else1) → let a = entry c .args in centralLengthsOk (length (a .formula .now)) (length (a .output .now)) ≡ true
 lengths-hold c = sym (c .before .lengths-ok .ensures) ∙ not-false _ (c .if1 .left)
 
-decoded-holds : (c : tie.Else2) → isRule 64 (c .before .before .before .before .before .before .args .formula .now) ≡ true
-decoded-holds c = sym (c .before .is-rule .ensures) ∙ not-false _ (c .if2 .left)
+lengths : (c : tie.Else2) → let a = entry (lengthy c) .args in LengthsPassed (length (a .formula .now)) (length (a .output .now))
+lengths c = lengths-passed _ _ (lengths-hold (lengthy c))
+
+rule-holds : (c : tie.Else2) → isRule propositionsMost (entry (lengthy c) .args .formula .now) ≡ true
+rule-holds c = sym (c .before .is-rule .ensures) ∙ not-false _ (c .if2 .left)
+
+-- the formula unfolds to no more than there is room for
+fits : (c : tie.Else3) → let d = ruled c in size (unfolded (whole _ (rule-holds d) .formula-is)) ≤ centralNodesMost
+fits c =
+    let d = ruled c in
+    let a = entry (lengthy d) .args in
+    room _ (a .event) (a .output .now) (lengths-hold (lengthy d)) (rule-holds d) _ _ (c .before .before .count-unfolded .ensures) (c .if3 .left)
 
 pub central-spec : {M : Type 1} → statement M
 central-spec =
@@ -27,16 +56,13 @@ central-spec =
     (λ c. refused-length _ _ _ (sym (c .before .lengths-ok .ensures) ∙ not-true _ (c .if1 .taken)))
     (λ c κs. search needs)
     (λ c. refused-formula _ _ _ (lengths-hold (c .before .before)) (sym (c .before .is-rule .ensures) ∙ not-true _ (c .if2 .taken)))
-    (λ c κs. (front-begins (whole _ (decoded-holds c) .front), sized _ _ (lengths-hold (c .before .before)) .few))
-    (λ c. let t = c .before .before .before in refused-nodes _ _ _ (lengths-hold (t .before .before)) (decoded-holds t) _ _ (c .before .before .count-unfolded .ensures) (c .if3 .taken))
-    (λ c κs. let t = c .before .before .before .before in
-    let w = whole _ (decoded-holds t) in
-    let z = sized _ _ (lengths-hold (t .before .before)) in
-    let m = room _ (t .before .before .before .before .before .before .args .event) (t .before .before .before .before .before .before .args .output .now) (lengths-hold (t .before .before)) (decoded-holds t) _ _ (c .before .before .before .count-unfolded .ensures) (c .before .if3 .left) in
+    (λ c κs. (front-begins (whole _ (rule-holds c) .front), lengths c .few))
+    (λ c. let n = c .before .before in let d = n .before in refused-nodes _ _ _ (lengths-hold (lengthy d)) (rule-holds d) _ _ (n .count-unfolded .ensures) (c .if3 .taken))
+    (λ c κs. let e = c .before in let d = ruled e in let w = whole _ (rule-holds d) in let z = lengths d in let m = fits e in
     record { whole = w .formula-is; front = w .front; room = omega arith })
-    (λ c. let z = sized _ _ (lengths-hold (c .before .before .before .before .before .before .before .before .before .before)) in let k = c .before .before .before .progress-into .kept .0 in omega arith)
+    (λ c. let p = c .before .before .before in let z = lengths (ruled (counted p)) in let k = p .progress-into .kept .0 in omega arith)
     (λ c κs. search needs)
     (λ c. search needs)
-    (λ c. let t = c .before .before .before .before .before .before .before .before .before in
-    progressed-to _ _ _ (lengths-hold (t .before .before)) (decoded-holds t) _ _ (c .before .before .before .before .before .before .before .before .count-unfolded .ensures) (c .before .before .before .before .before .before .if3 .left) _ _ _ (c .before .before .before .before .progress-into .ensures)
+    (λ c. let p = c .before .before .before .before in let e = counted p in let d = ruled e in
+    progressed-to _ _ _ (lengths-hold (lengthy d)) (rule-holds d) _ _ (e .before .before .count-unfolded .ensures) (e .if3 .left) _ _ _ (p .progress-into .ensures)
     (λ g e. c .verdict .ensures ∙ ap verdictByte (first-of g _ _ e) ∙ verdict-first g)))

@@ -1,7 +1,7 @@
 -- The tests in the order of the definition. Assumes nothing.
 use borrow.Author.Tests.{ne-eqb}
 use Rattle.lists.specs.Tests.{pick}
-use Rattle.central.specs.Central.{verdictByte}
+use Rattle.central.specs.Progressing.{verdictByte}
 use Rattle.central.proofs.verdict.Statement.{statement}
 use Rattle.central.proofs.verdict.Tie as tie
 

@@ -4,18 +4,26 @@ use borrow.Author.Needs.{needs}
 use mathlib.Core.Path.{_≡_}
 use Rattle.ltl.specs.Formula.{size}
 use Rattle.nodes.proofs.Fronts.{front-tail, begins-tail}
-use Rattle.resolving.proofs.Standing.{Placed, placed}
+use Rattle.joining.proofs.Standing.{Contained, contained}
 use Rattle.resolving.proofs.Walks.{kept}
 use Rattle.resolving.proofs.keep.Statement.{statement}
 use Rattle.resolving.proofs.keep.Tie as tie
 
+-- ---- from behind a call back to the one before it
+abbrev entry : tie.After-operand-end → tie.Start
+entry c = c .before .before .before .before
+
+abbrev measured : tie.After-slide → tie.After-operand-end
+measured c = c .before .before
+
+-- ---- what is known there
 -- the formula lies within the bytes
-room : (c : tie.Start) → Placed (c .args .p .now) (c .args .at) (c .pre .formula) (c .pre .rest)
-room c = placed (c .args .p .now) (c .args .at) (c .pre .front)
+room : (c : tie.Start) → Contained (c .args .p .now) (c .args .at) (c .pre .formula) (c .pre .rest)
+room c = contained (c .args .p .now) (c .args .at) (c .pre .front)
 
 -- its end was found
-found : (c : tie.After-operand-end) → c .operand-end .result ≡ size (c .before .before .before .before .pre .formula)
-found c = let a = c .before .before .before .before in c .operand-end .ensures _ _ (front-tail (a .args .at) (a .args .p .now) (a .pre .front))
+found : (c : tie.After-operand-end) → c .operand-end .result ≡ size (entry c .pre .formula)
+found c = let a = entry c in c .operand-end .ensures _ _ (front-tail (a .args .at) (a .args .p .now) (a .pre .front))
 
 pub keep-spec : {M : Type 1} → statement M
 keep-spec =
@@ -25,7 +33,7 @@ keep-spec =
     (λ c. let l = room (c .before .before) in omega arith)
     (λ c. search needs)
     (λ c κs. let a = c .before .before .before in begins-tail (a .args .at) (a .args .p .now) (a .pre .front))
-    (λ c κs. let l = room (c .before .before .before .before .before) in let n = found (c .before) in omega arith)
-    (λ c. let l = room (c .before .before .before .before .before .before .before .before) in let n = found (c .before .before .before .before) in omega arith)
+    (λ c κs. let d = c .before in let l = room (entry d) in let n = found d in omega arith)
+    (λ c. let d = measured (c .before .before) in let l = room (entry d) in let n = found d in omega arith)
     (λ c. search needs)
-    (λ c f rest x. let a = c .before .before .before .before .before .before .before .before .args in kept (a .p .now) (a .at) x (c .before .before .before .before .operand-end .ensures) (c .before .before .slide .ensures)))
+    (λ c f rest x. let m = c .before .before in let d = measured m in let a = entry d .args in kept (a .p .now) (a .at) x (d .operand-end .ensures) (m .slide .ensures)))

@@ -8,13 +8,25 @@ use borrow.Author.Needs.{needs}
 use Rattle.checking.proofs.formulas.allowed_in.Statement.{statement}
 use Rattle.checking.proofs.formulas.allowed_in.Tie as tie
 
+-- from where the board's mask was read back to the entry
+abbrev entry : tie.After-u64-at → tie.Start
+entry c = c .before .before .before .before
+
 returns : tie.Need-returns
 unfolding allowedIn pick
-returns c = let h = c .before .before .before .before .before .before .before .before .pre .sized .header in rw (← h .boards-are, ← h .slots-are, eq-eqb _ _ (c .before .before .if1 .taken), ← c .before .u16-at .ensures, ← c .before .before .before .before .u64-at .ensures, ← c .own-stepped .ensures)
+returns c =
+    let t = c .before .before in
+    let m = t .before .before in
+    let h = entry m .pre .sized .header in
+    rw (← h .boards-are, ← h .slots-are, eq-eqb _ _ (t .if1 .taken), ← c .before .u16-at .ensures, ← m .u64-at .ensures, ← c .own-stepped .ensures)
 
 returns-2 : tie.Need-returns-2
 unfolding allowedIn pick
-returns-2 c = let h = c .before .before .before .before .before .before .pre .sized .header in rw (← h .boards-are, ← h .slots-are, ne-eqb _ _ (c .if1 .left), ← c .before .before .u64-at .ensures)
+returns-2 c =
+    let t = c .before in
+    let m = t .before .before in
+    let h = entry m .pre .sized .header in
+    rw (← h .boards-are, ← h .slots-are, ne-eqb _ _ (t .if1 .left), ← m .u64-at .ensures, ← c .every-slot .ensures)
 
 pub allowed-in-spec : {M : Type 1} → statement M
 allowed-in-spec =
@@ -35,4 +47,5 @@ allowed-in-spec =
     (λ c κs. search needs)
     (λ c κs. search needs)
     returns
+    (λ c κs. search needs)
     returns-2)

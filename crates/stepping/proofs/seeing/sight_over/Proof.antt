@@ -14,15 +14,20 @@ Inv-loop p s c event seen₀ i₀ seen i = Going s p (sightOver s p (sampleAlone
 abbrev μ-loop : tie.MeasureT-loop
 μ-loop p s c event seen₀ i₀ seen i = length p - i
 
+-- from the loop back to the entry
+abbrev entry : tie.At-loop Inv-loop μ-loop → tie.Start Inv-loop μ-loop
+entry c = c .before .before .before .before
+
 pub sight-over-spec : {M : Type 1} → statement M
 sight-over-spec =
     tie.close
     (tie.spec
     Inv-loop
     μ-loop
-    (λ c. going-begins)
+    (λ c κs. search needs)
+    (λ c. rw (c .no-slots .ensures) going-begins)
     (λ c. search needs)
-    (λ c κs. (c .before .before .before .before .before .pre .0, c .before .before .before .before .before .pre .1 (c .before .before .loop .i)))
+    (λ c κs. let l = c .before .before in let p = entry l .pre in (p .0, p .1 (l .loop .i)))
     (λ c. search needs)
     (λ c. search needs)
     (λ c. going-waits (c .before .before .before .before .before .loop .inv) (c .before .before .before .before .loop-test .taken) (c .before .before .sight-after .ensures) (c .enum-told .given .1))

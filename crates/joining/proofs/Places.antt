@@ -9,9 +9,9 @@ use lib.Seq.{drop-at, drop-drop, length-take-le, getD-append-add}
 use Rattle.lists.proofs.Stretches.{none-long}
 use Rattle.ltl.specs.Formula.{Formula, size, encode}
 use Rattle.ltl.proofs.Decoding.{size-some, length-encode}
-use Rattle.resolving.specs.declared.Settled.{Settled}
-use Rattle.resolving.specs.Settles.{Stands}
-use Rattle.resolving.proofs.Firsts.{first, first-is}
+use Rattle.joining.specs.declared.Settled.{Settled}
+use Rattle.joining.specs.Results.{StandsAt}
+use Rattle.joining.proofs.Firsts.{first, first-is}
 
 -- the last of some bytes set
 pub set-last : (xs l : List ℕ) (n v : ℕ) → length xs ≡ suc n → set (xs ++ l) n v ≡ take n xs ++ (v ∷ l)
@@ -21,7 +21,7 @@ set-last (x ∷ xs) l (suc n) v e = ap (x ∷_) (set-last xs l n v (omega arith)
 
 -- ---- a result at the front, over bytes that were read up to `next`
 pub stands-front : (p : List ℕ) {g : Formula} {p′ rest : List ℕ} {next : ℕ} → p′ ≡ encode g ++ drop (size g) p → size g ≤ next → drop next p ≡ rest
-    → next ≤ length p → Stands g p′ rest (record { next = next; start = 0; end = size g })
+    → next ≤ length p → StandsAt g p′ rest (record { next = next; start = 0; end = size g })
 stands-front p {g} {rest = rest} {next = next} e h k q =
     let m = next - size g in
     let t : size g + m ≡ next = omega arith in
@@ -36,7 +36,7 @@ stands-front p {g} {rest = rest} {next = next} e h k q =
     }
 
 -- ---- what a result's place says
-module _ {g : Formula} {p rest : List ℕ} {at : Settled} (x : Stands g p rest at) where
+module _ {g : Formula} {p rest : List ℕ} {at : Settled} (x : StandsAt g p rest at) where
   pub stands-length : length p ≡ at .next + length rest
   stands-length =
       let a = length-append (x .low) (encode g ++ (x .high ++ rest)) in
@@ -70,7 +70,7 @@ module _ {g : Formula} {p rest : List ℕ} {at : Settled} (x : Stands g p rest a
 
   -- the result in more bytes: behind some others
   pub stands-behind : (a : List ℕ) (n : ℕ) → length a ≡ n
-      → Stands g (a ++ p) rest (record { next = n + at .next; start = n + at .start; end = n + at .end })
+      → StandsAt g (a ++ p) rest (record { next = n + at .next; start = n + at .start; end = n + at .end })
   stands-behind a n h =
       record {
         low = a ++ x .low;
@@ -83,7 +83,7 @@ module _ {g : Formula} {p rest : List ℕ} {at : Settled} (x : Stands g p rest a
 
   -- an operator's byte put before the result
   pub stands-top : (f : Formula) (v n : ℕ) → encode f ≡ v ∷ encode g → at .start ≡ suc n
-      → Stands f (set p n v) rest (record { next = at .next; start = n; end = at .end })
+      → StandsAt f (set p n v) rest (record { next = at .next; start = n; end = at .end })
   stands-top f v n c h =
       let l = ap length c in
       let k = length-encode f in

@@ -1,4 +1,4 @@
--- A formula that stands from a place of some bytes on: how long (`placed`), what stands behind it, the same in a part that was lent
+-- A formula that stands from a place of some bytes on: how long (`contained`), what stands behind it, the same in a part that was lent
 -- (`front-part`), and where it is a node, its operands one place on (`single-at`, `double-at`). Assumes nothing.
 use mathlib.Core.Path.{_≡_, sym, ap, _∙_}
 use mathlib.Core.List.{List, _++_}
@@ -23,13 +23,13 @@ pub first-at : (p : List ℕ) (at : ℕ) → getD p at 0 ≡ getD (drop at p) 0 
 first-at p at = let z : at + 0 ≡ at = omega arith in ap (λ (i : ℕ). getD p i 0) (sym z) ∙ sym (getD-drop at p 0 0)
 
 -- ---- a formula that stands from a place on lies within the bytes
-pub record Placed (p : List ℕ) (at : ℕ) (f : Formula) (rest : List ℕ) : Type 0 where
+pub record Contained (p : List ℕ) (at : ℕ) (f : Formula) (rest : List ℕ) : Type 0 where
   pub long : at + size f + length rest ≡ length p
   pub some : 0 < size f
 
 module _ (p : List ℕ) (at : ℕ) {f : Formula} {rest : List ℕ} (x : Front (drop at p) f rest) where
-  pub placed : Placed p at f rest
-  placed =
+  pub contained : Contained p at f rest
+  contained =
       let l = front-length (drop at p) f rest x in
       let d = length-drop at p in
       let z = size-some f in

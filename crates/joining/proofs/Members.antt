@@ -23,9 +23,9 @@ use Rattle.buffers.specs.Starts.{starts}
 use Rattle.buffers.proofs.Turns.{starts-is, starts-of}
 use Rattle.nodes.specs.Begins.{Front, Begins, Ends}
 use Rattle.nodes.proofs.Fronts.{front-length, front-tail, begins-tail, front-one-way}
-use Rattle.resolving.specs.Settles.{Compared, Comparable, IsMember}
-use Rattle.resolving.proofs.Firsts.{first, first-is}
-use Rattle.resolving.proofs.Standing.{placed, first-at, DoubleAt, double-at, double-second}
+use Rattle.joining.specs.Members.{Compared, Comparable, IsMember}
+use Rattle.joining.proofs.Firsts.{first, first-is}
+use Rattle.joining.proofs.Standing.{contained, first-at, DoubleAt, double-at, double-second}
 
 starts-same : (f h : Formula) (rest : List ℕ) → Coded f → Coded h → starts (encode f) (encode h ++ rest) ≡ same f h
 starts-same f h rest v w = test-eq (starts (encode f) (encode h ++ rest)) (same f h) there back
@@ -96,7 +96,7 @@ chain-start c = record { j = c .j; f = c .f; g = c .g; h = c .g; compared = c .c
 
 module _ {l r : List ℕ} {op at : ℕ} (c : Chain l r op at) where
   pub chain-bound : at < length r
-  chain-bound = let s = placed r at (c .here) in omega arith
+  chain-bound = let s = contained r at (c .here) in omega arith
 
   -- the first byte of what stands here
   chain-first : getD r at 0 ≡ first (c .h)
@@ -120,7 +120,7 @@ module _ {l r : List ℕ} {op at : ℕ} (c : Chain l r op at) where
   chain-sizes : (length l ≡ size (c .f)) × (length r - at ≡ size (c .h))
   chain-sizes =
       let a = front-length l (c .f) [] (c .compared .left) in
-      let b = placed r at (c .here) in
+      let b = contained r at (c .here) in
       (omega arith, omega arith)
 
   -- no longer than l: l is what stands here, or no member

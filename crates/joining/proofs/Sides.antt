@@ -13,22 +13,24 @@ use Rattle.kinds.specs.Kinds.{leafCode}
 use Rattle.ltl.specs.Formula.{Formula, constant, join, size, encode}
 use Rattle.ltl.specs.Progression.{isConstant, deciding, joined}
 use Rattle.ltl.proofs.Decoding.{size-some, length-encode}
-use Rattle.resolving.specs.declared.Settled.{Settled}
-use Rattle.resolving.specs.Settles.{Stands, Settles, Sides, Compared, Comparable, IsMember}
-use Rattle.resolving.proofs.Firsts.{first, first-constant, first-other, first-pending, joined-right, joined-keep, joined-member, joined-both}
-use Rattle.resolving.proofs.Places.{set-last, stands-front, stands-length, stands-bounds, stands-first, stands-rest, stands-behind}
+use Rattle.joining.specs.declared.Settled.{Settled}
+use Rattle.joining.specs.Results.{StandsAt, Settles}
+use Rattle.joining.specs.Members.{Compared, Comparable, IsMember}
+use Rattle.joining.specs.Joins.{Sides}
+use Rattle.joining.proofs.Firsts.{first, first-constant, first-other, first-pending, joined-right, joined-keep, joined-member, joined-both}
+use Rattle.joining.proofs.Places.{set-last, stands-front, stands-length, stands-bounds, stands-first, stands-rest, stands-behind}
 
 -- a result under another name of the formula
-pub settles-as : {f g : Formula} {read : ℕ} {p rest : List ℕ} {at : Settled} → g ≡ f → Stands f p rest at → at .next ≡ read → Settles g read p rest at
-settles-as {read = read} {p = p} {rest = rest} {at = at} e x n = record { reads = n; stands = subst (λ (h : Formula). Stands h p rest at) (sym e) x }
+pub settles-as : {f g : Formula} {read : ℕ} {p rest : List ℕ} {at : Settled} → g ≡ f → StandsAt f p rest at → at .next ≡ read → Settles g read p rest at
+settles-as {read = read} {p = p} {rest = rest} {at = at} e x n = record { reads = n; stands = subst (λ (h : Formula). StandsAt h p rest at) (sym e) x }
 
 -- a constant at the front
 pub stands-constant : (p : List ℕ) {v : Bool} {b : ℕ} {rest : List ℕ} {next : ℕ} → b ≡ leafCode (Const v) → drop next p ≡ rest → 0 < next → next ≤ length p
-    → Stands (constant v) (set p 0 b) rest (record { next = next; start = 0; end = 1 })
+    → StandsAt (constant v) (set p 0 b) rest (record { next = next; start = 0; end = 1 })
 stands-constant p {b = b} e k h q = stands-front p (set-first p b (omega arith) ∙ ap (_∷ drop 1 p) e) (omega arith) k q
 
 -- where the two stand, in numbers; `stretch` is what the right one is moved up in
-pub record Room (p : List ℕ) (start end : ℕ) (right : Settled) (l r : Formula) (rest : List ℕ) : Type 0 where
+pub record Measured (p : List ℕ) (start end : ℕ) (right : Settled) (l r : Formula) (rest : List ℕ) : Type 0 where
   pub all : end + right .next + length rest ≡ length p
   pub low-some : 0 < start
   pub low-left : end ≡ start + size l
@@ -40,8 +42,8 @@ pub record Room (p : List ℕ) (start end : ℕ) (right : Settled) (l r : Formul
 
 module _ {p : List ℕ} {op decide start end : ℕ} {right : Settled} {j : Join} {l r : Formula} {rest : List ℕ}
     (x : Sides p op decide start end right j l r rest) where
-  pub room : Room p start end right l r rest
-  room =
+  pub measured : Measured p start end right l r rest
+  measured =
       let s = stands-length (x .stands) in
       let b = stands-bounds (x .stands) in
       let d = length-drop end p in
@@ -77,7 +79,7 @@ module _ {p : List ℕ} {op decide start end : ℕ} {right : Settled} {j : Join}
   pub sides-decided : getD p (end + right .start) 0 ≡ decide
       → Settles (joined j l r) (end + right .next) (set p 0 decide) rest (record { next = end + right .next; start = 0; end = 1 })
   sides-decided e =
-      let q = room in
+      let q = measured in
       let c = first-constant (deciding j) r (sym right-first ∙ e ∙ x .decide-is) in
       settles-as (joined-right j l r c) (stands-constant p (x .decide-is) behind-is (omega arith) (omega arith)) refl
 
@@ -85,7 +87,7 @@ module _ {p : List ℕ} {op decide start end : ℕ} {right : Settled} {j : Join}
   pub sides-left : (getD p (end + right .start) 0 ≡ decide → ⊥) → getD p (end + right .start) 0 < 2
       → Settles (joined j l r) (end + right .next) p rest (record { next = end + right .next; start = start; end = end })
   sides-left n h =
-      let q = room in
+      let q = measured in
       let f = right-first in
       let c = first-other j r (omega arith) (λ k. n (right-first ∙ k ∙ sym (x .decide-is))) in
       let d = length-drop end p in
@@ -162,7 +164,7 @@ module _ {p : List ℕ} {op decide start end : ℕ} {right : Settled} {j : Join}
       rw (u, v) (ap (_++ drop (size r) (x .stands .low ++ encode r)) (ap (take (size r)) (sym (append-nil (encode r))) ∙ take-at (encode r) [] (size r) (length-encode r)))
 
   -- both operands side by side, the operator before them
-  both-stand : Stands (join j l r) (set (take end p ++ ((encode r ++ freed) ++ drop (right .end) (drop end p))) (start - 1) op) rest
+  both-stand : StandsAt (join j l r) (set (take end p ++ ((encode r ++ freed) ++ drop (right .end) (drop end p))) (start - 1) op) rest
       (record { next = end + right .next; start = start - 1; end = end + size r })
   both-stand =
       let y = x .stands in
@@ -193,7 +195,7 @@ module _ {p : List ℕ} {op decide start end : ℕ} {right : Settled} {j : Join}
         → Settles (joined j l r) (end + right .next) p rest (record { next = end + right .next; start = end + right .start; end = end + right .end })
     sides-member k t =
         settles-as (joined-member j l r (x .pending) pending-right (sym (k j l r sides-compare) ∙ t))
-        (subst (λ (k : List ℕ). Stands r k rest (record { next = end + right .next; start = end + right .start; end = end + right .end })) (sym front-is)
+        (subst (λ (k : List ℕ). StandsAt r k rest (record { next = end + right .next; start = end + right .start; end = end + right .end })) (sym front-is)
         (stands-behind (x .stands) (x .low ++ encode l) end front-length))
         refl
 

@@ -1,0 +1,4 @@
+-- What the contracts of `joining` cite.
+pub mod Results
+pub mod Members
+pub mod Joins

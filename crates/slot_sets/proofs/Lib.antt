@@ -1,0 +1,3 @@
+-- Laws of sets of slots.
+pub mod Bits
+pub mod SlotSets

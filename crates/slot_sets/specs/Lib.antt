@@ -1,0 +1,2 @@
+-- What the contracts of `slot_sets` cite.
+pub mod SlotSets
