@@ -20,7 +20,7 @@ use Rattle.unfolding.proofs.Fronts.{written-bytes, written-front}
 use Rattle.cutting.specs.declared.Part.{Part}
 use Rattle.cutting.specs.Cuts.{codeOf}
 use Rattle.cutting.proofs.Choices.{chosen-below}
-use Rattle.tagging.specs.declared.Placed.{Placed}
+use Rattle.tagging.specs.declared.TaggedPart.{TaggedPart}
 use Rattle.tagging.specs.Tags.{TaggedAs, Tagging}
 use Rattle.storing.specs.Stores.{LaidOut, Counts, StateAsk, Stores}
 use Rattle.loading.specs.Load.{BeginAsk, FirstAsk, Firsts}
@@ -52,7 +52,7 @@ module _ {state masks bytes owner : List ℕ} {board slots nodes : ℕ} {u tags 
         let s = first-size in
         (whole-begins front-is, ask .table, omega arith, omega arith)
 
-    module _ {tags′ : List ℕ} (y : Placed) (m : Tagging owner (take (w .written) u′) board tags′ y) (kept : length tags′ ≡ length tags) where
+    module _ {tags′ : List ℕ} (y : TaggedPart) (m : Tagging owner (take (w .written) u′) board tags′ y) (kept : length tags′ ≡ length tags) where
       laid-is : LaidOut (take (w .written) u′) tags′ (firstOf masks (ask .rule))
       laid-is =
           subst (λ (x : List ℕ). LaidOut x tags′ (firstOf masks (ask .rule))) (sym (written-bytes rule-unfolded))

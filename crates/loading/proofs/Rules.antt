@@ -36,7 +36,7 @@ use Rattle.cutting.specs.Cuts.{codeOf, cutsOn, Rests, Parted}
 use Rattle.cutting.proofs.Choices.{chosen-below}
 use Rattle.cutting.proofs.Nodes.{unfolded-few}
 use Rattle.nodes.specs.Begins.{Front}
-use Rattle.tagging.specs.declared.Placed.{Placed}
+use Rattle.tagging.specs.declared.TaggedPart.{TaggedPart}
 use Rattle.tagging.specs.Tags.{TaggedAs}
 use Rattle.laying.specs.Lays.{Source}
 use Rattle.laying.proofs.Boarding.{on-board}
@@ -124,7 +124,7 @@ module _ {masks bytes : List ℕ} {rule : Formula} (r : Ruled masks bytes rule) 
   first-large = omega (arith, laid-out-nodes)
 
   -- the tagged bytes are laid out to it
-  module _ (owner : List ℕ) (owned : Owned (r .propositions) masks owner) (tags : List ℕ) (y : Placed) (m : TaggedAs owner (unfolded rule) first-board tags y) (long : size (unfolded rule) ≤ length tags) where
+  module _ (owner : List ℕ) (owned : Owned (r .propositions) masks owner) (tags : List ℕ) (y : TaggedPart) (m : TaggedAs owner (unfolded rule) first-board tags y) (long : size (unfolded rule) ≤ length tags) where
     first-source : Source choose noHold (encode (unfolded rule)) tags
     first-source =
         record {

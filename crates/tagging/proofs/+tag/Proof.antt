@@ -9,7 +9,7 @@ use borrow.Fn.PlainCycle.{Measures}
 use lib.ListN.{length}
 use Rattle.nodes.proofs.Fronts.{Single, Double, parts-as, begins-some, no-code, leaf-within}
 use Rattle.nodes.proofs.Operands.{one-of, two-of, single-as, double-as, LeftRead, left-read}
-use Rattle.tagging.proofs.Tops.{leaf-over, not-small, pair-small}
+use Rattle.tagging.proofs.Tops.{leaf-over, not-asks, pair-asks}
 use Rattle.tagging.proofs.Walks.{asks-some, asks-operand, asks-right, leaf-done, next-done, eventually-done, always-done, until-done, not-done, pair-done}
 use Rattle.tagging.proofs.tag.Reads as tag
 use Rattle.tagging.proofs.tag.Kinds as tag-kinds
@@ -76,7 +76,7 @@ pub +tag-spec : {M : Type 1} → statement M
     (omega arith, asks-operand (a .args .tags .now) (a .pre .1) (x .front) (x .part)))
     (λ c κs. let k = c .before .before .before .before .before .before .before .before in let x = single t k in let a = first t (k .before .before .before) in
     let s = some t a in
-    (omega arith, not-small (c .before .before .before .tag .ensures _ _ (x .front)) (omega arith)))
+    (omega arith, not-asks (c .before .before .before .tag .ensures _ _ (x .front)) (omega arith)))
     (λ c. search needs)
     (λ c κs. first t (c .before .before .before .before .before .before) .pre .1)
     (λ c. search needs)
@@ -109,7 +109,7 @@ pub +tag-spec : {M : Type 1} → statement M
     let x = left-done t d in
     let s = some t a in
     let k = c .before .before .tags8 .given .1 ∙ c .before .before .before .before .before .before .before .before .tags7 .given .1 in
-    (omega arith, pair-small (d .tag2 .ensures _ _ (n .front)) (c .before .before .before .tag3 .ensures _ _ (x .front)) (omega arith)))
+    (omega arith, pair-asks (d .tag2 .ensures _ _ (n .front)) (c .before .before .before .tag3 .ensures _ _ (x .front)) (omega arith)))
     (λ c. search needs)
     (λ c κs. first t (c .before .before .before .before .before .before) .pre .1)
     (λ c. search needs)
