@@ -11,7 +11,7 @@ use Rattle.limits.specs.Limits.{propositionsMost, holderCodes}
 use Rattle.lists.specs.Tests.{pick}
 use Rattle.lists.specs.Runs.{padded}
 use Rattle.kinds.specs.declared.Leaf.the-variants.{Const, Prop, Hold}
-use Rattle.kinds.specs.declared.Unary.the-variants.{Not, Next, Eventually, Always}
+use Rattle.kinds.specs.declared.Unary.the-variants.{Not, Next, Ever}
 use Rattle.kinds.specs.declared.Binary.the-variants.{Joined, Until}
 use Rattle.answers.specs.declared.Verdict.{Verdict}
 use Rattle.answers.specs.declared.Verdict.the-variants.{Pending}
@@ -48,8 +48,7 @@ filled-none held h (leaf (Prop i)) = refl
 filled-none held h (leaf (Hold k)) = ap (λ (v : Verdict). leaf (filledBy v k)) (h k)
 filled-none held h (one Not f) = ap (one Not) (filled-none held h f)
 filled-none held h (one Next f) = refl
-filled-none held h (one Eventually f) = refl
-filled-none held h (one Always f) = refl
+filled-none held h (one (Ever j) f) = refl
 filled-none held h (two (Joined j) f g) = ap₂ (join j) (filled-none held h f) (filled-none held h g)
 filled-none held h (two Until f g) = refl
 

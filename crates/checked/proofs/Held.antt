@@ -9,7 +9,7 @@ use borrow.Author.Tests.{ltb-true, eqb-true, not-true}
 use Rattle.lists.specs.Tests.{both}
 use Rattle.lists.proofs.Tests.{both-0, both-1}
 use Rattle.kinds.specs.declared.Leaf.the-variants.{Const, Prop, Hold}
-use Rattle.kinds.specs.declared.Unary.the-variants.{Not, Next, Eventually, Always}
+use Rattle.kinds.specs.declared.Unary.the-variants.{Not, Next, Ever}
 use Rattle.kinds.specs.declared.Binary.the-variants.{Joined, Until}
 use Rattle.ltl.specs.Formula.{Formula, leaf, one, two, Within}
 use Rattle.masks.specs.Masks.{sumOnes}
@@ -27,8 +27,7 @@ holds-within Q p end (leaf (Prop i)) w h = tt
 holds-within Q p end (leaf (Hold m)) w h = (h, w)
 holds-within Q p end (one Not f) w h = holds-within Q p end f w h
 holds-within Q p end (one Next f) w h = tt
-holds-within Q p end (one Eventually f) w h = tt
-holds-within Q p end (one Always f) w h = tt
+holds-within Q p end (one (Ever j) f) w h = tt
 holds-within Q p end (two (Joined j) f g) w h = (holds-within Q p end f (w .0) (h .0), holds-within Q p end g (w .1) (h .1))
 holds-within Q p end (two Until f g) w h = tt
 

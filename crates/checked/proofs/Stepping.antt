@@ -10,7 +10,7 @@ use native.Mathlib.Omega.{arith}
 use lib.ListN.{length, replicate, length-append, length-replicate}
 use Rattle.lists.specs.Runs.{padded}
 use Rattle.kinds.specs.declared.Leaf.the-variants.{Const, Prop, Hold}
-use Rattle.kinds.specs.declared.Unary.the-variants.{Not, Next, Eventually, Always}
+use Rattle.kinds.specs.declared.Unary.the-variants.{Not, Next, Ever}
 use Rattle.kinds.specs.declared.Binary.the-variants.{Joined, Until}
 use Rattle.answers.specs.declared.Verdict.{Verdict}
 use Rattle.le.specs.Le.{le}
@@ -37,8 +37,7 @@ resolved-size e (one Not f) =
     let h = resolved-size e f in
     negated-elim (λ g. size g ≤ 1 + size f) (resolved e f) (λ q. omega arith) (λ q. omega arith) (omega arith)
 resolved-size e (one Next f) = omega arith
-resolved-size e (one Eventually f) = omega arith
-resolved-size e (one Always f) = omega arith
+resolved-size e (one (Ever j) f) = omega arith
 resolved-size e (two (Joined j) f g) =
     let h = resolved-size e f in
     let i = resolved-size e g in
@@ -49,8 +48,7 @@ filled-size : (held : ℕ → Verdict) (f : Formula) → size (filled held f) �
 filled-size held (leaf a) = refl
 filled-size held (one Not f) = ap (1 +_) (filled-size held f)
 filled-size held (one Next f) = refl
-filled-size held (one Eventually f) = refl
-filled-size held (one Always f) = refl
+filled-size held (one (Ever j) f) = refl
 filled-size held (two (Joined j) f g) = omega (arith, filled-size held f, filled-size held g)
 filled-size held (two Until f g) = refl
 

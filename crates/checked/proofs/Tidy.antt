@@ -9,7 +9,7 @@ use borrow.Author.Tests.{not-false}
 use Rattle.lists.specs.Tests.{bit}
 use Rattle.lists.proofs.Tests.{no-true, both-0, both-1, both-true}
 use Rattle.kinds.specs.declared.Leaf.the-variants.{Const, Prop, Hold}
-use Rattle.kinds.specs.declared.Unary.the-variants.{Not, Next, Eventually, Always}
+use Rattle.kinds.specs.declared.Unary.the-variants.{Not, Next, Ever}
 use Rattle.kinds.specs.declared.Binary.the-variants.{Joined, Until}
 use Rattle.ltl.specs.Formula.{Formula, leaf, one, two, Within}
 use Rattle.masks.specs.Masks.{masksRule}
@@ -38,8 +38,7 @@ module _ (test : ℕ → Bool) where
   tidy-only (leaf (Hold m)) e h = h
   tidy-only (one Not f) e h = tidy-only f e h
   tidy-only (one Next f) e h = none-only f e
-  tidy-only (one Eventually f) e h = none-only f e
-  tidy-only (one Always f) e h = none-only f e
+  tidy-only (one (Ever j) f) e h = none-only f e
   tidy-only (two (Joined j) f g) e h = both-true _ _ (tidy-only f (both-0 _ _ e) (h .0)) (tidy-only g (both-1 _ _ e) (h .1))
   tidy-only (two Until f g) e h = both-true _ _ (none-only f (both-0 _ _ e)) (none-only g (both-1 _ _ e))
 
@@ -60,8 +59,7 @@ module _ (p : ℕ) (masks : List ℕ) (few : p ≤ 64) (rule : masksRule p masks
   tidy-clean end (leaf (Hold m)) w e = tt
   tidy-clean end (one Not f) w e = tidy-clean end f w e
   tidy-clean end (one Next f) w e = none-free end f w e
-  tidy-clean end (one Eventually f) w e = none-free end f w e
-  tidy-clean end (one Always f) w e = none-free end f w e
+  tidy-clean end (one (Ever j) f) w e = none-free end f w e
   tidy-clean end (two (Joined j) f g) w e = (tidy-clean end f (w .0) (both-0 _ _ e), tidy-clean end g (w .1) (both-1 _ _ e))
   tidy-clean end (two Until f g) w e = (none-free end f (w .0) (both-0 _ _ e), none-free end g (w .1) (both-1 _ _ e))
 

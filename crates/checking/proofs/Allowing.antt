@@ -9,7 +9,7 @@ use borrow.Author.Tests.{le-ltb, lt-ltb, eq-eqb, ne-eqb}
 use Rattle.lists.specs.Tests.{pick, both, bit}
 use Rattle.lists.proofs.Tests.{both-0, both-1, both-true}
 use Rattle.kinds.specs.declared.Leaf.the-variants.{Const, Prop, Hold}
-use Rattle.kinds.specs.declared.Unary.the-variants.{Not, Next, Eventually, Always}
+use Rattle.kinds.specs.declared.Unary.the-variants.{Not, Next, Ever}
 use Rattle.kinds.specs.declared.Binary.the-variants.{Joined, Until}
 use Rattle.ltl.specs.Formula.{Formula, leaf, one, two, size, Within, leafOver, over, Coded}
 use Rattle.ltl.proofs.Decoding.{size-some}
@@ -89,8 +89,7 @@ outsideOwn temporal own (leaf (Prop i)) = bit own i
 outsideOwn temporal own (leaf (Hold m)) = true
 outsideOwn temporal own (one Not f) = outsideOwn temporal own f
 outsideOwn temporal own (one Next f) = true
-outsideOwn temporal own (one Eventually f) = temporal
-outsideOwn temporal own (one Always f) = temporal
+outsideOwn temporal own (one (Ever j) f) = temporal
 outsideOwn temporal own (two (Joined j) f g) = both (outsideOwn temporal own f) (outsideOwn temporal own g)
 outsideOwn temporal own (two Until f g) = temporal
 
@@ -123,8 +122,7 @@ module _ (a : Allowed) where
   stands-is (one Next f) =
       inside-is (a .propositions) (a .slots) above held f
       ∙ ap (λ (x : Bool). both (over (a .propositions) (a .slots) f) (both (holdsOnly (λ m. false) f) (both (holdsOnly above f) x))) (both-last (holdsOnly held f))
-  stands-is (one Eventually f) = temporal-is f
-  stands-is (one Always f) = temporal-is f
+  stands-is (one (Ever j) f) = temporal-is f
   stands-is (two (Joined j) f g) =
       ap₂ both (stands-is f) (stands-is g)
       ∙ zip-five
@@ -158,8 +156,7 @@ own-all own (leaf (Prop i)) w h = h i w
 own-all own (leaf (Hold m)) w h = refl
 own-all own (one Not f) w h = own-all own f w h
 own-all own (one Next f) w h = refl
-own-all own (one Eventually f) w h = refl
-own-all own (one Always f) w h = refl
+own-all own (one (Ever j) f) w h = refl
 own-all own (two (Joined j) f g) w h = both-true (outsideOwn true own f) (outsideOwn true own g) (own-all own f (w .0) h) (own-all own g (w .1) h)
 own-all own (two Until f g) w h = refl
 
@@ -170,8 +167,7 @@ own-unfolded mask (leaf (Prop i)) = refl
 own-unfolded mask (leaf (Hold m)) = refl
 own-unfolded mask (one Not f) = own-unfolded mask f
 own-unfolded mask (one Next f) = refl
-own-unfolded mask (one Eventually f) = refl
-own-unfolded mask (one Always f) = refl
+own-unfolded mask (one (Ever j) f) = refl
 own-unfolded mask (two (Joined j) f g) = ap₂ both (own-unfolded mask f) (own-unfolded mask g)
 own-unfolded mask (two Until f g) = refl
 

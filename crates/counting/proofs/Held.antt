@@ -13,7 +13,7 @@ use borrow.Author.Tests.{lt-ltb, le-ltb}
 use Rattle.kinds.proofs.Codes.{unary-low, binary-low}
 use Rattle.lists.specs.Tests.{pick}
 use Rattle.kinds.specs.declared.Leaf.the-variants.{Const, Prop, Hold}
-use Rattle.kinds.specs.declared.Unary.the-variants.{Not, Next, Eventually, Always}
+use Rattle.kinds.specs.declared.Unary.the-variants.{Not, Next, Ever}
 use Rattle.kinds.specs.declared.Binary.the-variants.{Joined, Until}
 use Rattle.kinds.specs.Kinds.{unaryCode, binaryCode}
 use Rattle.ltl.specs.Formula.{Formula, leaf, one, two, encode, Coded}
@@ -58,8 +58,7 @@ module _ (entry : ℕ → ℕ) where
         omega arith
     clean-held (one Not f) w x = omega (arith, held-low (unaryCode Not) (unary-low Not), clean-held f w x)
     clean-held (one Next f) w x = free-over (one Next f) w x
-    clean-held (one Eventually f) w x = free-over (one Eventually f) w x
-    clean-held (one Always f) w x = free-over (one Always f) w x
+    clean-held (one (Ever j) f) w x = free-over (one (Ever j) f) w x
     clean-held (two (Joined j) f g) w x =
         omega (arith, held-low (binaryCode (Joined j)) (binary-low (Joined j)), over-append (encode f) (encode g), clean-held f (w .0) (x .0), clean-held g (w .1) (x .1))
     clean-held (two Until f g) w x = free-over (two Until f g) w x

@@ -5,7 +5,7 @@ use mathlib.Core.Option.{Option}
 use Prim.Native.Nat.{ℕ, _+_}
 use native.Mathlib.Omega.{arith}
 use Rattle.kinds.specs.declared.Leaf.the-variants.{Const, Prop, Hold}
-use Rattle.kinds.specs.declared.Unary.the-variants.{Not, Next, Eventually, Always}
+use Rattle.kinds.specs.declared.Unary.the-variants.{Not, Next, Ever}
 use Rattle.kinds.specs.declared.Binary.the-variants.{Joined, Until}
 use Rattle.ltl.specs.Formula.{Formula, leaf, one, two}
 use Rattle.ltl.specs.Progression.{unfolded}
@@ -22,8 +22,7 @@ module _ (choose : Formula → Option ℕ) (entry : ℕ → ℕ) where
   free-none (leaf (Hold m)) x = absurd x
   free-none (one Not f) x = free-none f x
   free-none (one Next f) x = refl
-  free-none (one Eventually f) x = refl
-  free-none (one Always f) x = refl
+  free-none (one (Ever j) f) x = refl
   free-none (two (Joined j) f g) x = omega (arith, free-none f (x .0), free-none g (x .1))
   free-none (two Until f g) x = refl
 
@@ -32,8 +31,7 @@ module _ (choose : Formula → Option ℕ) (entry : ℕ → ℕ) where
   unfolded-held (leaf a) x = refl
   unfolded-held (one Not f) x = unfolded-held f x
   unfolded-held (one Next f) x = refl
-  unfolded-held (one Eventually f) x = free-none (unfolded (one Eventually f)) (unfolded-free choose (one Eventually f) x)
-  unfolded-held (one Always f) x = free-none (unfolded (one Always f)) (unfolded-free choose (one Always f) x)
+  unfolded-held (one (Ever j) f) x = free-none (unfolded (one (Ever j) f)) (unfolded-free choose (one (Ever j) f) x)
   unfolded-held (two (Joined j) f g) x = omega (arith, unfolded-held f (x .0), unfolded-held g (x .1))
   unfolded-held (two Until f g) x = free-none (unfolded (two Until f g)) (unfolded-free choose (two Until f g) x)
 
@@ -47,8 +45,7 @@ held-capped most entry count (leaf (Prop i)) h = refl
 held-capped most entry count (leaf (Hold m)) h = omega arith
 held-capped most entry count (one Not f) h = held-capped most entry count f h
 held-capped most entry count (one Next f) h = refl
-held-capped most entry count (one Eventually f) h = refl
-held-capped most entry count (one Always f) h = refl
+held-capped most entry count (one (Ever j) f) h = refl
 held-capped most entry count (two (Joined j) f g) h =
     capped-sum most (held entry f) (held entry g) (held count f) (held count g) (held-capped most entry count f (h .0)) (held-capped most entry count g (h .1))
 held-capped most entry count (two Until f g) h = refl

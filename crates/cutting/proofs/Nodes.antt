@@ -7,7 +7,7 @@ use Prim.Native.Nat.{ℕ, _+_, _*_, _<_, _≤_, _^_}
 use native.Mathlib.Omega.{arith}
 use lib.ListN.{getD}
 use Rattle.kinds.specs.declared.Leaf.{Leaf}
-use Rattle.kinds.specs.declared.Unary.the-variants.{Not, Next, Eventually, Always}
+use Rattle.kinds.specs.declared.Unary.the-variants.{Not, Next, Ever}
 use Rattle.kinds.specs.declared.Join.{Join}
 use Rattle.kinds.specs.declared.Binary.the-variants.{Joined, Until}
 use Rattle.limits.specs.Limits.{boardsMost}
@@ -91,8 +91,7 @@ pub unfolded-few : (f : Formula) → size f ≤ 4096 → size (unfolded f) ≤ 4
 unfolded-few (leaf a) l = omega arith
 unfolded-few (one Not f) l = omega (arith, unfolded-few f (omega arith))
 unfolded-few (one Next f) l = omega arith
-unfolded-few (one Eventually f) l = omega (arith, unfolded-few f (omega arith))
-unfolded-few (one Always f) l = omega (arith, unfolded-few f (omega arith))
+unfolded-few (one (Ever j) f) l = omega (arith, unfolded-few f (omega arith))
 unfolded-few (two (Joined j) f g) l = omega (arith, unfolded-few f (omega arith), unfolded-few g (omega arith))
 unfolded-few (two Until f g) l = omega (arith, unfolded-few f (omega arith), unfolded-few g (omega arith))
 

@@ -8,14 +8,14 @@ use lib.ListN.{getD}
 use Rattle.lists.specs.Runs.{tail}
 use Rattle.kinds.specs.declared.Leaf.{Leaf}
 use Rattle.kinds.specs.declared.Unary.{Unary}
-use Rattle.kinds.specs.declared.Unary.the-variants.{Not, Next, Eventually, Always}
+use Rattle.kinds.specs.declared.Unary.the-variants.{Not, Next, Ever}
 use Rattle.kinds.specs.declared.Join.{Join}
 use Rattle.kinds.specs.declared.Join.the-variants.{And, Or}
 use Rattle.kinds.specs.declared.Binary.{Binary}
 use Rattle.kinds.specs.declared.Binary.the-variants.{Joined, Until}
 use Rattle.kinds.specs.declared.Kind.the-variants.{Zero}
 use Rattle.limits.specs.Limits.{boardsMost}
-use Rattle.ltl.specs.Formula.{Formula, one, two, join, size}
+use Rattle.ltl.specs.Formula.{Formula, one, two, size}
 use Rattle.ltl.specs.Progression.{unfolded}
 use Rattle.nodes.proofs.Fronts.{Parts, isZero, Single, Double}
 use Rattle.nodes.proofs.Operands.{left-read}
@@ -46,14 +46,8 @@ module _ {owner : List ℕ} {f : Formula} {a : Counted} (h : Walked owner f boar
   pub walked-next : {o : Unary} → o ≡ Next → Bare (r .part) (a .raw .counts) → Walked owner (one o f) on r
   walked-next i b = rw i (over-one Next (parted-next b f (h .raw)))
 
-  walked-ever : (o : Unary) (j : Join) {x : Part} → unfolded (one o f) ≡ join j (unfolded f) (one Next (one o f)) → Bare x (a .raw .counts) → Joins (a .part) x on (r .part) → Walked owner (one o f) on r
-  walked-ever o j u b k = over-one o (rw u (parted-joined j (h .parted) (parted-next b (one o f) (counted-one o (h .raw))) k))
-
-  pub walked-eventually : {o : Unary} {x : Part} → o ≡ Eventually → Bare x (a .raw .counts) → Joins (a .part) x on (r .part) → Walked owner (one o f) on r
-  walked-eventually i b k = rw i (walked-ever Eventually Or refl b k)
-
-  pub walked-always : {o : Unary} {x : Part} → o ≡ Always → Bare x (a .raw .counts) → Joins (a .part) x on (r .part) → Walked owner (one o f) on r
-  walked-always i b k = rw i (walked-ever Always And refl b k)
+  pub walked-ever : {o : Unary} {j : Join} {x : Part} → o ≡ Ever j → Bare x (a .raw .counts) → Joins (a .part) x on (r .part) → Walked owner (one o f) on r
+  walked-ever {j = j} i b k = let o = Ever j in rw i (over-one o (parted-joined j (h .parted) (parted-next b (one o f) (counted-one o (h .raw))) k))
 
 -- ---- two operands
 module _ {owner : List ℕ} {f g : Formula} {a c : Counted} (h : Walked owner f boardsMost a) (k : Walked owner g boardsMost c) where

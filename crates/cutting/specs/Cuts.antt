@@ -9,7 +9,7 @@ use mathlib.Core.Option.{Option, none, some}
 use lib.ListN.{getD}
 use lib.Dec.{eqb}
 use Rattle.lists.specs.Tests.{pick, either}
-use Rattle.kinds.specs.declared.Unary.the-variants.{Not, Next, Eventually, Always}
+use Rattle.kinds.specs.declared.Unary.the-variants.{Not, Next, Ever}
 use Rattle.kinds.specs.declared.Unary.{Unary}
 use Rattle.kinds.specs.declared.Binary.{Binary}
 use Rattle.kinds.specs.declared.Binary.the-variants.{Joined, Until}
@@ -34,8 +34,7 @@ unfoldable pub cutsOn : (Formula → Option ℕ) → Formula → ℕ → ℕ
 cutsOn choose (leaf a) b = 0
 cutsOn choose (one Not f) b = lookedAs (choose f) b (cutsOn choose f) (λ c. 1 + cutsOn choose f c)
 cutsOn choose (one Next f) b = 0
-cutsOn choose (one Eventually f) b = 0
-cutsOn choose (one Always f) b = 0
+cutsOn choose (one (Ever j) f) b = 0
 cutsOn choose (two (Joined j) f g) b =
     lookedAs (choose f) b (cutsOn choose f) (λ c. 1 + cutsOn choose f c) + lookedAs (choose g) b (cutsOn choose g) (λ c. 1 + cutsOn choose g c)
 cutsOn choose (two Until f g) b = 0

@@ -155,12 +155,7 @@ fn over_one(o: Unary, a: Counted, on: u8) -> Counted
             raw: raw,
             part: under_next(raw),
         },
-        Unary::Eventually => Counted {
-            read: read,
-            raw: raw,
-            part: joined(part, under_next(raw), on),
-        },
-        Unary::Always => Counted {
+        Unary::Ever(_) => Counted {
             read: read,
             raw: raw,
             part: joined(part, under_next(raw), on),

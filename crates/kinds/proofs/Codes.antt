@@ -10,7 +10,7 @@ use borrow.Author.Tests.{lt-ltb, le-ltb, ltb-true, ltb-false}
 use Rattle.kinds.specs.declared.Leaf.{Leaf}
 use Rattle.kinds.specs.declared.Leaf.the-variants.{Const, Prop, Hold}
 use Rattle.kinds.specs.declared.Unary.{Unary}
-use Rattle.kinds.specs.declared.Unary.the-variants.{Not, Next, Eventually, Always}
+use Rattle.kinds.specs.declared.Unary.the-variants.{Not, Next, Ever}
 use Rattle.kinds.specs.declared.Join.the-variants.{And, Or}
 use Rattle.kinds.specs.declared.Binary.{Binary}
 use Rattle.kinds.specs.declared.Binary.the-variants.{Joined, Until}
@@ -63,8 +63,8 @@ pub kind-unary : (o : Unary) → kindOf (unaryCode o) ≡ One o
 unfolding kindOf pick
 kind-unary Not = refl
 kind-unary Next = refl
-kind-unary Eventually = refl
-kind-unary Always = refl
+kind-unary (Ever And) = refl
+kind-unary (Ever Or) = refl
 
 pub kind-binary : (o : Binary) → kindOf (binaryCode o) ≡ Two o
 unfolding kindOf pick
@@ -87,8 +87,8 @@ low-code (suc (suc (suc zero))) = isTwo {o = Joined And} refl
 low-code (suc (suc (suc (suc zero)))) = isTwo {o = Joined Or} refl
 low-code (suc (suc (suc (suc (suc zero))))) = isOne {o = Next} refl
 low-code (suc (suc (suc (suc (suc (suc zero)))))) = isTwo {o = Until} refl
-low-code (suc (suc (suc (suc (suc (suc (suc zero))))))) = isOne {o = Eventually} refl
-low-code (suc (suc (suc (suc (suc (suc (suc (suc zero)))))))) = isOne {o = Always} refl
+low-code (suc (suc (suc (suc (suc (suc (suc zero))))))) = isOne {o = Ever Or} refl
+low-code (suc (suc (suc (suc (suc (suc (suc (suc zero)))))))) = isOne {o = Ever And} refl
 low-code (suc (suc (suc (suc (suc (suc (suc (suc (suc b))))))))) = isNone
 
 pub code : (b : ℕ) → CodeOf b (kindOf b)
@@ -111,8 +111,8 @@ kind-leaf (Hold k) h = kind-hold-code k h
 pub unary-low : (o : Unary) → unaryCode o < holdCode
 unary-low Not = omega arith
 unary-low Next = omega arith
-unary-low Eventually = omega arith
-unary-low Always = omega arith
+unary-low (Ever And) = omega arith
+unary-low (Ever Or) = omega arith
 
 pub binary-low : (o : Binary) → binaryCode o < holdCode
 binary-low (Joined And) = omega arith

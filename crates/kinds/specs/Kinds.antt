@@ -10,7 +10,7 @@ use Rattle.lists.specs.Tests.{pick}
 use Rattle.kinds.specs.declared.Leaf.{Leaf}
 use Rattle.kinds.specs.declared.Leaf.the-variants.{Const, Prop, Hold}
 use Rattle.kinds.specs.declared.Unary.{Unary}
-use Rattle.kinds.specs.declared.Unary.the-variants.{Not, Next, Eventually, Always}
+use Rattle.kinds.specs.declared.Unary.the-variants.{Not, Next, Ever}
 use Rattle.kinds.specs.declared.Join.{Join}
 use Rattle.kinds.specs.declared.Join.the-variants.{And, Or}
 use Rattle.kinds.specs.declared.Binary.{Binary}
@@ -21,7 +21,7 @@ use Rattle.kinds.specs.declared.Kind.the-variants.{Zero, One, Two, NoCod
 -- 0 false, 1 true, 2 not, 3 and, 4 or, 5 next, 6 until, 7 eventually, 8 always
 abbrev pub named : List Kind
 named =
-    Zero (Const false) ∷ Zero (Const true) ∷ One Not ∷ Two (Joined And) ∷ Two (Joined Or) ∷ One Next ∷ Two Until ∷ One Eventually ∷ One Always ∷ []
+    Zero (Const false) ∷ Zero (Const true) ∷ One Not ∷ Two (Joined And) ∷ Two (Joined Or) ∷ One Next ∷ Two Until ∷ One (Ever Or) ∷ One (Ever And) ∷ []
 
 -- where the codes of propositions begin, those of place holders, and where these end
 abbrev pub propCode : ℕ
@@ -50,8 +50,8 @@ leafCode (Hold k) = holdCode + k
 abbrev pub unaryCode : Unary → ℕ
 unaryCode Not = 2
 unaryCode Next = 5
-unaryCode Eventually = 7
-unaryCode Always = 8
+unaryCode (Ever Or) = 7
+unaryCode (Ever And) = 8
 
 abbrev pub joinCode : Join → ℕ
 joinCode And = 3

@@ -2,7 +2,7 @@
 // of `Kind`, and `Kind::of` gives a byte its kind. Where one kind alone matters, other crates compare the byte itself.
 ghost use mathlib.Core.Path.{_≡_};
 ghost use Prim.Native.Nat.{_≤_};
-ghost use Rattle.kinds.specs.Kinds.{kindOf};
+ghost use Rattle.kinds.specs.Kinds.{kindOf, joinCode};
 
 // A node with no operand: a constant, a proposition, or the place holder of a slot.
 pub enum Leaf {
@@ -11,18 +11,30 @@ pub enum Leaf {
     Hold(u8),
 }
 
-// A node with one operand.
-pub enum Unary {
-    Not,
-    Next,
-    Eventually,
-    Always,
-}
-
 // The two connectives that are each other's mirror image.
 pub enum Join {
     And,
     Or,
+}
+
+impl Join {
+    // The connective's byte.
+    pub fn code(j: Join) -> u8
+        ensures { λ r. ⌜ r ≡ joinCode j ⌝ }
+    {
+        match j {
+            Join::And => Kind::AND,
+            Join::Or => Kind::OR,
+        }
+    }
+}
+
+// A node with one operand. `Ever` is the operator that unfolds to its operand joined with itself at the next tick: by or it is
+// eventually, by and it is always.
+pub enum Unary {
+    Not,
+    Next,
+    Ever(Join),
 }
 
 // A node with two operands.
@@ -77,8 +89,8 @@ impl Kind {
             Kind::OR => Kind::Two(Binary::Joined(Join::Or)),
             Kind::NEXT => Kind::One(Unary::Next),
             Kind::UNTIL => Kind::Two(Binary::Until),
-            Kind::EVENTUALLY => Kind::One(Unary::Eventually),
-            Kind::ALWAYS => Kind::One(Unary::Always),
+            Kind::EVENTUALLY => Kind::One(Unary::Ever(Join::Or)),
+            Kind::ALWAYS => Kind::One(Unary::Ever(Join::And)),
             _ => Kind::of_range(b),
         }
     }

@@ -6,7 +6,7 @@ use Prim.Native.Nat.{ℕ, _+_}
 use native.Mathlib.Omega.{arith}
 use lib.ListN.{length, length-append}
 use Rattle.kinds.specs.declared.Leaf.the-variants.{Const, Prop, Hold}
-use Rattle.kinds.specs.declared.Unary.the-variants.{Not, Next, Eventually, Always}
+use Rattle.kinds.specs.declared.Unary.the-variants.{Not, Next, Ever}
 use Rattle.kinds.specs.declared.Binary.the-variants.{Joined, Until}
 use Rattle.ltl.specs.Formula.{Formula, leaf, one, two, size}
 use Rattle.network.specs.Layout.{Laid, cut, looked, laid}
@@ -23,8 +23,7 @@ held t (leaf (Prop i)) = 0
 held t (leaf (Hold m)) = t m
 held t (one Not f) = held t f
 held t (one Next f) = 0
-held t (one Eventually f) = 0
-held t (one Always f) = 0
+held t (one (Ever j) f) = 0
 held t (two (Joined j) f g) = held t f + held t g
 held t (two Until f g) = 0
 
@@ -34,8 +33,7 @@ held-none (leaf (Prop i)) = refl
 held-none (leaf (Hold m)) = refl
 held-none (one Not f) = held-none f
 held-none (one Next f) = refl
-held-none (one Eventually f) = refl
-held-none (one Always f) = refl
+held-none (one (Ever j) f) = refl
 held-none (two (Joined j) f g) = omega (arith, held-none f, held-none g)
 held-none (two Until f g) = refl
 
@@ -58,8 +56,7 @@ module _ (choose : Formula → Option ℕ) (hold : ℕ → ℕ → Laid) (t : �
   laid-slots (leaf (Hold m)) b k h = let e = h k in omega arith
   laid-slots (one Not f) b k h = looked-count slotsIn (λ c k x. omega arith) f b k (held t f) (λ c n. laid-slots f c n h)
   laid-slots (one Next f) b k h = refl
-  laid-slots (one Eventually f) b k h = refl
-  laid-slots (one Always f) b k h = refl
+  laid-slots (one (Ever j) f) b k h = refl
   laid-slots (two (Joined j) f g) b k h =
       let x = looked (choose f) b k (laid choose hold f) in
       let y = looked (choose g) b (k + length (x .slots)) (laid choose hold g) in
@@ -82,8 +79,7 @@ module _ (choose : Formula → Option ℕ) (hold : ℕ → ℕ → Laid) (t : �
       let e = looked-count nodesIn (λ c k x. omega arith) f b k (size f + held t f) (λ c n. laid-nodes f c n h) in
       omega arith
   laid-nodes (one Next f) b k h = omega arith
-  laid-nodes (one Eventually f) b k h = omega arith
-  laid-nodes (one Always f) b k h = omega arith
+  laid-nodes (one (Ever j) f) b k h = omega arith
   laid-nodes (two (Joined j) f g) b k h =
       let x = looked (choose f) b k (laid choose hold f) in
       let y = looked (choose g) b (k + length (x .slots)) (laid choose hold g) in

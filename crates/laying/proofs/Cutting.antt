@@ -10,7 +10,8 @@ use lib.ListN.{length, getD, drop, set}
 use Rattle.lists.specs.Runs.{tail, tailAs}
 use Rattle.kinds.specs.declared.Leaf.{Leaf}
 use Rattle.kinds.specs.declared.Leaf.the-variants.{Const, Prop, Hold}
-use Rattle.kinds.specs.declared.Unary.the-variants.{Not, Next, Eventually, Always}
+use Rattle.kinds.specs.declared.Unary.the-variants.{Not, Next, Ever}
+use Rattle.kinds.specs.declared.Join.{Join}
 use Rattle.kinds.specs.declared.Binary.the-variants.{Joined, Until}
 use Rattle.kinds.specs.declared.Kind.{Kind}
 use Rattle.kinds.specs.declared.Kind.the-variants.{Zero, One, Two}
@@ -42,8 +43,7 @@ pub data Stays : Kind → Type 0 where
   constant : {v : Bool} → Stays (Zero (Const v))
   proposition : {i : ℕ} → Stays (Zero (Prop i))
   next : Stays (One Next)
-  eventually : Stays (One Eventually)
-  always : Stays (One Always)
+  ever : {j : Join} → Stays (One (Ever j))
   until : Stays (Two Until)
 
 stays-whole : {u rest : List ℕ} {f : Formula} {i : Kind} → Stays i → Parts u rest f i → (choose : Formula → Option ℕ) (hold : ℕ → ℕ → Laid) (b k : ℕ) → laid choose hold f b k ≡ whole f
@@ -51,8 +51,7 @@ unfolding laid
 stays-whole constant (isZero w e) choose hold b k = refl
 stays-whole proposition (isZero w e) choose hold b k = refl
 stays-whole next (isOne e y) choose hold b k = refl
-stays-whole eventually (isOne e y) choose hold b k = refl
-stays-whole always (isOne e y) choose hold b k = refl
+stays-whole ever (isOne e y) choose hold b k = refl
 stays-whole until (isTwo e y z) choose hold b k = refl
 
 -- there is room for such a part

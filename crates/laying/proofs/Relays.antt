@@ -9,7 +9,7 @@ use lib.ListN.{length}
 use lib.Dec.{eqb}
 use Rattle.lists.specs.Tests.{pick}
 use Rattle.kinds.specs.declared.Leaf.the-variants.{Const, Prop, Hold}
-use Rattle.kinds.specs.declared.Unary.the-variants.{Not, Next, Eventually, Always}
+use Rattle.kinds.specs.declared.Unary.the-variants.{Not, Next, Ever}
 use Rattle.kinds.specs.declared.Binary.the-variants.{Joined, Until}
 use Rattle.ltl.specs.Formula.{Formula, leaf, one, two}
 use Rattle.ltl.specs.Progression.{unfolded}
@@ -31,8 +31,7 @@ module _ (choose : Formula → Option ℕ) where
   laid-same hold hold′ (leaf (Hold m)) b k h = h k
   laid-same hold hold′ (one Not f) b k h = ap (under Not) (looked-same (choose f) b k (laid choose hold f) (laid choose hold′ f) (λ c n. laid-same hold hold′ f c n h))
   laid-same hold hold′ (one Next f) b k h = refl
-  laid-same hold hold′ (one Eventually f) b k h = refl
-  laid-same hold hold′ (one Always f) b k h = refl
+  laid-same hold hold′ (one (Ever j) f) b k h = refl
   laid-same hold hold′ (two (Joined j) f g) b k h =
       ap (λ (x : Laid). beside (Joined j) x (looked (choose g) b (k + length (x .slots)) (laid choose hold g)))
       (looked-same (choose f) b k (laid choose hold f) (laid choose hold′ f) (λ c n. laid-same hold hold′ f c n (h .0)))

@@ -8,7 +8,7 @@ use lib.ListN.{length}
 use lib.Dec.{eqb}
 use Rattle.lists.specs.Tests.{pick}
 use Rattle.kinds.specs.declared.Leaf.the-variants.{Const, Prop, Hold}
-use Rattle.kinds.specs.declared.Unary.the-variants.{Not, Next, Eventually, Always}
+use Rattle.kinds.specs.declared.Unary.the-variants.{Not, Next, Ever}
 use Rattle.kinds.specs.declared.Binary.the-variants.{Joined, Until}
 use Rattle.ltl.specs.Formula.{Formula, leaf, one, two, size}
 use Rattle.network.specs.Layout.{Laid, cut, looked, laid}
@@ -38,8 +38,7 @@ module _ (choose : Formula → Option ℕ) (hold : ℕ → ℕ → Laid) (single
   here-size (leaf (Hold m)) b k = single m k
   here-size (one Not f) b k = ap (1 +_) (looked-size f b k (here-size f))
   here-size (one Next f) b k = refl
-  here-size (one Eventually f) b k = refl
-  here-size (one Always f) b k = refl
+  here-size (one (Ever j) f) b k = refl
   here-size (two (Joined j) f g) b k =
       ap₂ (λ (x y : ℕ). 1 + x + y)
       (looked-size f b k (here-size f))

@@ -6,7 +6,7 @@ use Prim.Native.Nat.{ℕ, zero, suc, _+_}
 use native.Mathlib.Omega.{arith}
 use lib.ListN.{length}
 use Rattle.kinds.specs.declared.Leaf.the-variants.{Const, Prop, Hold}
-use Rattle.kinds.specs.declared.Unary.the-variants.{Not, Next, Eventually, Always}
+use Rattle.kinds.specs.declared.Unary.the-variants.{Not, Next, Ever}
 use Rattle.kinds.specs.declared.Binary.the-variants.{Joined, Until}
 use Rattle.ltl.specs.Formula.{Formula, leaf, one, two, size}
 use Rattle.ltl.specs.Progression.{unfolded}
@@ -23,8 +23,7 @@ holds-any Q h (leaf (Prop i)) = tt
 holds-any Q h (leaf (Hold m)) = h m
 holds-any Q h (one Not f) = holds-any Q h f
 holds-any Q h (one Next f) = tt
-holds-any Q h (one Eventually f) = tt
-holds-any Q h (one Always f) = tt
+holds-any Q h (one (Ever j) f) = tt
 holds-any Q h (two (Joined j) f g) = (holds-any Q h f, holds-any Q h g)
 holds-any Q h (two Until f g) = tt
 

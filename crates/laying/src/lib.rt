@@ -69,8 +69,7 @@ pub fn cut_parts(u: &[u8], tags: &[u32], at: Place, p: &mut [u8], r: &mut [u8]) 
         Kind::One(o) => match o {
             Unary::Not => cut_not(u, tags, at, p, r),
             Unary::Next => put_whole(p, u),
-            Unary::Eventually => put_whole(p, u),
-            Unary::Always => put_whole(p, u),
+            Unary::Ever(_) => put_whole(p, u),
         },
         Kind::Two(o) => match o {
             Binary::Joined(_) => cut_pair(u, tags, at, p, r),

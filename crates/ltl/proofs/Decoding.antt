@@ -18,7 +18,7 @@ use Rattle.kinds.specs.declared.Kind.{Kind}
 use Rattle.kinds.specs.Kinds.{leafWithin, unaryCode, binaryCode}
 use Rattle.kinds.proofs.Codes.{CodeOf, isZero, isOne, isTwo, isNone, code, kind-leaf, kind-unary, kind-binary}
 use Rattle.ltl.specs.Formula.{Formula, leaf, one, two, size, encode, Within, leafOver, over, Coded}
-use Rattle.kinds.specs.declared.Unary.the-variants.{Not, Next, Eventually, Always}
+use Rattle.kinds.specs.declared.Unary.the-variants.{Not, Next, Ever}
 use Rattle.kinds.specs.declared.Binary.the-variants.{Joined, Until}
 use Rattle.ltl.specs.Progression.{unfolded}
 use Rattle.ltl.specs.Decode.{Parsed, Reader, withOne, withSecond, withTwo, node, parse, before, alone, decoded, overAlone, isFormula, isRule}
@@ -171,7 +171,6 @@ pub unfolded-coded : (p s : ℕ) (f : Formula) → Within p s f → Within p s (
 unfolded-coded p s (leaf a) w = w
 unfolded-coded p s (one Not f) w = unfolded-coded p s f w
 unfolded-coded p s (one Next f) w = w
-unfolded-coded p s (one Eventually f) w = (unfolded-coded p s f w, w)
-unfolded-coded p s (one Always f) w = (unfolded-coded p s f w, w)
+unfolded-coded p s (one (Ever j) f) w = (unfolded-coded p s f w, w)
 unfolded-coded p s (two (Joined j) f g) w = (unfolded-coded p s f (w .0), unfolded-coded p s g (w .1))
 unfolded-coded p s (two Until f g) w = (unfolded-coded p s g (w .1), (unfolded-coded p s f (w .0), w))

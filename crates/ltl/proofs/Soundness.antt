@@ -12,7 +12,7 @@ use native.Mathlib.Nat.{eq-or-lt-of-le}
 use native.Mathlib.Omega.{arith}
 use Rattle.lists.specs.Tests.{bit}
 use Rattle.kinds.specs.declared.Leaf.the-variants.{Const, Prop, Hold}
-use Rattle.kinds.specs.declared.Unary.the-variants.{Not, Next, Eventually, Always}
+use Rattle.kinds.specs.declared.Unary.the-variants.{Not, Next, Ever}
 use Rattle.kinds.specs.declared.Join.{Join}
 use Rattle.kinds.specs.declared.Join.the-variants.{And, Or}
 use Rattle.kinds.specs.declared.Binary.the-variants.{Joined, Until}
@@ -85,14 +85,12 @@ module _ (w : Trace) where
   join-step i j f g f′ g′ p q = Iff·trans (joined-keeps (suc i) j f′ g′) (join-same i j f g f′ g′ p q)
 
   -- the three unfoldings mean what they unfold: now, or joined with the same at the next tick
-  ever-now : (i : ℕ) (f : Formula) → (Meets w i f ⊎ Meets w (suc i) (one Eventually f)) ↔ Meets w i (one Eventually f)
-  ever-now i f = (
+  ever-now : (i : ℕ) (j : Join) (f : Formula) → Meets w i (join j f (one Next (one (Ever j) f))) ↔ Meets w i (one (Ever j) f)
+  ever-now i Or f = (
     ⊎-elim (λ h. (i, omega arith, h)) (λ h. (h .0, (let l = h .1 in omega arith), h .2)),
     λ h. ⊎-elim (λ e. inl (subst (λ (k : ℕ). Meets w k f) (sym e) (h .2))) (λ l. inr (h .0, l, h .2)) (eq-or-lt-of-le (h .1)),
   )
-
-  always-now : (i : ℕ) (f : Formula) → (Meets w i f × Meets w (suc i) (one Always f)) ↔ Meets w i (one Always f)
-  always-now i f = (
+  ever-now i And f = (
     λ h k l. ⊎-elim (λ e. subst (λ (k : ℕ). Meets w k f) e (h .0)) (λ q. h .1 k q) (eq-or-lt-of-le l),
     λ h. (h i (omega arith), λ k l. h k (omega arith)),
   )
@@ -123,10 +121,9 @@ module _ (w : Trace) where
   progress-keeps (one Not f) i =
       Iff·trans (negated-keeps (suc i) (progressed (w i) f)) (λ h x. h (progress-keeps f i .1 x), λ h x. h (progress-keeps f i .0 x))
   progress-keeps (one Next f) i = Iff·rfl
-  progress-keeps (one Eventually f) i =
-      Iff·trans (join-step i Or f (one Next (one Eventually f)) (progressed (w i) f) (one Eventually f) (progress-keeps f i) Iff·rfl) (ever-now i f)
-  progress-keeps (one Always f) i =
-      Iff·trans (join-step i And f (one Next (one Always f)) (progressed (w i) f) (one Always f) (progress-keeps f i) Iff·rfl) (always-now i f)
+  progress-keeps (one (Ever j) f) i =
+      let u = one (Ever j) f in
+      Iff·trans (join-step i j f (one Next u) (progressed (w i) f) u (progress-keeps f i) Iff·rfl) (ever-now i j f)
   progress-keeps (two (Joined j) f g) i = join-step i j f g (progressed (w i) f) (progressed (w i) g) (progress-keeps f i) (progress-keeps g i)
   progress-keeps (two Until f g) i =
       let u = two Until f g in
@@ -148,11 +145,11 @@ module _ (v w : Trace) (behind : (i : ℕ) → v (suc i) ≡ w i) where
   shifted (leaf (Hold k)) i = Iff·rfl
   shifted (one Not f) i = (λ h x. h (shifted f i .1 x), λ h x. h (shifted f i .0 x))
   shifted (one Next f) i = shifted f (suc i)
-  shifted (one Eventually f) i = (
-    λ h. from-next (λ k. Meets v k f → Meets w i (one Eventually f)) i (λ k l x. (k, l, shifted f k .0 x)) (h .0) (h .1) (h .2),
+  shifted (one (Ever Or) f) i = (
+    λ h. from-next (λ k. Meets v k f → Meets w i (one (Ever Or) f)) i (λ k l x. (k, l, shifted f k .0 x)) (h .0) (h .1) (h .2),
     λ h. (let l = h .1 in (suc (h .0), omega arith, shifted f (h .0) .1 (h .2))),
   )
-  shifted (one Always f) i =
+  shifted (one (Ever And) f) i =
       (λ h k l. shifted f k .0 (h (suc k) (omega arith)), λ h. from-next (λ k. Meets v k f) i (λ k l. shifted f k .1 (h k l)))
   shifted (two (Joined And) f g) i = (λ h. (shifted f i .0 (h .0), shifted g i .0 (h .1)), λ h. (shifted f i .1 (h .0), shifted g i .1 (h .1)))
   shifted (two (Joined Or) f g) i =

@@ -5,7 +5,7 @@ use mathlib.Core.List.{List, [], _∷_}
 use Rattle.lists.specs.Tests.{pick, either, bit}
 use Rattle.kinds.specs.declared.Leaf.{Leaf}
 use Rattle.kinds.specs.declared.Leaf.the-variants.{Const, Prop, Hold}
-use Rattle.kinds.specs.declared.Unary.the-variants.{Not, Next, Eventually, Always}
+use Rattle.kinds.specs.declared.Unary.the-variants.{Not, Next, Ever}
 use Rattle.kinds.specs.declared.Join.{Join}
 use Rattle.kinds.specs.declared.Join.the-variants.{And, Or}
 use Rattle.kinds.specs.declared.Binary.the-variants.{Joined, Until}
@@ -20,8 +20,7 @@ abbrev pub unfolded : Formula → Formula
 unfolded (leaf a) = leaf a
 unfolded (one Not f) = one Not (unfolded f)
 unfolded (one Next f) = one Next f
-unfolded (one Eventually f) = join Or (unfolded f) (one Next (one Eventually f))
-unfolded (one Always f) = join And (unfolded f) (one Next (one Always f))
+unfolded (one (Ever j) f) = join j (unfolded f) (one Next (one (Ever j) f))
 unfolded (two (Joined j) f g) = join j (unfolded f) (unfolded g)
 unfolded (two Until f g) = join Or (unfolded g) (join And (unfolded f) (one Next (two Until f g)))
 
@@ -68,8 +67,7 @@ resolved e (leaf (Prop i)) = constant (bit e i)
 resolved e (leaf (Hold k)) = leaf (Hold k)
 resolved e (one Not f) = negated (resolved e f)
 resolved e (one Next f) = f
-resolved e (one Eventually f) = one Eventually f
-resolved e (one Always f) = one Always f
+resolved e (one (Ever j) f) = one (Ever j) f
 resolved e (two (Joined j) f g) = joined j (resolved e f) (resolved e g)
 resolved e (two Until f g) = two Until f g
 
@@ -108,7 +106,6 @@ abbrev pub filled : (ℕ → Verdict) → Formula → Formula
 filled held (leaf a) = leaf (filledLeaf held a)
 filled held (one Not f) = one Not (filled held f)
 filled held (one Next f) = one Next f
-filled held (one Eventually f) = one Eventually f
-filled held (one Always f) = one Always f
+filled held (one (Ever j) f) = one (Ever j) f
 filled held (two (Joined j) f g) = join j (filled held f) (filled held g)
 filled held (two Until f g) = two Until f g

@@ -12,7 +12,7 @@ use borrow.Author.Tests.{eqb-true}
 use Rattle.lists.specs.Tests.{pick}
 use Rattle.lists.proofs.Tests.{no-some}
 use Rattle.kinds.specs.declared.Leaf.the-variants.{Const, Prop, Hold}
-use Rattle.kinds.specs.declared.Unary.the-variants.{Not, Next, Eventually, Always}
+use Rattle.kinds.specs.declared.Unary.the-variants.{Not, Next, Ever}
 use Rattle.kinds.specs.declared.Join.{Join}
 use Rattle.kinds.specs.declared.Binary.the-variants.{Joined, Until}
 use Rattle.answers.specs.declared.Verdict.the-variants.{Pending}
@@ -33,8 +33,7 @@ HoldsIn Q (leaf (Prop i)) = Unit {0}
 HoldsIn Q (leaf (Hold m)) = Q m
 HoldsIn Q (one Not f) = HoldsIn Q f
 HoldsIn Q (one Next f) = Unit {0}
-HoldsIn Q (one Eventually f) = Unit {0}
-HoldsIn Q (one Always f) = Unit {0}
+HoldsIn Q (one (Ever j) f) = Unit {0}
 HoldsIn Q (two (Joined j) f g) = HoldsIn Q f × HoldsIn Q g
 HoldsIn Q (two Until f g) = Unit {0}
 
@@ -63,8 +62,7 @@ module _ (choose : Formula → Option ℕ) where
   headed-chosen choice b (one Not f) x c = tt
   headed-chosen choice b (one Next f) x c =
       headed-chosen choice b f (free-clean choose f x) (⊎-elim (λ e. inl (sym (choice .next f) ∙ e)) (λ e. inr (sym (choice .next f) ∙ e)) c)
-  headed-chosen choice b (one Eventually f) x c = tt
-  headed-chosen choice b (one Always f) x c = tt
+  headed-chosen choice b (one (Ever j) f) x c = tt
   headed-chosen choice b (two o f g) x c = tt
 
   pub headed-tops : Choice choose → Tops choose (Headed choose)

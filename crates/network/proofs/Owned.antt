@@ -7,7 +7,7 @@ use mathlib.Core.Path.{_≡_}
 use mathlib.Core.Option.{Option, some}
 use Prim.Native.Nat.{ℕ}
 use Rattle.kinds.specs.declared.Leaf.the-variants.{Const, Prop, Hold}
-use Rattle.kinds.specs.declared.Unary.the-variants.{Not, Next, Eventually, Always}
+use Rattle.kinds.specs.declared.Unary.the-variants.{Not, Next, Ever}
 use Rattle.kinds.specs.declared.Binary.the-variants.{Joined, Until}
 use Rattle.answers.specs.declared.Verdict.{Verdict}
 use Rattle.answers.specs.declared.Verdict.the-variants.{False, True, Pending}
@@ -34,8 +34,7 @@ module _ (choose : Formula → Option ℕ) where
   Clean (leaf (Hold k)) = Unit {0}
   Clean (one Not f) = Clean f
   Clean (one Next f) = Free f
-  Clean (one Eventually f) = Free f
-  Clean (one Always f) = Free f
+  Clean (one (Ever j) f) = Free f
   Clean (two (Joined j) f g) = Clean f × Clean g
   Clean (two Until f g) = Free f × Free g
 
@@ -45,8 +44,7 @@ module _ (choose : Formula → Option ℕ) where
   Headed b (leaf (Hold k)) = Unit {0}
   Headed b (one Not f) = Unit {0}
   Headed b (one Next f) = Headed b f
-  Headed b (one Eventually f) = Unit {0}
-  Headed b (one Always f) = Unit {0}
+  Headed b (one (Ever j) f) = Unit {0}
   Headed b (two o f g) = Unit {0}
 
   abbrev pub OwnTop : ℕ → Formula → Type 0
@@ -62,8 +60,7 @@ module _ (choose : Formula → Option ℕ) where
   Plain b (leaf (Hold k)) = Unit {0}
   Plain b (one Not f) = Plain b f
   Plain b (one Next f) = Free f × Headed b f
-  Plain b (one Eventually f) = ⊥
-  Plain b (one Always f) = ⊥
+  Plain b (one (Ever j) f) = ⊥
   Plain b (two (Joined j) f g) = Plain b f × Plain b g
   Plain b (two Until f g) = ⊥
 
@@ -73,8 +70,7 @@ module _ (choose : Formula → Option ℕ) where
   free-clean (leaf (Hold k)) x = tt
   free-clean (one Not f) x = free-clean f x
   free-clean (one Next f) x = x
-  free-clean (one Eventually f) x = x
-  free-clean (one Always f) x = x
+  free-clean (one (Ever j) f) x = x
   free-clean (two (Joined j) f g) x = (free-clean f (x .0), free-clean g (x .1))
   free-clean (two Until f g) x = x
 
@@ -83,8 +79,7 @@ module _ (choose : Formula → Option ℕ) where
   unfolded-free (leaf a) x = x
   unfolded-free (one Not f) x = unfolded-free f x
   unfolded-free (one Next f) x = x
-  unfolded-free (one Eventually f) x = (unfolded-free f x, x)
-  unfolded-free (one Always f) x = (unfolded-free f x, x)
+  unfolded-free (one (Ever j) f) x = (unfolded-free f x, x)
   unfolded-free (two (Joined j) f g) x = (unfolded-free f (x .0), unfolded-free g (x .1))
   unfolded-free (two Until f g) x = (unfolded-free g (x .1), (unfolded-free f (x .0), x))
 
@@ -92,8 +87,7 @@ module _ (choose : Formula → Option ℕ) where
   unfolded-clean (leaf a) x = x
   unfolded-clean (one Not f) x = unfolded-clean f x
   unfolded-clean (one Next f) x = x
-  unfolded-clean (one Eventually f) x = (free-clean (unfolded f) (unfolded-free f x), x)
-  unfolded-clean (one Always f) x = (free-clean (unfolded f) (unfolded-free f x), x)
+  unfolded-clean (one (Ever j) f) x = (free-clean (unfolded f) (unfolded-free f x), x)
   unfolded-clean (two (Joined j) f g) x = (unfolded-clean f (x .0), unfolded-clean g (x .1))
   unfolded-clean (two Until f g) x = (free-clean (unfolded g) (unfolded-free g (x .1)), (free-clean (unfolded f) (unfolded-free f (x .0)), x))
 
@@ -101,8 +95,7 @@ module _ (choose : Formula → Option ℕ) where
   unfolded-headed b (leaf a) x = x
   unfolded-headed b (one Not f) x = tt
   unfolded-headed b (one Next f) x = x
-  unfolded-headed b (one Eventually f) x = tt
-  unfolded-headed b (one Always f) x = tt
+  unfolded-headed b (one (Ever j) f) x = tt
   unfolded-headed b (two (Joined j) f g) x = tt
   unfolded-headed b (two Until f g) x = tt
 
@@ -110,8 +103,7 @@ module _ (choose : Formula → Option ℕ) where
   unfolded-own-top b (leaf a) x = x
   unfolded-own-top b (one Not f) x = tt
   unfolded-own-top b (one Next f) x = tt
-  unfolded-own-top b (one Eventually f) x = tt
-  unfolded-own-top b (one Always f) x = tt
+  unfolded-own-top b (one (Ever j) f) x = tt
   unfolded-own-top b (two (Joined j) f g) x = tt
   unfolded-own-top b (two Until f g) x = tt
 
@@ -120,8 +112,7 @@ module _ (choose : Formula → Option ℕ) where
   Flat (leaf a) = Unit {0}
   Flat (one Not f) = Flat f
   Flat (one Next f) = Unit {0}
-  Flat (one Eventually f) = ⊥
-  Flat (one Always f) = ⊥
+  Flat (one (Ever j) f) = ⊥
   Flat (two (Joined j) f g) = Flat f × Flat g
   Flat (two Until f g) = ⊥
 
@@ -129,8 +120,7 @@ module _ (choose : Formula → Option ℕ) where
   unfolded-flat (leaf a) = tt
   unfolded-flat (one Not f) = unfolded-flat f
   unfolded-flat (one Next f) = tt
-  unfolded-flat (one Eventually f) = (unfolded-flat f, tt)
-  unfolded-flat (one Always f) = (unfolded-flat f, tt)
+  unfolded-flat (one (Ever j) f) = (unfolded-flat f, tt)
   unfolded-flat (two (Joined j) f g) = (unfolded-flat f, unfolded-flat g)
   unfolded-flat (two Until f g) = (unfolded-flat g, (unfolded-flat f, tt))
 

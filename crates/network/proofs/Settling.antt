@@ -15,7 +15,7 @@ use lib.ListN.{length, set, replicate, length-set, length-replicate}
 use lib.Seq.{getD-set-same, getD-set-other, ext-getD}
 use Rattle.lists.proofs.Tests.{no-true, both-true}
 use Rattle.kinds.specs.declared.Leaf.the-variants.{Const, Prop, Hold}
-use Rattle.kinds.specs.declared.Unary.the-variants.{Not, Next, Eventually, Always}
+use Rattle.kinds.specs.declared.Unary.the-variants.{Not, Next, Ever}
 use Rattle.kinds.specs.declared.Binary.the-variants.{Joined, Until}
 use Rattle.answers.specs.declared.Verdict.{Verdict}
 use Rattle.ltl.specs.Formula.{Formula, leaf, one, two, constant, join}
@@ -36,8 +36,7 @@ filled-same p q (leaf (Prop i)) x = refl
 filled-same p q (leaf (Hold m)) x = ap (λ (v : Verdict). leaf (filledBy v m)) x
 filled-same p q (one Not f) x = ap (one Not) (filled-same p q f x)
 filled-same p q (one Next f) x = refl
-filled-same p q (one Eventually f) x = refl
-filled-same p q (one Always f) x = refl
+filled-same p q (one (Ever j) f) x = refl
 filled-same p q (two (Joined j) f g) x = ap₂ (join j) (filled-same p q f (x .0)) (filled-same p q g (x .1))
 filled-same p q (two Until f g) x = refl
 

@@ -7,7 +7,7 @@ use mathlib.Core.Option.{Option}
 use Prim.Native.Nat.{ℕ}
 use Rattle.lists.specs.Tests.{pick, bit}
 use Rattle.kinds.specs.declared.Leaf.the-variants.{Const, Prop, Hold}
-use Rattle.kinds.specs.declared.Unary.the-variants.{Not, Next, Eventually, Always}
+use Rattle.kinds.specs.declared.Unary.the-variants.{Not, Next, Ever}
 use Rattle.kinds.specs.declared.Join.{Join}
 use Rattle.kinds.specs.declared.Join.the-variants.{And, Or}
 use Rattle.kinds.specs.declared.Binary.the-variants.{Joined, Until}
@@ -31,8 +31,7 @@ now slots later e (leaf (Prop i)) = known (bit e i)
 now slots later e (leaf (Hold k)) = slots k
 now slots later e (one Not f) = opposite (now slots later e f)
 now slots later e (one Next f) = later f
-now slots later e (one Eventually f) = together Or (now slots later e f) (later (one Eventually f))
-now slots later e (one Always f) = together And (now slots later e f) (later (one Always f))
+now slots later e (one (Ever j) f) = together j (now slots later e f) (later (one (Ever j) f))
 now slots later e (two (Joined j) f g) = together j (now slots later e f) (now slots later e g)
 now slots later e (two Until f g) = together Or (now slots later e g) (together And (now slots later e f) (later (two Until f g)))
 
@@ -90,8 +89,7 @@ pub now-unfolded : (slots : ℕ → Verdict) (later : Formula → Verdict) (e : 
 now-unfolded slots later e (leaf a) = refl
 now-unfolded slots later e (one Not f) = ap opposite (now-unfolded slots later e f)
 now-unfolded slots later e (one Next f) = refl
-now-unfolded slots later e (one Eventually f) = ap (λ (v : Verdict). together Or v (later (one Eventually f))) (now-unfolded slots later e f)
-now-unfolded slots later e (one Always f) = ap (λ (v : Verdict). together And v (later (one Always f))) (now-unfolded slots later e f)
+now-unfolded slots later e (one (Ever j) f) = ap (λ (v : Verdict). together j v (later (one (Ever j) f))) (now-unfolded slots later e f)
 now-unfolded slots later e (two (Joined j) f g) = ap₂ (together j) (now-unfolded slots later e f) (now-unfolded slots later e g)
 now-unfolded slots later e (two Until f g) =
     ap₂ (λ (v w : Verdict). together Or v (together And w (later (two Until f g)))) (now-unfolded slots later e g) (now-unfolded slots later e f)
@@ -100,8 +98,7 @@ pub value-unfolded : (E : Env) (u : List Event) (f : Formula) → value E u (unf
 value-unfolded E [] (leaf a) = refl
 value-unfolded E [] (one Not f) = refl
 value-unfolded E [] (one Next f) = refl
-value-unfolded E [] (one Eventually f) = refl
-value-unfolded E [] (one Always f) = refl
+value-unfolded E [] (one (Ever j) f) = refl
 value-unfolded E [] (two (Joined j) f g) = refl
 value-unfolded E [] (two Until f g) = refl
 value-unfolded E (e ∷ u) f = now-unfolded (E (e ∷ u)) (λ g. value E u g) e f
@@ -121,10 +118,8 @@ value-progressed e u (leaf (Prop i)) = value-constant never u (bit e i)
 value-progressed e u (leaf (Hold k)) = held-never u k
 value-progressed e u (one Not f) = value-negated never u (progressed e f) ∙ ap opposite (value-progressed e u f)
 value-progressed e u (one Next f) = refl
-value-progressed e u (one Eventually f) =
-    value-joined never u Or (progressed e f) (one Eventually f) ∙ ap (λ (v : Verdict). together Or v (value never u (one Eventually f))) (value-progressed e u f)
-value-progressed e u (one Always f) =
-    value-joined never u And (progressed e f) (one Always f) ∙ ap (λ (v : Verdict). together And v (value never u (one Always f))) (value-progressed e u f)
+value-progressed e u (one (Ever j) f) =
+    value-joined never u j (progressed e f) (one (Ever j) f) ∙ ap (λ (v : Verdict). together j v (value never u (one (Ever j) f))) (value-progressed e u f)
 value-progressed e u (two (Joined j) f g) = value-joined never u j (progressed e f) (progressed e g) ∙ ap₂ (together j) (value-progressed e u f) (value-progressed e u g)
 value-progressed e u (two Until f g) =
     value-joined never u Or (progressed e g) (joined And (progressed e f) (two Until f g))
@@ -142,8 +137,7 @@ module _ (choose : Formula → Option ℕ) where
   now-free s t l m e h (leaf (Prop i)) x = refl
   now-free s t l m e h (one Not f) x = ap opposite (now-free s t l m e h f x)
   now-free s t l m e h (one Next f) x = h f x
-  now-free s t l m e h (one Eventually f) x = ap₂ (together Or) (now-free s t l m e h f x) (h (one Eventually f) x)
-  now-free s t l m e h (one Always f) x = ap₂ (together And) (now-free s t l m e h f x) (h (one Always f) x)
+  now-free s t l m e h (one (Ever j) f) x = ap₂ (together j) (now-free s t l m e h f x) (h (one (Ever j) f) x)
   now-free s t l m e h (two (Joined j) f g) x = ap₂ (together j) (now-free s t l m e h f (x .0)) (now-free s t l m e h g (x .1))
   now-free s t l m e h (two Until f g) x =
       ap₂ (together Or) (now-free s t l m e h g (x .1)) (ap₂ (together And) (now-free s t l m e h f (x .0)) (h (two Until f g) x))

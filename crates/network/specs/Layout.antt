@@ -9,7 +9,7 @@ use lib.Dec.{eqb}
 use Rattle.lists.specs.Tests.{pick}
 use Rattle.kinds.specs.declared.Leaf.the-variants.{Const, Prop, Hold}
 use Rattle.kinds.specs.declared.Unary.{Unary}
-use Rattle.kinds.specs.declared.Unary.the-variants.{Not, Next, Eventually, Always}
+use Rattle.kinds.specs.declared.Unary.the-variants.{Not, Next, Ever}
 use Rattle.kinds.specs.declared.Binary.{Binary}
 use Rattle.kinds.specs.declared.Binary.the-variants.{Joined, Until}
 use Rattle.ltl.specs.Formula.{Formula, leaf, one, two, constant}
@@ -53,8 +53,7 @@ laid choose hold (leaf (Prop i)) b k = whole (leaf (Prop i))
 laid choose hold (leaf (Hold m)) b k = hold m k
 laid choose hold (one Not f) b k = under Not (looked (choose f) b k (laid choose hold f))
 laid choose hold (one Next f) b k = whole (one Next f)
-laid choose hold (one Eventually f) b k = whole (one Eventually f)
-laid choose hold (one Always f) b k = whole (one Always f)
+laid choose hold (one (Ever j) f) b k = whole (one (Ever j) f)
 laid choose hold (two (Joined j) f g) b k =
     let x = looked (choose f) b k (laid choose hold f) in
     beside (Joined j) x (looked (choose g) b (k + length (x .slots)) (laid choose hold g))

@@ -3,7 +3,7 @@ use mathlib.Core.Path.{_≡_, refl, sym, subst}
 use Rattle.kinds.specs.Kinds.{leafCoded}
 use Rattle.kinds.specs.declared.Leaf.{Leaf}
 use Rattle.kinds.specs.declared.Leaf.the-variants.{Const, Prop, Hold}
-use Rattle.kinds.specs.declared.Unary.the-variants.{Not, Next, Eventually, Always}
+use Rattle.kinds.specs.declared.Unary.the-variants.{Not, Next, Ever}
 use Rattle.kinds.specs.declared.Join.{Join}
 use Rattle.kinds.specs.declared.Binary.the-variants.{Joined, Until}
 use Rattle.answers.specs.declared.Verdict.{Verdict}
@@ -45,7 +45,6 @@ pub settled-coded : (seen : Seen) (f : Formula) → Coded f → Coded (settled s
 settled-coded seen (leaf a) w = subst (λ (x : Formula). Coded x) (sym (settled-leaf seen a)) (leaf-coded seen a w)
 settled-coded seen (one Not f) w = negated-coded (settled seen f) (settled-coded seen f w)
 settled-coded seen (one Next f) w = w
-settled-coded seen (one Eventually f) w = w
-settled-coded seen (one Always f) w = w
+settled-coded seen (one (Ever j) f) w = w
 settled-coded seen (two (Joined j) f g) w = joined-coded j (settled seen f) (settled seen g) (settled-coded seen f (w .0)) (settled-coded seen g (w .1))
 settled-coded seen (two Until f g) w = w

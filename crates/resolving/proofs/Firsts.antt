@@ -11,7 +11,7 @@ use Rattle.lists.proofs.Tests.{either-right}
 use Rattle.ltl.proofs.Equal.{sameBool-refl}
 use Rattle.kinds.specs.declared.Leaf.the-variants.{Const, Prop, Hold}
 use Rattle.kinds.specs.declared.Unary.{Unary}
-use Rattle.kinds.specs.declared.Unary.the-variants.{Not, Next, Eventually, Always}
+use Rattle.kinds.specs.declared.Unary.the-variants.{Not, Next, Ever}
 use Rattle.kinds.specs.declared.Join.{Join}
 use Rattle.kinds.specs.declared.Join.the-variants.{And, Or}
 use Rattle.kinds.specs.declared.Binary.{Binary}
@@ -33,8 +33,8 @@ first-is (two o f g) l = refl
 pub unary-high : (o : Unary) → 2 ≤ unaryCode o
 unary-high Not = omega arith
 unary-high Next = omega arith
-unary-high Eventually = omega arith
-unary-high Always = omega arith
+unary-high (Ever And) = omega arith
+unary-high (Ever Or) = omega arith
 
 pub binary-high : (o : Binary) → 2 ≤ binaryCode o
 binary-high (Joined And) = omega arith

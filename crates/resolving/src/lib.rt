@@ -123,8 +123,7 @@ fn resolve(p: &mut [u8], from: usize, seen: Seen) -> Settled
         Kind::One(o) => match o {
             Unary::Not => resolve_not(p, from, seen),
             Unary::Next => keep(p, from + 1),
-            Unary::Eventually => keep(p, from),
-            Unary::Always => keep(p, from),
+            Unary::Ever(_) => keep(p, from),
         },
         Kind::Two(o) => match o {
             Binary::Joined(j) => match j {

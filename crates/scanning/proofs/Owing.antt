@@ -17,7 +17,7 @@ use Rattle.limits.specs.Limits.{propositionsMost, holderCodes}
 use Rattle.lists.specs.Tests.{pick, both, bit}
 use Rattle.lists.proofs.Tests.{no-true}
 use Rattle.kinds.specs.declared.Leaf.the-variants.{Const, Prop, Hold}
-use Rattle.kinds.specs.declared.Unary.the-variants.{Not, Next, Eventually, Always}
+use Rattle.kinds.specs.declared.Unary.the-variants.{Not, Next, Ever}
 use Rattle.kinds.specs.declared.Binary.the-variants.{Joined, Until}
 use Rattle.kinds.specs.declared.Kind.{Kind}
 use Rattle.kinds.specs.Kinds.{kindOf}
@@ -76,8 +76,7 @@ outside-scans a b (isZero {a = Hold m} e c) n seen y h =
     rw (lt-ltb m 64 c) (on-owed-if (both (holdable a m) (not (bit seen m))) n 0 (bitOr seen (2 ^ m)) n y h (omega arith))
 outside-scans a b (isOne {o = Not} e) n seen y h = on-owed (n + 1) 0 seen (n + 1) y h (omega arith)
 outside-scans a b (isOne {o = Next} e) n seen y h = on-owed n 1 seen (n + 1) y h refl
-outside-scans a b (isOne {o = Eventually} e) n seen y h = on-owed-if (a .temporal) n 1 seen (n + 1) y h refl
-outside-scans a b (isOne {o = Always} e) n seen y h = on-owed-if (a .temporal) n 1 seen (n + 1) y h refl
+outside-scans a b (isOne {o = Ever j} e) n seen y h = on-owed-if (a .temporal) n 1 seen (n + 1) y h refl
 outside-scans a b (isTwo {o = Joined j} e) n seen y h = on-owed (n + 2) 0 seen (n + 2) y h (omega arith)
 outside-scans a b (isTwo {o = Until} e) n seen y h = on-owed-if (a .temporal) n 2 seen (n + 2) y h refl
 outside-scans a b isNone n seen y h = absurd (off-on y h)

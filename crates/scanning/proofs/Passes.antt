@@ -15,7 +15,7 @@ use Rattle.lists.proofs.Tests.{both-0, both-1}
 use Rattle.kinds.specs.declared.Leaf.{Leaf}
 use Rattle.kinds.specs.declared.Leaf.the-variants.{Const, Prop, Hold}
 use Rattle.kinds.specs.declared.Unary.{Unary}
-use Rattle.kinds.specs.declared.Unary.the-variants.{Not, Next, Eventually, Always}
+use Rattle.kinds.specs.declared.Unary.the-variants.{Not, Next, Ever}
 use Rattle.kinds.specs.declared.Binary.{Binary}
 use Rattle.kinds.specs.declared.Binary.the-variants.{Joined, Until}
 use Rattle.kinds.specs.declared.Kind.{Kind}
@@ -43,8 +43,7 @@ unfoldable pub stands : Allowed → Formula → Bool
 stands a (leaf l) = leafStands a l
 stands a (one Not f) = stands a f
 stands a (one Next f) = over (a .propositions) 0 f
-stands a (one Eventually f) = both (a .temporal) (over (a .propositions) 0 f)
-stands a (one Always f) = both (a .temporal) (over (a .propositions) 0 f)
+stands a (one (Ever j) f) = both (a .temporal) (over (a .propositions) 0 f)
 stands a (two (Joined j) f g) = both (stands a f) (stands a g)
 stands a (two Until f g) = both (a .temporal) (both (over (a .propositions) 0 f) (over (a .propositions) 0 g))
 
@@ -240,8 +239,7 @@ pass-outside a (one Not f) n seen l c = cons-outside a 2 n seen (encode f ++ l) 
 pass-outside a (one Next f) n seen l c =
     cons-outside a 5 n seen (encode f ++ l)
     ∙ rw (kind-unary Next) (pass-inside a f n 0 seen l c ∙ inside-checked (a .propositions) f seen (λ s. pass a l (at n 0 s)))
-pass-outside a (one Eventually f) n seen l c = cons-outside a 7 n seen (encode f ++ l) ∙ rw (kind-unary Eventually) (temporal-one a f n seen l c)
-pass-outside a (one Always f) n seen l c = cons-outside a 8 n seen (encode f ++ l) ∙ rw (kind-unary Always) (temporal-one a f n seen l c)
+pass-outside a (one (Ever j) f) n seen l c = cons-outside a (unaryCode (Ever j)) n seen (encode f ++ l) ∙ rw (kind-unary (Ever j)) (temporal-one a f n seen l c)
 pass-outside a (two (Joined j) f g) n seen l c =
     let e : n + 2 ≡ suc (suc n) = omega arith in
     cons-outside a (binaryCode (Joined j)) n seen ((encode f ++ encode g) ++ l)

@@ -10,7 +10,7 @@ use Rattle.lists.specs.Tests.{pick, both, bit}
 use Rattle.kinds.specs.declared.Leaf.{Leaf}
 use Rattle.kinds.specs.declared.Leaf.the-variants.{Const, Prop, Hold}
 use Rattle.kinds.specs.declared.Unary.{Unary}
-use Rattle.kinds.specs.declared.Unary.the-variants.{Not, Next, Eventually, Always}
+use Rattle.kinds.specs.declared.Unary.the-variants.{Not, Next, Ever}
 use Rattle.kinds.specs.declared.Binary.{Binary}
 use Rattle.kinds.specs.declared.Binary.the-variants.{Joined, Until}
 use Rattle.kinds.specs.declared.Kind.{Kind}
@@ -49,8 +49,7 @@ leafOutside a (Hold m) n seen = pick (both (holdable a m) (not (bit seen m))) (O
 abbrev pub unaryOutside : Bool → Unary → ℕ → ℕ → Passed
 unaryOutside temporal Not n seen = On (at (n + 1) 0 seen)
 unaryOutside temporal Next n seen = On (at n 1 seen)
-unaryOutside temporal Eventually n seen = pick temporal (On (at n 1 seen)) Off
-unaryOutside temporal Always n seen = pick temporal (On (at n 1 seen)) Off
+unaryOutside temporal (Ever j) n seen = pick temporal (On (at n 1 seen)) Off
 
 abbrev pub binaryOutside : Bool → Binary → ℕ → ℕ → Passed
 binaryOutside temporal (Joined j) n seen = On (at (n + 2) 0 seen)

@@ -103,12 +103,7 @@ fn unary_outside(o: Unary, temporal: bool, others: usize, seen: u64) -> Passed
             seen: seen,
         }),
         Unary::Next => Passed::On(within),
-        Unary::Eventually => if temporal {
-            Passed::On(within)
-        } else {
-            Passed::Off
-        },
-        Unary::Always => if temporal {
+        Unary::Ever(_) => if temporal {
             Passed::On(within)
         } else {
             Passed::Off

@@ -8,7 +8,7 @@ use lib.Dec.{leb, ltb, eqb}
 use lib.Bits.{bitAnd}
 use Rattle.lists.specs.Tests.{pick, both, either, inRange, bit}
 use Rattle.kinds.specs.declared.Leaf.the-variants.{Const, Prop, Hold}
-use Rattle.kinds.specs.declared.Unary.the-variants.{Not, Next, Eventually, Always}
+use Rattle.kinds.specs.declared.Unary.the-variants.{Not, Next, Ever}
 use Rattle.kinds.specs.declared.Binary.the-variants.{Joined, Until}
 use Rattle.limits.specs.Limits.{boardsMost, propositionsMost, nodesMost}
 use Rattle.ltl.specs.Formula.{Formula, leaf, one, two, over}
@@ -48,8 +48,7 @@ unfoldable pub tidy : Formula → Bool
 tidy (leaf a) = true
 tidy (one Not f) = tidy f
 tidy (one Next f) = holdsOnly (λ m. false) f
-tidy (one Eventually f) = holdsOnly (λ m. false) f
-tidy (one Always f) = holdsOnly (λ m. false) f
+tidy (one (Ever j) f) = holdsOnly (λ m. false) f
 tidy (two (Joined j) f g) = both (tidy f) (tidy g)
 tidy (two Until f g) = both (holdsOnly (λ m. false) f) (holdsOnly (λ m. false) g)
 
@@ -60,8 +59,7 @@ unfoldedOwn mask (leaf (Prop i)) = bit mask i
 unfoldedOwn mask (leaf (Hold m)) = true
 unfoldedOwn mask (one Not f) = unfoldedOwn mask f
 unfoldedOwn mask (one Next f) = true
-unfoldedOwn mask (one Eventually f) = false
-unfoldedOwn mask (one Always f) = false
+unfoldedOwn mask (one (Ever j) f) = false
 unfoldedOwn mask (two (Joined j) f g) = both (unfoldedOwn mask f) (unfoldedOwn mask g)
 unfoldedOwn mask (two Until f g) = false
 

@@ -12,7 +12,7 @@ use borrow.Author.Tests.{eq-eqb, ne-eqb}
 use Rattle.lists.specs.Tests.{pick, either, bit}
 use Rattle.lists.proofs.Tests.{either-right, no-bits}
 use Rattle.kinds.specs.declared.Leaf.the-variants.{Const, Prop, Hold}
-use Rattle.kinds.specs.declared.Unary.the-variants.{Not, Next, Eventually, Always}
+use Rattle.kinds.specs.declared.Unary.the-variants.{Not, Next, Ever}
 use Rattle.kinds.specs.declared.Binary.the-variants.{Joined, Until}
 use Rattle.answers.specs.declared.Verdict.{Verdict}
 use Rattle.answers.specs.declared.Verdict.the-variants.{False, True, Pending}
@@ -115,8 +115,7 @@ held-each Q (leaf (Prop i)) h = tt
 held-each Q (leaf (Hold m)) h = h .0
 held-each Q (one Not f) h = held-each Q f h
 held-each Q (one Next f) h = tt
-held-each Q (one Eventually f) h = tt
-held-each Q (one Always f) h = tt
+held-each Q (one (Ever j) f) h = tt
 held-each Q (two (Joined j) f g) h = let b = each-both Q (heldBy f) (heldBy g) h in (held-each Q f (b .0), held-each Q g (b .1))
 held-each Q (two Until f g) h = tt
 

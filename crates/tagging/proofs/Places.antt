@@ -8,7 +8,7 @@ use lib.ListN.{length, getD, drop}
 use lib.Seq.{getD-drop}
 use Rattle.lists.specs.Runs.{tail, tailAs}
 use Rattle.lists.proofs.Parts.{handed-length, handed-back, handed-front}
-use Rattle.kinds.specs.declared.Unary.the-variants.{Not, Next, Eventually, Always}
+use Rattle.kinds.specs.declared.Unary.the-variants.{Not, Next, Ever}
 use Rattle.kinds.specs.declared.Binary.the-variants.{Joined, Until}
 use Rattle.ltl.specs.Formula.{Formula, leaf, one, two, size}
 use Rattle.ltl.proofs.Decoding.{size-some}
@@ -33,8 +33,7 @@ tagged-same choose (one Not f) xs ys h m =
     let d = agree-drop 1 (size f) (1 + size f) xs ys (omega arith) h in
     (tags-alike (d 0 (size-some f)) (m .0), tagged-same choose f (drop 1 xs) (drop 1 ys) d (m .1))
 tagged-same choose (one Next f) xs ys h m = tt
-tagged-same choose (one Eventually f) xs ys h m = tt
-tagged-same choose (one Always f) xs ys h m = tt
+tagged-same choose (one (Ever j) f) xs ys h m = tt
 tagged-same choose (two (Joined j) f g) xs ys h m =
     let d = agree-drop 1 (size f) (1 + size f + size g) xs ys (omega arith) h in
     let e = agree-drop (1 + size f) (size g) (1 + size f + size g) xs ys (omega arith) h in (

@@ -9,7 +9,7 @@ use lib.ListN.{length, drop}
 use Rattle.lists.specs.Runs.{tail, tailAs}
 use Rattle.kinds.specs.declared.Leaf.{Leaf}
 use Rattle.kinds.specs.declared.Unary.{Unary}
-use Rattle.kinds.specs.declared.Unary.the-variants.{Not, Next, Eventually, Always}
+use Rattle.kinds.specs.declared.Unary.the-variants.{Not, Next, Ever}
 use Rattle.kinds.specs.declared.Join.{Join}
 use Rattle.kinds.specs.declared.Binary.{Binary}
 use Rattle.kinds.specs.declared.Binary.the-variants.{Joined, Until}
@@ -70,13 +70,9 @@ module _ {owner u rest : List ℕ} {f : Formula} {on : ℕ} {tags tags′ : List
   unfolding hereOn
   next-done x = one-whole Next x (λ g choose b. refl) (λ g choose. tt)
 
-  pub eventually-done : Single u rest f Eventually → TaggedAs owner f on tags′ r
+  pub ever-done : {j : Join} → Single u rest f (Ever j) → TaggedAs owner f on tags′ r
   unfolding hereOn
-  eventually-done x = one-whole Eventually x (λ g choose b. refl) (λ g choose. tt)
-
-  pub always-done : Single u rest f Always → TaggedAs owner f on tags′ r
-  unfolding hereOn
-  always-done x = one-whole Always x (λ g choose b. refl) (λ g choose. tt)
+  ever-done {j} x = one-whole (Ever j) x (λ g choose b. refl) (λ g choose. tt)
 
   pub until-done : Double u rest f Until → TaggedAs owner f on tags′ r
   unfolding hereOn

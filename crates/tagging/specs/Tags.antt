@@ -6,7 +6,7 @@ use mathlib.Core.Option.{Option}
 use lib.ListN.{getD, drop, set}
 use lib.Dec.{eqb}
 use Rattle.lists.specs.Tests.{pick}
-use Rattle.kinds.specs.declared.Unary.the-variants.{Not, Next, Eventually, Always}
+use Rattle.kinds.specs.declared.Unary.the-variants.{Not, Next, Ever}
 use Rattle.kinds.specs.declared.Binary.the-variants.{Joined, Until}
 use Rattle.limits.specs.Limits.{boardsMost, nodesRoom}
 use Rattle.ltl.specs.Formula.{Formula, leaf, one, two, size, Within}
@@ -26,8 +26,7 @@ unfoldable pub hereOn : (Formula → Option ℕ) → Formula → ℕ → ℕ
 hereOn choose (leaf a) b = 1
 hereOn choose (one Not f) b = 1 + lookedAs (choose f) b (hereOn choose f) (λ c. 1)
 hereOn choose (one Next f) b = 1 + size f
-hereOn choose (one Eventually f) b = 1 + size f
-hereOn choose (one Always f) b = 1 + size f
+hereOn choose (one (Ever j) f) b = 1 + size f
 hereOn choose (two (Joined j) f g) b = 1 + lookedAs (choose f) b (hereOn choose f) (λ c. 1) + lookedAs (choose g) b (hereOn choose g) (λ c. 1)
 hereOn choose (two Until f g) b = 1 + size f + size g
 
@@ -41,8 +40,7 @@ abbrev pub Tagged : (Formula → Option ℕ) → Formula → List ℕ → Type 0
 Tagged choose (leaf a) tags = Unit {0}
 Tagged choose (one Not f) tags = Tags choose f boardsMost (getD (drop 1 tags) 0 0) × Tagged choose f (drop 1 tags)
 Tagged choose (one Next f) tags = Unit {0}
-Tagged choose (one Eventually f) tags = Unit {0}
-Tagged choose (one Always f) tags = Unit {0}
+Tagged choose (one (Ever j) f) tags = Unit {0}
 Tagged choose (two (Joined j) f g) tags =
     (Tags choose f boardsMost (getD (drop 1 tags) 0 0) × Tagged choose f (drop 1 tags))
     × (Tags choose g boardsMost (getD (drop (1 + size f) tags) 0 0) × Tagged choose g (drop (1 + size f) tags))

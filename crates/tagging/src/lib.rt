@@ -107,8 +107,7 @@ pub fn tag(u: &[u8], tags: &mut [u32], owner: &[u8], on: u8) -> TaggedPart
                 over_not(tags, a, on)
             }
             Unary::Next => tag_whole(u, tags, owner, on),
-            Unary::Eventually => tag_whole(u, tags, owner, on),
-            Unary::Always => tag_whole(u, tags, owner, on),
+            Unary::Ever(_) => tag_whole(u, tags, owner, on),
         },
         Kind::Two(o) => match o {
             Binary::Joined(_) => {

@@ -8,12 +8,12 @@ use lib.ListN.{length}
 use Rattle.lists.specs.Runs.{tail}
 use Rattle.kinds.specs.declared.Leaf.{Leaf}
 use Rattle.kinds.specs.declared.Unary.{Unary}
-use Rattle.kinds.specs.declared.Unary.the-variants.{Not, Next}
+use Rattle.kinds.specs.declared.Unary.the-variants.{Not, Next, Ever}
 use Rattle.kinds.specs.declared.Join.{Join}
 use Rattle.kinds.specs.declared.Binary.{Binary}
 use Rattle.kinds.specs.declared.Binary.the-variants.{Joined, Until}
 use Rattle.kinds.specs.declared.Kind.the-variants.{Zero}
-use Rattle.ltl.specs.Formula.{Formula, one, size}
+use Rattle.ltl.specs.Formula.{Formula, size}
 use Rattle.ltl.specs.Progression.{unfolded}
 use Rattle.nodes.proofs.Fronts.{Parts, isZero, Single, Double}
 use Rattle.unfolding.specs.Unfolds.{Counted}
@@ -43,9 +43,8 @@ module _ {s rest : List ℕ} {f : Formula} {r w : ℕ} where
   counted-next x h k = let a = h _ _ (x .front) in rw (x .same) (omega arith, omega arith)
 
   -- eventually and always
-  pub counted-ever : {o : Unary} {n : ℕ} → ((g : Formula) → size (unfolded (one o g)) ≡ 3 + size (unfolded g) + size g) → Single s rest f o → Counted (tail 1 s) r w
-      → n ≡ min (2 + w + (1 + r)) 4097 → Count f (1 + r) n
-  counted-ever grows x h e = let a = h _ _ (x .front) in let g = grows (x .operand) in rw (x .same) (omega arith, omega arith)
+  pub counted-ever : {j : Join} {n : ℕ} → Single s rest f (Ever j) → Counted (tail 1 s) r w → n ≡ min (2 + w + (1 + r)) 4097 → Count f (1 + r) n
+  counted-ever x h e = let a = h _ _ (x .front) in rw (x .same) (omega arith, omega arith)
 
 -- ---- two operands
 module _ {s rest : List ℕ} {f : Formula} {r w q v : ℕ} where

@@ -10,18 +10,17 @@ use lib.Seq.{length-take-le}
 use Rattle.lists.proofs.Parts.{tail-length}
 use Rattle.lists.specs.Runs.{tail, tailAs}
 use Rattle.kinds.specs.declared.Leaf.{Leaf}
-use Rattle.kinds.specs.declared.Unary.{Unary}
-use Rattle.kinds.specs.declared.Unary.the-variants.{Not, Next}
+use Rattle.kinds.specs.declared.Unary.the-variants.{Not, Next, Ever}
 use Rattle.kinds.specs.declared.Join.{Join}
 use Rattle.kinds.specs.declared.Binary.the-variants.{Joined, Until}
 use Rattle.kinds.specs.declared.Kind.the-variants.{Zero, Two}
 use Rattle.kinds.specs.Kinds.{kindOf, leafCode, joinCode}
-use Rattle.ltl.specs.Formula.{Formula, one, two, join, size, encode}
+use Rattle.ltl.specs.Formula.{Formula, one, two, size, encode}
 use Rattle.ltl.specs.Progression.{unfolded}
 use Rattle.ltl.proofs.Decoding.{size-some, length-encode}
 use Rattle.nodes.specs.Begins.{Front, Begins, Ends}
 use Rattle.nodes.proofs.Fronts.{front-length, front-own, front-one-way, front-begins, Parts, isZero, Single, Double}
-use Rattle.unfolding.specs.Unfolds.{Room, UnfoldedTo, Unfolds, RoomBehind, UnfoldedBehind, UnfoldsBehind, Ever, Both}
+use Rattle.unfolding.specs.Unfolds.{Room, UnfoldedTo, Unfolds, RoomBehind, UnfoldedBehind, UnfoldsBehind, Repeated, Both}
 use Rattle.nodes.proofs.Operands.{one-of, two-of, LeftRead, left-read}
 use Rattle.lists.proofs.Stretches.{set-first, put-first, put-more}
 
@@ -105,16 +104,15 @@ under-next {s} {rest} {f} n out x e h =
     rw (length-encode f) at (rw t at h)
 
 -- ---- eventually and always
-pub record EverParts (s rest : List ℕ) (f : Formula) (o : Unary) : Type 0 where
-  pub node : Single s rest f o
+pub record EverParts (s rest : List ℕ) (f : Formula) (j : Join) : Type 0 where
+  pub node : Single s rest f (Ever j)
   pub grown : size (unfolded f) ≡ 3 + size (unfolded (node .operand)) + size (node .operand)
 
-module _ {out s : List ℕ} {b : ℕ} (p : Room out s × Ever s b) where
-  pub ever : EverParts s (p .0 .begins .rest) (p .0 .begins .formula) (p .1 .operator)
+module _ {out s : List ℕ} {b : ℕ} (p : Room out s × Repeated s b) where
+  pub ever : EverParts s (p .0 .begins .rest) (p .0 .begins .formula) (p .1 .by)
   ever =
       let x = one-of (p .0 .begins .front) refl (p .1 .kind) in
-      let e : size (unfolded (p .0 .begins .formula)) ≡ size (join (p .1 .by) (unfolded (x .operand)) (one Next (one (p .1 .operator) (x .operand)))) =
-      ap (λ (f : Formula). size (unfolded f)) (x .same) ∙ ap size (p .1 .unfolds (x .operand)) in
+      let e = ap (λ (f : Formula). size (unfolded f)) (x .same) in
       record { node = x; grown = omega arith }
 
   pub room-ever : RoomBehind out (tail 1 s)
@@ -139,8 +137,7 @@ module _ {out s : List ℕ} {b : ℕ} (p : Room out s × Ever s b) where
         let z = ap size (x .node .same) in
         let l = length-encode (unfolded g) in
         let A : List ℕ = b ∷ encode (unfolded g) in
-        let e : encode (unfolded f) ≡ joinCode (p .1 .by) ∷ (encode (unfolded g) ++ (5 ∷ encode (one (p .1 .operator) g))) =
-        ap (λ (k : Formula). encode (unfolded k)) (x .node .same) ∙ ap encode (p .1 .unfolds g) in
+        let e : encode (unfolded f) ≡ joinCode (p .1 .by) ∷ (encode (unfolded g) ++ (5 ∷ encode (one (Ever (p .1 .by)) g))) = ap (λ (k : Formula). encode (unfolded k)) (x .node .same) in
         let k = under-next (1 + r) (tail w out₁) (p .0 .begins .front) (omega arith) h in
         let m = put-more out out₁ A (5 ∷ encode f) last w (1 + size f) (omega arith) (rw (y .writes) (y .leaves)) k in
         for-each (p .0 .begins)

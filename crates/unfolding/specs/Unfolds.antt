@@ -3,14 +3,13 @@ use mathlib.Core.Path.{_≡_}
 use Prim.Native.Nat.{ℕ, _+_, _≤_, min}
 use mathlib.Core.List.{List, _∷_, _++_}
 use lib.ListN.{length, getD, drop}
-use Rattle.kinds.specs.declared.Unary.{Unary}
-use Rattle.kinds.specs.declared.Unary.the-variants.{Next}
+use Rattle.kinds.specs.declared.Unary.the-variants.{Ever}
 use Rattle.kinds.specs.declared.Join.{Join}
 use Rattle.kinds.specs.declared.Binary.the-variants.{Joined}
 use Rattle.kinds.specs.declared.Kind.the-variants.{One, Two}
 use Rattle.kinds.specs.Kinds.{kindOf, joinCode}
 use Rattle.limits.specs.Limits.{nodesRoom}
-use Rattle.ltl.specs.Formula.{Formula, one, join, size, encode}
+use Rattle.ltl.specs.Formula.{Formula, size, encode}
 use Rattle.ltl.specs.Progression.{unfolded}
 use Rattle.nodes.specs.Begins.{Front, Begins}
 
@@ -48,13 +47,11 @@ pub record UnfoldedBehind (b : ℕ) (f : Formula) (out out′ : List ℕ) (read 
 abbrev pub UnfoldsBehind : ℕ → List ℕ → List ℕ → List ℕ → ℕ → ℕ → Type 0
 UnfoldsBehind b out s out′ read written = (f : Formula) (rest : List ℕ) → Front s f rest → UnfoldedBehind b f out out′ read written
 
--- the first byte is an operator that unfolds to its operand, unfolded, joined with itself under next; b is the code of that join
-pub record Ever (s : List ℕ) (b : ℕ) : Type 0 where
-  pub operator : Unary
+-- the first byte is eventually or always; b is the code of the join that it unfolds to
+pub record Repeated (s : List ℕ) (b : ℕ) : Type 0 where
   pub by : Join
-  pub kind : kindOf (getD s 0 0) ≡ One operator
+  pub kind : kindOf (getD s 0 0) ≡ One (Ever by)
   pub code : b ≡ joinCode by
-  pub unfolds : (f : Formula) → unfolded (one operator f) ≡ join by (unfolded f) (one Next (one operator f))
 
 -- the first byte is a join; b is its code
 pub record Both (s : List ℕ) (b : ℕ) : Type 0 where

@@ -8,8 +8,9 @@ ghost use Rattle.kinds.specs.declared.Kind.the-variants.{Two};
 ghost use Rattle.kinds.specs.declared.Binary.the-variants.{Until};
 ghost use Rattle.kinds.specs.Kinds.{kindOf};
 ghost use Rattle.nodes.specs.Begins.{Begins};
-ghost use Rattle.unfolding.specs.Unfolds.{Room, Counted, Unfolds, RoomBehind, UnfoldsBehind, Ever, Both};
+ghost use Rattle.unfolding.specs.Unfolds.{Room, Counted, Unfolds, RoomBehind, UnfoldsBehind, Repeated, Both};
 use kinds::Binary;
+use kinds::Join;
 use kinds::Kind;
 use kinds::Unary;
 
@@ -52,11 +53,7 @@ pub fn count_unfolded(s: &[u8]) -> Walk
                     read: n,
                     written: n,
                 },
-                Unary::Eventually => Walk {
-                    read: n,
-                    written: capped(2 + a.written + n),
-                },
-                Unary::Always => Walk {
+                Unary::Ever(_) => Walk {
                     read: n,
                     written: capped(2 + a.written + n),
                 },
@@ -118,8 +115,7 @@ pub fn unfold_into(out: &mut [u8], s: &[u8]) -> Walk
                     written: n,
                 }
             }
-            Unary::Eventually => unfold_ever(out, s, Kind::OR),
-            Unary::Always => unfold_ever(out, s, Kind::AND),
+            Unary::Ever(j) => unfold_ever(out, s, Join::code(j)),
         },
         Kind::Two(o) => match o {
             Binary::Joined(_) => unfold_both(out, s, b),
@@ -157,7 +153,7 @@ fn put_next(out: &mut [u8], f: &[u8])
 
 // Eventually or always: the join, the operand unfolded, and the whole under next.
 fn unfold_ever(out: &mut [u8], s: &[u8], join: u8) -> Walk
-    requires { ⌜ Room (now out) (now s) × Ever (now s) join ⌝ }
+    requires { ⌜ Room (now out) (now s) × Repeated (now s) join ⌝ }
     ensures { λ r. ⌜ Unfolds (now (out .entry)) (now (s .entry)) (now (out .exit)) (r .read) (r .written) ⌝ }
 {
     let a = unfold_behind(out, join, &s[1..]);

@@ -10,7 +10,7 @@ use native.Mathlib.Omega.{arith}
 use lib.ListN.{getD}
 use Rattle.lists.proofs.Tests.{both-true}
 use Rattle.kinds.specs.declared.Leaf.the-variants.{Const, Prop, Hold}
-use Rattle.kinds.specs.declared.Unary.the-variants.{Not, Next, Eventually, Always}
+use Rattle.kinds.specs.declared.Unary.the-variants.{Not, Next, Ever}
 use Rattle.kinds.specs.declared.Binary.the-variants.{Joined, Until}
 use Rattle.answers.specs.declared.Verdict.{Verdict}
 use Rattle.answers.specs.declared.Verdict.the-variants.{False, True, Pending}
@@ -42,8 +42,7 @@ module _ (choose : Formula → Option ℕ) where
   clean-tidy (leaf a) x = refl
   clean-tidy (one Not f) x = clean-tidy f x
   clean-tidy (one Next f) x = free-only choose (λ m. false) f x
-  clean-tidy (one Eventually f) x = free-only choose (λ m. false) f x
-  clean-tidy (one Always f) x = free-only choose (λ m. false) f x
+  clean-tidy (one (Ever j) f) x = free-only choose (λ m. false) f x
   clean-tidy (two (Joined j) f g) x = both-true _ _ (clean-tidy f (x .0)) (clean-tidy g (x .1))
   clean-tidy (two Until f g) x = both-true _ _ (free-only choose (λ m. false) f (x .0)) (free-only choose (λ m. false) g (x .1))
 
@@ -54,8 +53,7 @@ module _ (p : ℕ) (masks : List ℕ) (few : p ≤ 64) (rule : masksRule p masks
   clean-within end (leaf (Hold m)) x h = h
   clean-within end (one Not f) x h = clean-within end f x h
   clean-within end (one Next f) x h = free-within p masks few rule end f x
-  clean-within end (one Eventually f) x h = free-within p masks few rule end f x
-  clean-within end (one Always f) x h = free-within p masks few rule end f x
+  clean-within end (one (Ever j) f) x h = free-within p masks few rule end f x
   clean-within end (two (Joined j) f g) x h = (clean-within end f (x .0) (h .0), clean-within end g (x .1) (h .1))
   clean-within end (two Until f g) x h = (free-within p masks few rule end f (x .0), free-within p masks few rule end g (x .1))
 
@@ -80,8 +78,7 @@ step-times m e held (one Not f) =
     let h = step-times m e held f in
     negated-elim (λ g. timesIn m g ≤ timesIn m f) (resolved e (filled held f)) (λ q. omega arith) (λ q. omega arith) h
 step-times m e held (one Next f) = omega arith
-step-times m e held (one Eventually f) = omega arith
-step-times m e held (one Always f) = omega arith
+step-times m e held (one (Ever j) f) = omega arith
 step-times m e held (two (Joined j) f g) =
     let h = step-times m e held f in
     let i = step-times m e held g in

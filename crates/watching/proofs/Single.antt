@@ -10,7 +10,7 @@ use lib.ListN.{length}
 use Rattle.kinds.specs.declared.Leaf.the-variants.{Const, Prop, Hold}
 use Rattle.kinds.specs.declared.Unary.{Unary}
 use Rattle.kinds.specs.declared.Binary.{Binary}
-use Rattle.kinds.specs.declared.Unary.the-variants.{Not, Next, Eventually, Always}
+use Rattle.kinds.specs.declared.Unary.the-variants.{Not, Next, Ever}
 use Rattle.kinds.specs.declared.Binary.the-variants.{Joined, Until}
 use Rattle.ltl.specs.Formula.{Formula, leaf, one, two, constant, size}
 use Rattle.ltl.specs.Progression.{unfolded}
@@ -36,8 +36,7 @@ module _ (choose : Formula → Option ℕ) where
   laid-single hold h (leaf (Hold m)) b k v e = absurd (h m k v e)
   laid-single hold h (one Not f) b k v e = absurd (one-not Not _ v e)
   laid-single hold h (one Next f) b k v e = refl
-  laid-single hold h (one Eventually f) b k v e = refl
-  laid-single hold h (one Always f) b k v e = refl
+  laid-single hold h (one (Ever j) f) b k v e = refl
   laid-single hold h (two (Joined j) f g) b k v e = absurd (two-not (Joined j) _ _ v e)
   laid-single hold h (two Until f g) b k v e = refl
 

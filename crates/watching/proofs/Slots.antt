@@ -10,7 +10,7 @@ use lib.Dec.{leb, eqb}
 use Rattle.lists.specs.Tests.{both}
 use Rattle.le.specs.Le.{leAt}
 use Rattle.kinds.specs.declared.Leaf.the-variants.{Const, Prop, Hold}
-use Rattle.kinds.specs.declared.Unary.the-variants.{Not, Next, Eventually, Always}
+use Rattle.kinds.specs.declared.Unary.the-variants.{Not, Next, Ever}
 use Rattle.kinds.specs.declared.Binary.the-variants.{Joined, Until}
 use Rattle.ltl.specs.Formula.{Formula, leaf, one, two, Within}
 use Rattle.ltl.specs.Decode.{decoded, someFormula}
@@ -37,8 +37,7 @@ holds-both Q R (leaf (Prop i)) x y = tt
 holds-both Q R (leaf (Hold m)) x y = (x, y)
 holds-both Q R (one Not f) x y = holds-both Q R f x y
 holds-both Q R (one Next f) x y = tt
-holds-both Q R (one Eventually f) x y = tt
-holds-both Q R (one Always f) x y = tt
+holds-both Q R (one (Ever j) f) x y = tt
 holds-both Q R (two (Joined j) f g) x y = (holds-both Q R f (x .0) (y .0), holds-both Q R g (x .1) (y .1))
 holds-both Q R (two Until f g) x y = tt
 

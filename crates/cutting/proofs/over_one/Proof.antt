@@ -1,7 +1,7 @@
 -- Each operator is a law of `Walks`; no sum is large, since the operand is not. Assumes nothing.
 use mathlib.Core.Path.{refl, ap, _∙_}
 use Rattle.cutting.specs.Cuts.{placeBy, lookedCuts}
-use Rattle.cutting.proofs.Walks.{walked-not, walked-next, walked-eventually, walked-always, walked-few, raw-few, ever-joinable}
+use Rattle.cutting.proofs.Walks.{walked-not, walked-next, walked-ever, walked-few, raw-few, ever-joinable}
 use native.Mathlib.Omega.{arith}
 use borrow.Author.Needs.{needs}
 use Rattle.cutting.proofs.over_one.Statement.{statement}
@@ -18,11 +18,7 @@ over-one-spec = tie.close (tie.spec
     (λ c. search needs)
     (λ c κs. raw-few (c .before .before .before .before .before .pre))
     (λ c κs. ever-joinable (c .before .before .before .before .before .before .pre) (c .under-next2 .ensures))
-    (λ c. search needs)
-    (λ c κs. raw-few (c .before .before .before .before .before .pre))
-    (λ c κs. ever-joinable (c .before .before .before .before .before .before .pre) (c .under-next3 .ensures))
     (λ c owner f w. walked-not w refl refl (c .before .before .before .enum-told .given .1) refl refl
     (c .looked .ensures ∙ ap (lookedCuts (c .before .before .before .before .before .before .before .before .args .a .part)) (c .before .place-of .ensures ∙ ap (placeBy _) (w .parted .choice-is))))
     (λ c owner f w. walked-next w refl refl (c .before .enum-told2 .given .1) (c .under-next .ensures))
-    (λ c owner f w. walked-eventually w refl refl (c .before .before .enum-told3 .given .1) (c .before .under-next2 .ensures) (c .joined .ensures))
-    (λ c owner f w. walked-always w refl refl (c .before .before .enum-told4 .given .1) (c .before .under-next3 .ensures) (c .joined2 .ensures)))
+    (λ c owner f w. walked-ever w refl refl (c .before .before .enum-told3 .given .1) (c .before .under-next2 .ensures) (c .joined .ensures)))

@@ -17,7 +17,7 @@ use Rattle.laying.proofs.Places.{owned}
 use Rattle.laying.proofs.Parts.{not, pair}
 use Rattle.laying.proofs.Slots.{stay-asks, cut-asks, hold-asks}
 use Rattle.laying.proofs.Room.{Entry, entry, Done, cut-done, Begun, begun, FirstDone, first-done, RightBegun, right-begun, BothDone, both-done, HoldEntry, hold-entry, SlotBegun, slot-begun}
-use Rattle.laying.proofs.Cutting.{constant, proposition, next, eventually, always, until, whole-asks, whole-cuts, leaf-cuts, not-cuts, pair-cuts, stay-looks, cut-looks, slot-lays, hold-cuts}
+use Rattle.laying.proofs.Cutting.{constant, proposition, next, ever, until, whole-asks, whole-cuts, leaf-cuts, not-cuts, pair-cuts, stay-looks, cut-looks, slot-lays, hold-cuts}
 use native.Mathlib.Omega.{arith}
 use borrow.Author.Needs.{needs}
 use Prim.Native.Nat.{ℕ, _+_, _*_, _^_, _<_}
@@ -145,15 +145,15 @@ module _ (t : ℕ) where
   pair-calls = (look-below t, look.Post)
 
   -- the places: the byte is put; the left one was laid, its numbers are read, its slots are counted, the right one's place is known; the
-  -- right one was laid, and both one's numbers are read
+  -- right one was laid, and the numbers of both are read
   abbrev PairIn : Type 0
   PairIn = cut-pair-lts.After-shared-slice-known3 pair-calls pair-here cut-pair.Post
 
   abbrev LeftOut : Type 0
   LeftOut = cut-pair-lts.After-look pair-calls pair-here cut-pair.Post
 
-  abbrev LeftRead : Type 0
-  LeftRead = cut-pair-lts.After-struct-known2 pair-calls pair-here cut-pair.Post
+  abbrev LeftKnown : Type 0
+  LeftKnown = cut-pair-lts.After-struct-known2 pair-calls pair-here cut-pair.Post
 
   abbrev LeftCounted : Type 0
   LeftCounted = cut-pair-lts.After-struct-known6 pair-calls pair-here cut-pair.Post
@@ -164,8 +164,8 @@ module _ (t : ℕ) where
   abbrev PairOut : Type 0
   PairOut = cut-pair-lts.After-look2 pair-calls pair-here cut-pair.Post
 
-  abbrev PairRead : Type 0
-  PairRead = cut-pair-lts.After-struct-known11 pair-calls pair-here cut-pair.Post
+  abbrev PairKnown : Type 0
+  PairKnown = cut-pair-lts.After-struct-known11 pair-calls pair-here cut-pair.Post
 
   abbrev pair-first : PairIn → cut-pair-lts.Start pair-calls pair-here cut-pair.Post
   pair-first c = c .before .before .before .before .before
@@ -173,19 +173,19 @@ module _ (t : ℕ) where
   abbrev pair-in : LeftOut → PairIn
   pair-in c = c .before .before .before .before .before .before
 
-  abbrev left-out : LeftRead → LeftOut
+  abbrev left-out : LeftKnown → LeftOut
   left-out c = c .before .before .before .before .before
 
-  abbrev left-read : LeftCounted → LeftRead
-  left-read c = c .before .before .before .before
+  abbrev left-known : LeftCounted → LeftKnown
+  left-known c = c .before .before .before .before
 
   abbrev left-of : RightIn → LeftOut
-  left-of c = left-out (left-read (c .before .before .before .before))
+  left-of c = left-out (left-known (c .before .before .before .before))
 
   abbrev right-in : PairOut → RightIn
   right-in c = c .before .before .before .before .before
 
-  abbrev pair-out : PairRead → PairOut
+  abbrev pair-out : PairKnown → PairOut
   pair-out c = c .before .before .before .before .before
 
   abbrev pair-end : cut-pair-lts.After-struct-known16 pair-calls pair-here cut-pair.Post → PairOut
@@ -243,9 +243,9 @@ module _ (t : ℕ) where
       (λ c. let l = left-out c in let x = left-done l in let g = pair-first (pair-in l) .good in omega arith)
       (λ c. let l = left-out (c .before) in let x = left-done l in let g = pair-first (pair-in l) .good in omega arith)
       (λ c. let x = left-done (left-out (c .before .before)) in omega arith)
-      (λ c. let x = left-done (left-out (left-read c)) in omega arith)
-      (λ c. let x = left-done (left-out (left-read (c .before .before))) in omega arith)
-      (λ c. let x = left-done (left-out (left-read (c .before .before .before))) in omega arith)
+      (λ c. let x = left-done (left-out (left-known c)) in omega arith)
+      (λ c. let x = left-done (left-out (left-known (c .before .before))) in omega arith)
+      (λ c. let x = left-done (left-out (left-known (c .before .before .before))) in omega arith)
       (λ c. let l = left-of c in let x = left-done l in let g = pair-first (pair-in l) .good in omega arith)
       (λ c. let x = left-done (left-of c) in omega arith)
       (λ c. let x = left-done (left-of c) in omega arith)
@@ -346,14 +346,12 @@ module _ (t : ℕ) where
       (λ c. search needs)
       (λ c κs. let e = c .before in whole-asks (parts-first (e .before .before .before .before .before) .pre .1) next (one-is (e .before .before .before) (e .enum-told5 .given .1)))
       (λ c. search needs)
-      (λ c κs. let e = c .before in whole-asks (parts-first (e .before .before .before .before .before) .pre .1) eventually (one-is (e .before .before .before) (e .enum-told6 .given .1)))
-      (λ c. search needs)
-      (λ c κs. let e = c .before in whole-asks (parts-first (e .before .before .before .before .before) .pre .1) always (one-is (e .before .before .before) (e .enum-told7 .given .1)))
+      (λ c κs. let e = c .before in whole-asks (parts-first (e .before .before .before .before .before) .pre .1) ever (one-is (e .before .before .before) (e .enum-told6 .given .1)))
       (λ c. search needs)
       (λ c. search needs)
-      (λ c κs. let e = c .before .before in let a = parts-first (e .before .before .before .before .before) .pre in let q = a .0 in (omega arith, (a .1, record { by = _; kind = two-is (e .before .before .before) (e .enum-told8 .given .1) })))
+      (λ c κs. let e = c .before .before in let a = parts-first (e .before .before .before .before .before) .pre in let q = a .0 in (omega arith, (a .1, record { by = _; kind = two-is (e .before .before .before) (e .enum-told7 .given .1) })))
       (λ c. search needs)
-      (λ c κs. let e = c .before in whole-asks (parts-first (e .before .before .before .before .before) .pre .1) until (two-is (e .before .before .before) (e .enum-told9 .given .1)))
+      (λ c κs. let e = c .before in whole-asks (parts-first (e .before .before .before .before .before) .pre .1) until (two-is (e .before .before .before) (e .enum-told8 .given .1)))
       (λ c. search needs)
       (λ c κs. let n = parts-entry (parts-first (c .before .before .before)) in omega arith)
       (λ c. search needs)
@@ -369,16 +367,14 @@ module _ (t : ℕ) where
       (λ c. search needs)
       (λ c. let e = c .before .before .before .before in whole-cuts next (one-is (e .before .before .before) (e .enum-told5 .given .1)) (c .before .before .put-whole .ensures))
       (λ c. search needs)
-      (λ c. let e = c .before .before .before .before in whole-cuts eventually (one-is (e .before .before .before) (e .enum-told6 .given .1)) (c .before .before .put-whole2 .ensures))
-      (λ c. search needs)
-      (λ c. let e = c .before .before .before .before in whole-cuts always (one-is (e .before .before .before) (e .enum-told7 .given .1)) (c .before .before .put-whole3 .ensures))
+      (λ c. let e = c .before .before .before .before in whole-cuts ever (one-is (e .before .before .before) (e .enum-told6 .given .1)) (c .before .before .put-whole2 .ensures))
       (λ c. search needs)
       (λ c. search needs)
       (λ c. c .before .before .before .before .cut-pair .ensures)
       (λ c. search needs)
-      (λ c. let e = c .before .before .before .before in whole-cuts until (two-is (e .before .before .before) (e .enum-told9 .given .1)) (c .before .before .put-whole4 .ensures))
+      (λ c. let e = c .before .before .before .before in whole-cuts until (two-is (e .before .before .before) (e .enum-told8 .given .1)) (c .before .before .put-whole3 .ensures))
       (λ c. search needs)
-      (λ c choose hold f rest s front m. let e = c .before .before .before .before in absurd (no-code (parts-as _ f rest front (e .before .before .of .ensures) (e .enum-told10 .given .1))))
+      (λ c choose hold f rest s front m. let e = c .before .before .before .before in absurd (no-code (parts-as _ f rest front (e .before .before .of .ensures) (e .enum-told9 .given .1))))
 
 -- ---- a slot of its own
 module _ (t : ℕ) where

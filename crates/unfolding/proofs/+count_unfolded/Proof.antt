@@ -50,10 +50,10 @@ module _ (t : ℕ) where
       → let a = first (c .before .before .before) in Double (a .args .s .now) (a .pre .1 .0 .rest) (a .pre .1 .0 .formula) (c .before .k2 .given .0 .0)
   double c = two-of (first (c .before .before .before) .pre .1 .0 .front) (c .before .before .before .of .ensures) (c .before .k2 .given .1)
 
-  left-done : (c : lts.After-struct-known5 calls here count-unfolded.Post) → LeftRead (double (c .before .before .before)) (c .before .count-unfolded2 .result .read)
+  left-done : (c : lts.After-struct-known4 calls here count-unfolded.Post) → LeftRead (double (c .before .before .before)) (c .before .count-unfolded2 .result .read)
   left-done c = let x = double (c .before .before .before) in left-read x (c .before .count-unfolded2 .ensures _ _ (x .front) .0)
 
-  two-small : (c : lts.After-struct-known6 calls here count-unfolded.Post)
+  two-small : (c : lts.After-struct-known5 calls here count-unfolded.Post)
       → let r = c .before .before .before .before .count-unfolded2 .result in let q = c .before .count-unfolded3 .result in
       Small (first (c .before .before .before .before .before .before .before .before .before) .args .s .now) (1 + r .read + q .read) (r .written + q .written)
   two-small c =
@@ -75,10 +75,6 @@ pub +count-unfolded-spec : {M : Type 1} → statement M
     (λ c. let x = one-small t (c .before .before .before) in omega arith)
     (λ c κs. tt)
     (λ c. search needs)
-    (λ c. search needs)
-    (λ c. let x = one-small t (c .before .before .before) in omega arith)
-    (λ c. let x = one-small t (c .before .before .before) in omega arith)
-    (λ c κs. tt)
     (λ c. search needs)
     (λ c. let x = one-small t (c .before .before .before) in omega arith)
     (λ c. let x = one-small t (c .before .before .before) in omega arith)
@@ -109,13 +105,11 @@ pub +count-unfolded-spec : {M : Type 1} → statement M
     (λ c f rest y. let e = c .before .before .before in
     counted-next (single-as (single t (e .before .before)) (c .enum-told3 .given .1) y) (e .count-unfolded .ensures) (first t (e .before .before .before .before .before) .pre .1 .1))
     (λ c f rest y. let e = c .before .before .before .before .before in
-    counted-ever (λ g. omega arith) (single-as (single t (e .before .before)) (c .before .before .enum-told4 .given .1) y) (e .count-unfolded .ensures) (c .capped2 .ensures))
-    (λ c f rest y. let e = c .before .before .before .before .before in
-    counted-ever (λ g. omega arith) (single-as (single t (e .before .before)) (c .before .before .enum-told5 .given .1) y) (e .count-unfolded .ensures) (c .capped3 .ensures))
+    counted-ever (single-as (single t (e .before .before)) (c .before .before .enum-told4 .given .1) y) (e .count-unfolded .ensures) (c .capped2 .ensures))
     (λ c f rest y. let e = c .before .before .before .before .before .before in
-    counted-joined (double-as (double t (e .before .before .before .before .before)) (c .before .enum-told6 .given .1) y) (e .before .before .before .count-unfolded2 .ensures)
+    counted-joined (double-as (double t (e .before .before .before .before .before)) (c .before .enum-told5 .given .1) y) (e .before .before .before .count-unfolded2 .ensures)
+    (e .count-unfolded3 .ensures) (c .capped3 .ensures))
+    (λ c f rest y. let e = c .before .before .before .before .before .before in
+    counted-until (double-as (double t (e .before .before .before .before .before)) (c .before .enum-told6 .given .1) y) (e .before .before .before .count-unfolded2 .ensures)
     (e .count-unfolded3 .ensures) (c .capped4 .ensures))
-    (λ c f rest y. let e = c .before .before .before .before .before .before in
-    counted-until (double-as (double t (e .before .before .before .before .before)) (c .before .enum-told7 .given .1) y) (e .before .before .before .count-unfolded2 .ensures)
-    (e .count-unfolded3 .ensures) (c .capped5 .ensures))
-    (λ c f rest y. absurd (no-code (parts-as _ f rest y (c .before .before .of .ensures) (c .enum-told8 .given .1))))
+    (λ c f rest y. absurd (no-code (parts-as _ f rest y (c .before .before .of .ensures) (c .enum-told7 .given .1))))

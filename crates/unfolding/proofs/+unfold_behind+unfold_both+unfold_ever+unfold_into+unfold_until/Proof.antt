@@ -10,8 +10,7 @@ use borrow.Fn.PlainCycle.{Measures}
 use lib.ListN.{length, length-set, length-take, length-drop}
 use lib.Seq.{length-take-le}
 use Rattle.lists.proofs.Parts.{tail-length}
-use Rattle.kinds.specs.declared.Unary.the-variants.{Not, Eventually, Always}
-use Rattle.kinds.specs.declared.Join.the-variants.{And, Or}
+use Rattle.kinds.specs.declared.Unary.the-variants.{Not}
 use Rattle.kinds.specs.declared.Kind.the-variants.{One, Two}
 use Rattle.nodes.proofs.Fronts.{Single, Double, parts-as, no-code, begins-some}
 use Rattle.nodes.proofs.Operands.{one-of, two-of, single-as, double-as}
@@ -32,6 +31,7 @@ use Rattle.unfolding.proofs.unfold_until.Reads as unfold-until
 use Rattle.unfolding.proofs.unfold_until.Kinds as until-kinds
 use Rattle.unfolding.proofs.+unfold_behind+unfold_both+unfold_ever+unfold_into+unfold_until.Lts-unfold_until as until-lts
 use Rattle.kinds.proofs.Kind.of.Reads as of-reads
+use Rattle.kinds.proofs.Join.code.Reads as code-reads
 use Rattle.nodes.proofs.operand_end.Reads as operand-end-reads
 use Rattle.buffers.proofs.copy.Reads as copy-reads
 use Rattle.unfolding.proofs.put_next.Reads as put-next-reads
@@ -95,7 +95,7 @@ module _ (t : ℕ) where
   ever-calls = (behind-below, unfold-behind.Post, put-next-reads.Asked, put-next-reads.Learnt)
 
   abbrev into-calls : into-lts.Claims
-  into-calls = (of-reads.Asked, of-reads.Learnt, behind-below, unfold-behind.Post, operand-end-reads.Asked, operand-end-reads.Learnt, copy-reads.Asked, copy-reads.Learnt, ever-below, unfold-ever.Post, both-below, unfold-both.Post, until-below, unfold-until.Post)
+  into-calls = (of-reads.Asked, of-reads.Learnt, behind-below, unfold-behind.Post, operand-end-reads.Asked, operand-end-reads.Learnt, copy-reads.Asked, copy-reads.Learnt, code-reads.Asked, code-reads.Learnt, ever-below, unfold-ever.Post, both-below, unfold-both.Post, until-below, unfold-until.Post)
 
   abbrev until-calls : until-lts.Claims
   until-calls = (operand-end-reads.Asked, operand-end-reads.Learnt, behind-below, unfold-behind.Post, put-next-reads.Asked, put-next-reads.Learnt)
@@ -132,7 +132,7 @@ module _ (t : ℕ) where
       → let a = into-start (c .before .before .before) in Single (a .args .s .now) (a .pre .1 .begins .rest) (a .pre .1 .begins .formula) (c .before .k .given .0 .0)
   under-one c = one-of (into-start (c .before .before .before) .pre .1 .begins .front) (c .before .before .before .of .ensures) (c .before .k .given .1)
 
-  under-two : (c : into-lts.After-known-told2 into-calls into-here unfold-into.Post)
+  under-two : (c : into-lts.After-known-told3 into-calls into-here unfold-into.Post)
       → let a = into-start (c .before .before .before) in Double (a .args .s .now) (a .pre .1 .begins .rest) (a .pre .1 .begins .formula) (c .before .k2 .given .0 .0)
   under-two c = two-of (into-start (c .before .before .before) .pre .1 .begins .front) (c .before .before .before .of .ensures) (c .before .k2 .given .1)
 
@@ -241,17 +241,15 @@ pub +unfold-behind+unfold-both+unfold-ever+unfold-into+unfold-until-spec : {M : 
     (λ c κs. let p = into-start t (c .before .before .before .before .before .before .before .before) .pre .1 in
     next-fits p (single-as (under-one t (c .before .before .before .before .before)) (c .before .before .before .enum-told3 .given .1) (p .begins .front)) (c .before .before .operand-end .ensures))
     (λ c. search needs)
-    (λ c κs. let p = into-start t (c .before .before .before .before .before .before) .pre .1 in
-    (omega arith, (p, record { operator = Eventually; by = Or; kind = under-one t (c .before .before .before) .kind ∙ ap One (c .before .enum-told4 .given .1); code = refl; unfolds = λ f. refl })))
-    (λ c. search needs)
-    (λ c κs. let p = into-start t (c .before .before .before .before .before .before) .pre .1 in
-    (omega arith, (p, record { operator = Always; by = And; kind = under-one t (c .before .before .before) .kind ∙ ap One (c .before .enum-told5 .given .1); code = refl; unfolds = λ f. refl })))
+    (λ c κs. tt)
+    (λ c κs. let d = c .before .before .before .before .before in let p = into-start t (d .before .before .before) .pre .1 in
+    (omega arith, (p, record { by = _; kind = under-one t d .kind ∙ ap One (c .before .before .before .o .given .1); code = c .code .ensures })))
     (λ c. search needs)
     (λ c. search needs)
     (λ c κs. let p = into-start t (c .before .before .before .before .before .before) .pre .1 in
-    (omega arith, (p, both-of (double-as (under-two t (c .before .before .before)) (c .before .enum-told6 .given .1) (p .begins .front)))))
+    (omega arith, (p, both-of (double-as (under-two t (c .before .before .before)) (c .before .enum-told4 .given .1) (p .begins .front)))))
     (λ c. search needs)
-    (λ c κs. (omega arith, (into-start t (c .before .before .before .before .before .before) .pre .1, under-two t (c .before .before .before) .kind ∙ ap Two (c .before .enum-told7 .given .1))))
+    (λ c κs. (omega arith, (into-start t (c .before .before .before .before .before .before) .pre .1, under-two t (c .before .before .before) .kind ∙ ap Two (c .before .enum-told5 .given .1))))
     (λ c. search needs)
     (λ c. simp length-set)
     (λ c f rest y. leaf-done (parts-as _ f rest y (c .before .before .of .ensures) (c .enum-told .given .1)) (room-some (into-start t (c .before .before) .pre .1)))
@@ -264,12 +262,10 @@ pub +unfold-behind+unfold-both+unfold-ever+unfold-into+unfold-until-spec : {M : 
     (λ c. omega arith)
     (λ c. c .before .before .unfold-ever .ensures)
     (λ c. omega arith)
-    (λ c. c .before .before .unfold-ever2 .ensures)
-    (λ c. omega arith)
     (λ c. c .before .before .unfold-both .ensures)
     (λ c. omega arith)
     (λ c. c .before .before .unfold-until .ensures)
-    (λ c f rest y. absurd (no-code (parts-as _ f rest y (c .before .before .of .ensures) (c .enum-told8 .given .1)))))
+    (λ c f rest y. absurd (no-code (parts-as _ f rest y (c .before .before .of .ensures) (c .enum-told6 .given .1)))))
     λ t. until-lts.spec (until-calls t) (until-here t) unfold-until.Post
     (λ c. let x = until (c .before .before .pre .1) in omega arith)
     (λ c. let x = until (c .before .before .pre .1) in omega arith)
