@@ -5,8 +5,8 @@ ghost use lib.ListN.{length};
 ghost use Rattle.central.specs.Central.{centralLengthsOk, verdictByte, Progressable, ProgressedTo, Centrally};
 use answers::Refusal;
 use answers::Verdict;
+use limits::CENTRAL_NODES_MOST;
 use resolving::Seen;
-use unfolding::NODES_MOST;
 
 pub struct Progress {
     pub verdict: Verdict,
@@ -28,10 +28,10 @@ fn lengths_ok(formula: usize, output: usize) -> bool
     if formula < 1 {
         return false;
     }
-    if NODES_MOST < formula {
+    if CENTRAL_NODES_MOST < formula {
         return false;
     }
-    output == NODES_MOST
+    output == CENTRAL_NODES_MOST
 }
 
 // The verdict of the formula whose first byte is b.
@@ -74,7 +74,7 @@ pub fn central(formula: &[u8], event: u64, output: &mut [u8]) -> CentralAnswer
         return CentralAnswer::Refused(Refusal::Formula);
     }
     let unfolded = unfolding::count_unfolded(formula);
-    if NODES_MOST < unfolded.written {
+    if CENTRAL_NODES_MOST < unfolded.written {
         return CentralAnswer::Refused(Refusal::Nodes);
     }
     let n = progress_into(output, formula, event);

@@ -15,7 +15,7 @@ use Rattle.nodes.specs.Begins.{Front, Begins}
 use Rattle.nodes.proofs.Fronts.{front-length}
 use Rattle.scores.specs.Owned.{Table}
 use Rattle.unfolding.specs.declared.Walk.{Walk}
-use Rattle.unfolding.specs.Unfolds.{Room, Unfolds, UnfoldedTo}
+use Rattle.unfolding.specs.Unfolds.{UnfoldAsk, Unfolds, UnfoldedTo}
 use Rattle.unfolding.proofs.Fronts.{written-bytes, written-front}
 use Rattle.tagging.specs.declared.TaggedPart as tag
 use Rattle.tagging.specs.Tags.{hereOn, Tagging}
@@ -38,7 +38,7 @@ module _ {s : List ℕ} {boards slots nodes m : ℕ} {owner u tags : List ℕ} (
     slot-front : Front bytes (formulaAt s m) []
     slot-front = lent-front (ask .known) (ask .there) x
 
-    pub unfold-ask : Room u bytes
+    pub unfold-ask : UnfoldAsk u bytes
     unfold-ask = record { begins = record { formula = formulaAt s m; rest = []; front = slot-front }; room = ask .room }
 
     module _ {u′ : List ℕ} (w : Walk) (h : Unfolds u bytes u′ (w .read) (w .written)) where

@@ -23,8 +23,8 @@ use Rattle.nodes.proofs.Fronts.{Parts, isZero}
 use Rattle.scores.specs.declared.Scores.{Scores}
 use Rattle.scores.specs.Owned.{Owned, ownerOf}
 use Rattle.scores.specs.Scored.{oneScored, added}
-use Rattle.scores.specs.Tallies.{Counted}
-use Rattle.scores.proofs.Counting.{counted-leaf, counted-one, counted-two, counted-chosen}
+use Rattle.scores.specs.Tallies.{ScoredAs}
+use Rattle.scores.proofs.Counting.{scored-leaf, scored-one, scored-two, scored-chosen}
 use Rattle.cutting.specs.Cuts.{lookedAs, codeOf, choiceOf, placeOf, staysOn, Lies}
 use Rattle.cutting.proofs.Choices.{chosen-below, chosen-one, chosen-left, chosen-right}
 use Rattle.cutting.proofs.Looking.{looked-by, place-is, place-own}
@@ -66,9 +66,9 @@ over-scored {tags = tags} {on = on} {here = here} c e h s =
       writes = s .writes ∙ ap (λ (y : TaggedPart). set tags 0 (tagOf (y .here) (y .board))) (sym x);
     }
 
-pub whole-over : {owner : List ℕ} {f : Formula} {read : ℕ} {scores : Scores} {board : ℕ} {tags tags′ : List ℕ} {r : TaggedPart} {on : ℕ} → (read ≡ size f) × Counted owner f (scores .counts)
+pub whole-over : {owner : List ℕ} {f : Formula} {read : ℕ} {scores : Scores} {board : ℕ} {tags tags′ : List ℕ} {r : TaggedPart} {on : ℕ} → (read ≡ size f) × ScoredAs owner f (scores .counts)
     → board ≡ placeOf on (scores .counts) → Seals read scores board read tags tags′ r
-    → Counted owner f (r .scores .counts) × TagOver (size f) (r .scores .counts) on (λ b. size f) tags tags′ r
+    → ScoredAs owner f (r .scores .counts) × TagOver (size f) (r .scores .counts) on (λ b. size f) tags tags′ r
 whole-over {owner} {f} {read} {scores} {board} {tags} {tags′} {r} {on} t e s =
     let x : r .scores .counts ≡ scores .counts = ap (λ (y : TaggedPart). y .scores .counts) (s .result) in
     let v : TagOver read (scores .counts) on (λ b. size f) tags tags′ r = over-scored refl e (t .0) s in (
@@ -77,9 +77,9 @@ whole-over {owner} {f} {read} {scores} {board} {tags} {tags′} {r} {on} t e s =
     )
 
 pub leaf-over : {owner u rest : List ℕ} {f : Formula} {a : Leaf} {i on : ℕ} {tags tags′ : List ℕ} {r : TaggedPart} → Parts u rest f (Zero a) → i ≡ ownerOf owner a
-    → TagOver 1 (oneScored i) on (λ b. 1) tags tags′ r → Counted owner f (r .scores .counts) × TagOver (size f) (r .scores .counts) on (λ b. size f) tags tags′ r
+    → TagOver 1 (oneScored i) on (λ b. 1) tags tags′ r → ScoredAs owner f (r .scores .counts) × TagOver (size f) (r .scores .counts) on (λ b. size f) tags tags′ r
 leaf-over {on = on} (isZero w e) o v = (
-  counted-leaf o (v .scores),
+  scored-leaf o (v .scores),
   record { reads = v .reads; scores = refl; board-is = v .board-is ∙ ap (placeOf on) (sym (v .scores)); here-is = v .here-is; writes = v .writes },
 )
 
@@ -87,7 +87,7 @@ leaf-over {on = on} (isZero w e) o v = (
 module _ {owner tags : List ℕ} {f : Formula} {a : TaggedPart} (h : TaggedAs owner f boardsMost tags a) where
   module _ (p q : ℕ) (masks : List ℕ) (o : Owned p masks owner) (w : Within p q f) where
     choice-is : a .board ≡ codeOf (chosen masks f)
-    choice-is = h .board-is ∙ place-own boardsMost (choiceOf (a .scores .counts)) refl ∙ ap codeOf (counted-chosen p q masks (h .scored) o w)
+    choice-is = h .board-is ∙ place-own boardsMost (choiceOf (a .scores .counts)) refl ∙ ap codeOf (scored-chosen p q masks (h .scored) o w)
 
     -- its length in a slot
     shown-is : (g : Formula) (on b : ℕ) (counts : List ℕ) → highest none 0 0 counts ≡ chosen masks g → (chosen masks g ≡ none → chosen masks f ≡ none)
@@ -128,7 +128,7 @@ top-tag tags tags′ v l e = let s = e ∙ set-first tags v l in (ap (λ (x : Li
 module _ {owner : List ℕ} {on : ℕ} (tags : List ℕ) {tags′ : List ℕ} {r : TaggedPart} (some-tags : 0 < length tags) where
   -- a part that stays whole
   pub tagged-whole : {f : Formula} → ((choose : Formula → Option ℕ) (b : ℕ) → hereOn choose f b ≡ size f) → ((choose : Formula → Option ℕ) → Tagged choose f tags′)
-      → Counted owner f (r .scores .counts) × TagOver (size f) (r .scores .counts) on (λ b. size f) tags tags′ r → size f ≤ nodesRoom → TaggedAs owner f on tags′ r
+      → ScoredAs owner f (r .scores .counts) × TagOver (size f) (r .scores .counts) on (λ b. size f) tags tags′ r → size f ≤ nodesRoom → TaggedAs owner f on tags′ r
   tagged-whole here none-tagged x n =
       let v = x .1 in
       record {
@@ -151,13 +151,13 @@ module _ {owner : List ℕ} {on : ℕ} (tags : List ℕ) {tags′ : List ℕ} {r
       let l = shown-few (placeOf on (a .scores .counts)) (showable h) refl in
       record {
         reads = let e = x .reads in omega arith;
-        scored = rw (x .scores) (counted-one Not (h .scored));
+        scored = rw (x .scores) (scored-one Not (h .scored));
         board-is = x .board-is ∙ ap (placeOf on) (sym (x .scores));
         few = omega arith;
         small = length-fits (r .here) (omega arith);
         here-is = λ p q masks o w b l.
             x .here-is
-            ∙ ap (1 +_) (shown-is h p q masks o w (one Not f) on b (a .scores .counts) (counted-chosen p q masks (counted-one Not (h .scored)) o w) (λ z. sym (chosen-one masks Not f) ∙ z) l);
+            ∙ ap (1 +_) (shown-is h p q masks o w (one Not f) on b (a .scores .counts) (scored-chosen p q masks (scored-one Not (h .scored)) o w) (λ z. sym (chosen-one masks Not f) ∙ z) l);
         tag-is = m .0;
         tagged = λ p q masks o w. (
           rw (m .1) (tags-is h p q masks o w),
@@ -170,7 +170,7 @@ module _ {owner : List ℕ} {on : ℕ} (tags : List ℕ) {tags′ : List ℕ} {r
   unfolding hereOn
   tagged-pair {f} {g} {a} {c} {left} {right} j h k same behind x few-nodes =
       let counts = added (a .scores .counts) (c .scores .counts) in
-      let s = counted-two (Joined j) (h .scored) (k .scored) in
+      let s = scored-two (Joined j) (h .scored) (k .scored) in
       let m = top-tag tags tags′ _ some-tags (x .writes) in
       let t : Agree (size f) left (drop 1 tags′) = λ i l. rw (m .1) (same i l) in
       let u : drop (1 + size f) tags′ ≡ right = sym (drop-drop (size f) 1 tags′) ∙ ap (drop (size f)) (m .1) ∙ drop-drop (size f) 1 tags ∙ behind in
@@ -188,8 +188,8 @@ module _ {owner : List ℕ} {on : ℕ} (tags : List ℕ) {tags′ : List ℕ} {r
         here-is = λ p q masks o w b l.
             x .here-is
             ∙ ap₂ (λ (y z : ℕ). 1 + y + z)
-            (shown-is h p q masks o (w .0) (two (Joined j) f g) on b counts (counted-chosen p q masks s o w) (chosen-left masks (Joined j) f g) l)
-            (shown-is k p q masks o (w .1) (two (Joined j) f g) on b counts (counted-chosen p q masks s o w) (chosen-right masks (Joined j) f g) l);
+            (shown-is h p q masks o (w .0) (two (Joined j) f g) on b counts (scored-chosen p q masks s o w) (chosen-left masks (Joined j) f g) l)
+            (shown-is k p q masks o (w .1) (two (Joined j) f g) on b counts (scored-chosen p q masks s o w) (chosen-right masks (Joined j) f g) l);
         tag-is = m .0;
         tagged = λ p q masks o w. (
           (tags-alike (t 0 (size-some f)) (tags-is h p q masks o (w .0)), tagged-same (chosen masks) f left (drop 1 tags′) t (h .tagged p q masks o (w .0))),

@@ -21,7 +21,7 @@ use Rattle.nodes.proofs.Fronts.{front-length, front-begins, begins-some, Parts,
 use Rattle.nodes.proofs.Operands.{LeftRead, left-read}
 use Rattle.tagging.specs.declared.TaggedPart.{TaggedPart}
 use Rattle.scores.specs.Owned.{Table}
-use Rattle.scores.specs.Tallies.{Counted}
+use Rattle.scores.specs.Tallies.{ScoredAs}
 use Rattle.tagging.specs.Tags.{hereOn, Tagged, TaggedAs, Tagging, TagOver, OverNot, OverPair}
 use Rattle.lists.proofs.Parts.{tail-length, handed-length, handed-back}
 use Rattle.tagging.proofs.Places.{Agree, left-stays}
@@ -48,7 +48,7 @@ module _ {owner u : List ℕ} (tags : List ℕ) (p : Asks owner u tags) where
 
 -- ---- parts that stay whole
 module _ {owner u rest : List ℕ} {f : Formula} {on : ℕ} {tags tags′ : List ℕ} {r : TaggedPart} (p : Asks owner u tags) (y : Front u f rest)
-    (w : Counted owner f (r .scores .counts) × TagOver (size f) (r .scores .counts) on (λ b. size f) tags tags′ r) where
+    (w : ScoredAs owner f (r .scores .counts) × TagOver (size f) (r .scores .counts) on (λ b. size f) tags tags′ r) where
   whole : ((choose : Formula → Option ℕ) (b : ℕ) → hereOn choose f b ≡ size f) → ((choose : Formula → Option ℕ) → Tagged choose f tags′) → TaggedAs owner f on tags′ r
   whole here none-tagged = tagged-whole tags (asks-some tags p) here none-tagged w (let e = front-length u f rest y in omega arith)
 

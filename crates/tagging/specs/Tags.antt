@@ -15,7 +15,7 @@ use Rattle.nodes.specs.Begins.{Front}
 use Rattle.scores.specs.declared.Scores.{Scores}
 use Rattle.scores.specs.Scored.{added, countsBelow}
 use Rattle.scores.specs.Owned.{Owned}
-use Rattle.scores.specs.Tallies.{Counted}
+use Rattle.scores.specs.Tallies.{ScoredAs}
 use Rattle.cutting.specs.Cuts.{lookedAs, codeOf, choiceOf, placeOf, staysOn, Lies}
 use Rattle.tagging.specs.declared.TaggedPart.{TaggedPart}
 use Rattle.tagging.specs.Packed.{lengthRoom, boardIn, hereIn, tagOf}
@@ -49,7 +49,7 @@ Tagged choose (two Until f g) tags = Unit {0}
 -- ---- what the walk gives
 pub record TaggedAs (owner : List ℕ) (f : Formula) (on : ℕ) (tags : List ℕ) (r : TaggedPart) : Type 0 where
   pub reads : r .read ≡ size f
-  pub scored : Counted owner f (r .scores .counts)
+  pub scored : ScoredAs owner f (r .scores .counts)
   pub board-is : r .board ≡ placeOf on (r .scores .counts)
   pub few : r .here ≤ size f
   pub small : r .here < lengthRoom
@@ -104,4 +104,4 @@ OverPair a c on = TagOver (1 + a .read + c .read) (added (a .scores .counts) (c 
 -- a part that stays whole
 abbrev pub Whole : List ℕ → List ℕ → ℕ → List ℕ → List ℕ → TaggedPart → Type 0
 Whole owner u on tags tags′ r =
-    (f : Formula) (rest : List ℕ) → Front u f rest → Counted owner f (r .scores .counts) × TagOver (size f) (r .scores .counts) on (λ b. size f) tags tags′ r
+    (f : Formula) (rest : List ℕ) → Front u f rest → ScoredAs owner f (r .scores .counts) × TagOver (size f) (r .scores .counts) on (λ b. size f) tags tags′ r
