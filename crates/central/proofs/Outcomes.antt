@@ -22,7 +22,7 @@ use Rattle.ltl.specs.Decode.{decoded, isRule, formulaOf, someFormula}
 use Rattle.lists.proofs.Tests.{both-0, both-1}
 use Rattle.ltl.proofs.Decoding.{rule-is, decoded-of, wider}
 use Rattle.nodes.specs.Begins.{Front}
-use Rattle.unfolding.specs.Unfolds.{Counted}
+use Rattle.unfolding.specs.Unfolds.{CountsUnfolded}
 use Rattle.central.specs.declared.CentralAnswer.the-variants.{Refused, Progressed}
 use Rattle.central.specs.Central.{centralLengthsOk, answerOf, centralSays, Centrally}
 use Rattle.central.specs.Progressing.{ProgressedTo}
@@ -72,7 +72,7 @@ module _ (s : List ℕ) (event : Event) (out : List ℕ) where
     unfolding centralSays
     refused-formula e = refusal Formula (order-ok 1 _ _ _ l ∙ order-refused 6 _ _ _ e)
 
-    module _ (r : isRule propositionsMost s ≡ true) (read count : ℕ) (n : Counted s read count) where
+    module _ (r : isRule propositionsMost s ≡ true) (read count : ℕ) (n : CountsUnfolded s read count) where
       counted : count ≡ min (size (unfolded (formulaOf s))) (nodesRoom + 1)
       counted = let w = whole s r in n (w .formula-is) [] (w .front) .1 ∙ ap (λ (f : formula.Formula). min (size (unfolded f)) (nodesRoom + 1)) (sym (w .same))
 

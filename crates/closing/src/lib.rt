@@ -6,8 +6,8 @@ ghost use Rattle.closing.specs.Close.{Closes, allSampled, allStepped, ne
 use answers::Outcome;
 use answers::Refusal;
 use checking::Counts;
+use limits::NODES_ROOM;
 use storing::STATE_LENGTH;
-use unfolding::NODES_MOST;
 
 // The most slots.
 const SLOTS_MOST: usize = 64;
@@ -79,11 +79,11 @@ fn advance(state: &[u8], c: Counts, second: &mut [u8]) -> Outcome
     if SLOTS_MOST < next.slots {
         return Outcome::Refused(Refusal::Slots);
     }
-    if NODES_MOST < next.nodes {
+    if NODES_ROOM < next.nodes {
         return Outcome::Refused(Refusal::Nodes);
     }
-    let mut u = [0u8; NODES_MOST];
-    let mut tags = [0u32; NODES_MOST];
+    let mut u = [0u8; NODES_ROOM];
+    let mut tags = [0u32; NODES_ROOM];
     put_next(
         state,
         c,

@@ -16,7 +16,7 @@ use Rattle.state.specs.Clauses.{slotsMost}
 use Rattle.state.specs.Bytes.{formulaAt}
 use Rattle.nodes.specs.Begins.{Front}
 use Rattle.nodes.proofs.Fronts.{front-length}
-use Rattle.cutting.specs.declared.Counted.{Counted}
+use Rattle.cutting.specs.declared.CutWalk.{CutWalk}
 use Rattle.cutting.specs.Cuts.{Cutting}
 use Rattle.cutting.proofs.Nodes.{unfolded-few}
 use Rattle.unfolding.specs.Unfolds as unfolds
@@ -32,7 +32,7 @@ use Rattle.counting.specs.Tables.{Tables, HeldBy, FormulaAsk, CountedOn,
 
 -- ---- a formula's bytes
 -- on whatever board its cuts were counted
-module _ {p : List ℕ} {board on : ℕ} {owner slots nodes : List ℕ} (ask : FormulaAsk p board owner slots nodes) (x : Counted) (cut : Cutting owner p on x) where
+module _ {p : List ℕ} {board on : ℕ} {owner slots nodes : List ℕ} (ask : FormulaAsk p board owner slots nodes) (x : CutWalk) (cut : Cutting owner p on x) where
   pub cuts-few : x .part .cuts < 4100 * 4096
   cuts-few =
       let b = ask .begins in
@@ -42,12 +42,12 @@ module _ {p : List ℕ} {board on : ℕ} {owner slots nodes : List ℕ} (ask : F
       let c = cut (b .formula) (b .rest) (b .front) .parted .few in
       omega arith
 
-  pub own-few : (read written : ℕ) → unfolds.Counted p read written → x .part .cuts + written < 4101 * 4097
+  pub own-few : (read written : ℕ) → unfolds.CountsUnfolded p read written → x .part .cuts + written < 4101 * 4097
   own-few read written walk = let b = ask .begins in let c = cuts-few in let w = walk (b .formula) (b .rest) (b .front) .1 in omega arith
 
 -- on its own board
-pub counts-on : {p : List ℕ} {board : ℕ} {owner slots nodes : List ℕ} → FormulaAsk p board owner slots nodes → (x : Counted) → Cutting owner p board x
-    → (read written : ℕ) → unfolds.Counted p read written → (held r : Totals) → HeldBy slots nodes p held → r .slots ≡ capped slotsMost (1 + x .part .cuts + held .slots)
+pub counts-on : {p : List ℕ} {board : ℕ} {owner slots nodes : List ℕ} → FormulaAsk p board owner slots nodes → (x : CutWalk) → Cutting owner p board x
+    → (read written : ℕ) → unfolds.CountsUnfolded p read written → (held r : Totals) → HeldBy slots nodes p held → r .slots ≡ capped slotsMost (1 + x .part .cuts + held .slots)
     → r .nodes ≡ capped nodesMost (x .part .cuts + written + held .nodes) → CountsOn p board owner slots nodes r
 counts-on {p} {board} {owner} {slots} {nodes} ask x cut read written walk held r h es en f front n end masks owned within =
     let c = cut f [] front .parted .cuts-are n end masks owned (unfolded-coded n end f within) board (inr (refl, ask .there)) in

@@ -15,7 +15,7 @@ ghost use Rattle.counting.specs.Tables.{Tables, HeldBy, FormulaAsk, Coun
 use checking::Counts;
 use checking::Span;
 use kinds::Kind;
-use unfolding::NODES_MOST;
+use limits::NODES_ROOM;
 
 // The most slots.
 const SLOTS_MOST: usize = 64;
@@ -41,7 +41,7 @@ fn together(a: Totals, b: Totals) -> Totals
 {
     Totals {
         slots: cap(a.slots + b.slots, SLOTS_MOST),
-        nodes: cap(a.nodes + b.nodes, NODES_MOST),
+        nodes: cap(a.nodes + b.nodes, NODES_ROOM),
     }
 }
 

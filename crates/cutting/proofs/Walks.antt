@@ -21,23 +21,23 @@ use Rattle.nodes.proofs.Fronts.{Parts, isZero, Single, Double}
 use Rattle.nodes.proofs.Operands.{left-read}
 use Rattle.scores.specs.Scored.{added, countsBelow, Few}
 use Rattle.scores.specs.Owned.{ownerOf}
-use Rattle.scores.specs.Tallies as tallies
-use Rattle.scores.proofs.Counting.{counted-leaf, counted-one, counted-two}
-use Rattle.cutting.specs.declared.Part.{Part}
-use Rattle.cutting.specs.declared.Counted.{Counted}
+use Rattle.scores.specs.Tallies.{ScoredAs}
+use Rattle.scores.proofs.Counting.{scored-leaf, scored-one, scored-two}
+use Rattle.cutting.specs.declared.LaidPart.{LaidPart}
+use Rattle.cutting.specs.declared.CutWalk.{CutWalk}
 use Rattle.cutting.specs.Cuts.{placeOf, lookedCuts, Parted, Walked, Bare, OverNone, Cutting, Joinable, Joins, Countable, OverOne, Pairable, OverTwo}
 use Rattle.cutting.proofs.Nodes.{parted-leaf, parted-next, parted-not, parted-joined, unfolded-few, untilBelow, joinable}
 
-pub walked-leaf : {owner s rest : List ℕ} {f : Formula} {a : Leaf} {i on : ℕ} {r : Counted} → Parts s rest f (Zero a) → i ≡ ownerOf owner a → OverNone i r
+pub walked-leaf : {owner s rest : List ℕ} {f : Formula} {a : Leaf} {i on : ℕ} {r : CutWalk} → Parts s rest f (Zero a) → i ≡ ownerOf owner a → OverNone i r
     → Walked owner f on r
 walked-leaf (isZero {a} w e) o x =
-    let c = counted-leaf o (x .1) in
+    let c = scored-leaf o (x .1) in
     record { reads = x .0; raw = c; parted = parted-leaf (x .2) a c }
 
 -- ---- one operand
-module _ {owner : List ℕ} {f : Formula} {a : Counted} (h : Walked owner f boardsMost a) {on : ℕ} {r : Counted} (n : r .read ≡ 1 + a .read) (e : r .raw .counts ≡ a .raw .counts) where
+module _ {owner : List ℕ} {f : Formula} {a : CutWalk} (h : Walked owner f boardsMost a) {on : ℕ} {r : CutWalk} (n : r .read ≡ 1 + a .read) (e : r .raw .counts ≡ a .raw .counts) where
   over-one : (o : Unary) → Parted owner (unfolded (one o f)) on (r .part) → Walked owner (one o f) on r
-  over-one o p = record { reads = let x = h .reads in omega arith; raw = rw e (counted-one o (h .raw)); parted = p }
+  over-one o p = record { reads = let x = h .reads in omega arith; raw = rw e (scored-one o (h .raw)); parted = p }
 
   pub walked-not : {o : Unary} → o ≡ Not → r .part .scores .counts ≡ a .part .scores .counts → r .part .choice ≡ a .part .choice
       → r .part .cuts ≡ lookedCuts (a .part) (placeOf on (a .part .scores .counts)) → Walked owner (one o f) on r
@@ -46,26 +46,26 @@ module _ {owner : List ℕ} {f : Formula} {a : Counted} (h : Walked owner f boar
   pub walked-next : {o : Unary} → o ≡ Next → Bare (r .part) (a .raw .counts) → Walked owner (one o f) on r
   walked-next i b = rw i (over-one Next (parted-next b f (h .raw)))
 
-  pub walked-ever : {o : Unary} {j : Join} {x : Part} → o ≡ Ever j → Bare x (a .raw .counts) → Joins (a .part) x on (r .part) → Walked owner (one o f) on r
-  walked-ever {j = j} i b k = let o = Ever j in rw i (over-one o (parted-joined j (h .parted) (parted-next b (one o f) (counted-one o (h .raw))) k))
+  pub walked-ever : {o : Unary} {j : Join} {x : LaidPart} → o ≡ Ever j → Bare x (a .raw .counts) → Joins (a .part) x on (r .part) → Walked owner (one o f) on r
+  walked-ever {j = j} i b k = let o = Ever j in rw i (over-one o (parted-joined j (h .parted) (parted-next b (one o f) (scored-one o (h .raw))) k))
 
 -- ---- two operands
-module _ {owner : List ℕ} {f g : Formula} {a c : Counted} (h : Walked owner f boardsMost a) (k : Walked owner g boardsMost c) where
-  raw-two : (o : Binary) {counts : List ℕ} → counts ≡ added (a .raw .counts) (c .raw .counts) → tallies.Counted owner (two o f g) counts
-  raw-two o e = rw e (counted-two o (h .raw) (k .raw))
+module _ {owner : List ℕ} {f g : Formula} {a c : CutWalk} (h : Walked owner f boardsMost a) (k : Walked owner g boardsMost c) where
+  raw-two : (o : Binary) {counts : List ℕ} → counts ≡ added (a .raw .counts) (c .raw .counts) → ScoredAs owner (two o f g) counts
+  raw-two o e = rw e (scored-two o (h .raw) (k .raw))
 
-  module _ {on : ℕ} {r : Counted} (n : r .read ≡ 1 + a .read + c .read) (e : r .raw .counts ≡ added (a .raw .counts) (c .raw .counts)) where
+  module _ {on : ℕ} {r : CutWalk} (n : r .read ≡ 1 + a .read + c .read) (e : r .raw .counts ≡ added (a .raw .counts) (c .raw .counts)) where
     over-two : (o : Binary) → Parted owner (unfolded (two o f g)) on (r .part) → Walked owner (two o f g) on r
     over-two o p = record { reads = let x = h .reads in let y = k .reads in omega arith; raw = raw-two o e; parted = p }
 
     pub walked-joined : {o : Binary} {j : Join} → o ≡ Joined j → Joins (a .part) (c .part) on (r .part) → Walked owner (two o f g) on r
     walked-joined {o} {j} i s = rw i (over-two (Joined j) (parted-joined j (h .parted) (k .parted) s))
 
-    pub walked-until : {o : Binary} {x y : Part} → o ≡ Until → Bare x (r .raw .counts) → Joins (a .part) x boardsMost y → Joins (c .part) y on (r .part) → Walked owner (two o f g) on r
+    pub walked-until : {o : Binary} {x y : LaidPart} → o ≡ Until → Bare x (r .raw .counts) → Joins (a .part) x boardsMost y → Joins (c .part) y on (r .part) → Walked owner (two o f g) on r
     walked-until i b s t = rw i (over-two Until (parted-joined Or (k .parted) (parted-joined And (h .parted) (parted-next b (two Until f g) (raw-two Until e)) s) t))
 
 -- ---- no sum is large
-module _ {a : Counted} (p : Countable a) where
+module _ {a : CutWalk} (p : Countable a) where
   few-one : size (unfolded (p .formula)) ≤ 4100 * size (p .formula)
   few-one = unfolded-few (p .formula) (omega arith)
 
@@ -75,10 +75,10 @@ module _ {a : Counted} (p : Countable a) where
   pub raw-few : Few (a .raw .counts)
   raw-few i = let x = p .walked .raw .few i in omega arith
 
-  pub ever-joinable : {x : Part} → Bare x (a .raw .counts) → Joinable (a .part) x
+  pub ever-joinable : {x : LaidPart} → Bare x (a .raw .counts) → Joinable (a .part) x
   ever-joinable b = joinable {on = boardsMost} (p .walked .parted) (parted-next b (p .formula) (p .walked .raw)) (let y = few-one in omega arith)
 
-module _ {a c : Counted} (p : Pairable a c) where
+module _ {a c : CutWalk} (p : Pairable a c) where
   few-left : size (unfolded (p .left)) ≤ 4100 * size (p .left)
   few-left = unfolded-few (p .left) (omega arith)
 
@@ -92,7 +92,7 @@ module _ {a c : Counted} (p : Pairable a c) where
   both-joinable = joinable (p .walked-left .parted) (p .walked-right .parted) (let y = few-left in let z = few-right in omega arith)
 
   -- the copy and both operands, whichever of them it is joined with first
-  pub until-few : {x : Part} → Bare x (added (a .raw .counts) (c .raw .counts)) → (i : ℕ)
+  pub until-few : {x : LaidPart} → Bare x (added (a .raw .counts) (c .raw .counts)) → (i : ℕ)
       → (getD (a .part .scores .counts) i 0 + getD (c .part .scores .counts) i 0 + getD (x .scores .counts) i 0 < untilBelow)
       × (a .part .cuts + c .part .cuts + x .cuts < untilBelow)
   until-few b i =
@@ -104,11 +104,11 @@ module _ {a c : Counted} (p : Pairable a c) where
       (omega (arith, l .scored .few i, r .scored .few i, copied .scored .few i), omega (arith, l .few, r .few, copied .few))
 
 -- ---- the walk
-pub walked-over-one : {owner s rest : List ℕ} {f : Formula} {o : Unary} {a : Counted} {on : ℕ} {r : Counted} → Single s rest f o → Cutting owner (tail 1 s) boardsMost a → OverOne o a on r
+pub walked-over-one : {owner s rest : List ℕ} {f : Formula} {o : Unary} {a : CutWalk} {on : ℕ} {r : CutWalk} → Single s rest f o → Cutting owner (tail 1 s) boardsMost a → OverOne o a on r
     → Walked owner f on r
 walked-over-one x h k = rw (x .same) (k _ _ (h _ _ (x .front)))
 
-pub walked-over-two : {owner s rest : List ℕ} {f : Formula} {o : Binary} {a c : Counted} {on : ℕ} {r : Counted} → Double s rest f o → Cutting owner (tail 1 s) boardsMost a
+pub walked-over-two : {owner s rest : List ℕ} {f : Formula} {o : Binary} {a c : CutWalk} {on : ℕ} {r : CutWalk} → Double s rest f o → Cutting owner (tail 1 s) boardsMost a
     → Cutting owner (tail (1 + a .read) s) boardsMost c → OverTwo o a c on r → Walked owner f on r
 walked-over-two x u h k =
     let w = u _ _ (x .front) in

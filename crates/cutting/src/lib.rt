@@ -5,7 +5,7 @@ ghost use mathlib.Core.Path.{_≡_};
 ghost use mathlib.Core.Option.{none};
 ghost use Prim.Native.Nat.{_+_, _<_, _≤_, _^_};
 ghost use lib.ListN.{length};
-ghost use Rattle.limits.specs.Limits.{boardsMost};
+ghost use Rattle.limits.specs.Limits.{boardsMost, nodesRoom};
 ghost use Rattle.network.specs.Scores.{highest};
 ghost use Rattle.nodes.specs.Begins.{Begins};
 ghost use Rattle.scores.specs.Owned.{Table};
@@ -14,7 +14,7 @@ ghost use Rattle.cutting.specs.Cuts.{codeOf, placeBy, staysOn, cutBy, lo
 use kinds::Binary;
 use kinds::Kind;
 use kinds::Unary;
-use scores::Choice;
+use scores::BoardChoice;
 use scores::Scores;
 
 // Stands for a board: the part's own choice where a board is asked for, and that it stays where a choice is told.
@@ -22,17 +22,17 @@ pub const STAYS: u8 = 16;
 
 // A part that is laid on a board: its scores, the board that they choose, and how many parts are cut out of it where it is laid. The
 // choice is looked at by the part's own node and by the one above, and is made once.
-pub struct Part {
+pub struct LaidPart {
     pub scores: Scores,
     pub choice: u8,
     pub cuts: usize,
 }
 
 // A formula as it was walked over: its length, its scores as it stands, and what it is unfolded.
-pub struct Counted {
+pub struct CutWalk {
     pub read: usize,
     pub raw: Scores,
-    pub part: Part,
+    pub part: LaidPart,
 }
 
 // The board that scores choose, as a number.
@@ -42,8 +42,8 @@ pub fn choice_of(scores: Scores) -> u8
 {
     let c = scores.choice();
     match c {
-        Choice::Board(b) => b,
-        Choice::Stays => STAYS,
+        BoardChoice::Board(b) => b,
+        BoardChoice::Stays => STAYS,
     }
 }
 
@@ -71,7 +71,7 @@ fn cut_by(choice: u8, board: u8) -> usize
     if stays_on(choice, board) { 0 } else { 1 }
 }
 
-impl Part {
+impl LaidPart {
     // The cuts where this part is looked at as an operand of a slot on the board.
     fn looked(self, board: u8) -> usize
         requires { ⌜ self .cuts + 1 < 2 ^ 64 ⌝ }
@@ -82,7 +82,7 @@ impl Part {
 }
 
 // Two parts under a join, laid on the board given or on their own choice.
-fn joined(a: Part, b: Part, on: u8) -> Part
+fn joined(a: LaidPart, b: LaidPart, on: u8) -> LaidPart
     requires { ⌜ Joinable a b ⌝ }
     ensures { λ r. ⌜ Joins a b on r ⌝ }
 {
@@ -91,7 +91,7 @@ fn joined(a: Part, b: Part, on: u8) -> Part
     let scores = left.plus(right);
     let choice = choice_of(scores);
     let board = place_of(choice, on);
-    Part {
+    LaidPart {
         scores: scores,
         choice: choice,
         cuts: a.looked(board) + b.looked(board),
@@ -99,11 +99,11 @@ fn joined(a: Part, b: Part, on: u8) -> Part
 }
 
 // A formula under next: nothing is cut out of it.
-fn under_next(raw: Scores) -> Part
+fn under_next(raw: Scores) -> LaidPart
     requires { ⌜ Few (raw .counts) ⌝ }
     ensures { λ r. ⌜ Bare r (raw .counts) ⌝ }
 {
-    Part {
+    LaidPart {
         scores: raw,
         choice: choice_of(raw),
         cuts: 0,
@@ -111,15 +111,15 @@ fn under_next(raw: Scores) -> Part
 }
 
 // A node without operands: its owner, if it has one, is what it is chosen for.
-fn over_none(owner: u8) -> Counted
+fn over_none(owner: u8) -> CutWalk
     requires { ⌜ owner ≤ boardsMost ⌝ }
     ensures { λ r. ⌜ OverNone owner r ⌝ }
 {
     let raw = Scores::one(owner);
-    Counted {
+    CutWalk {
         read: 1,
         raw: raw,
-        part: Part {
+        part: LaidPart {
             scores: raw,
             choice: owner,
             cuts: 0,
@@ -128,7 +128,7 @@ fn over_none(owner: u8) -> Counted
 }
 
 // A node with one operand, which was walked over.
-fn over_one(o: Unary, a: Counted, on: u8) -> Counted
+fn over_one(o: Unary, a: CutWalk, on: u8) -> CutWalk
     requires { ⌜ Countable a ⌝ }
     ensures { λ r. ⌜ OverOne o a on r ⌝ }
 {
@@ -140,22 +140,22 @@ fn over_one(o: Unary, a: Counted, on: u8) -> Counted
             let scores = part.scores;
             let choice = part.choice;
             let cuts = part.looked(place_of(choice, on));
-            Counted {
+            CutWalk {
                 read: read,
                 raw: raw,
-                part: Part {
+                part: LaidPart {
                     scores: scores,
                     choice: choice,
                     cuts: cuts,
                 },
             }
         }
-        Unary::Next => Counted {
+        Unary::Next => CutWalk {
             read: read,
             raw: raw,
             part: under_next(raw),
         },
-        Unary::Ever(_) => Counted {
+        Unary::Ever(_) => CutWalk {
             read: read,
             raw: raw,
             part: joined(part, under_next(raw), on),
@@ -164,7 +164,7 @@ fn over_one(o: Unary, a: Counted, on: u8) -> Counted
 }
 
 // A node with two operands, which were walked over.
-fn over_two(o: Binary, a: Counted, c: Counted, on: u8) -> Counted
+fn over_two(o: Binary, a: CutWalk, c: CutWalk, on: u8) -> CutWalk
     requires { ⌜ Pairable a c ⌝ }
     ensures { λ r. ⌜ OverTwo o a c on r ⌝ }
 {
@@ -175,12 +175,12 @@ fn over_two(o: Binary, a: Counted, c: Counted, on: u8) -> Counted
     let g = c.part;
     let read = 1 + a.read + c.read;
     match o {
-        Binary::Joined(_) => Counted {
+        Binary::Joined(_) => CutWalk {
             read: read,
             raw: raw,
             part: joined(f, g, on),
         },
-        Binary::Until => Counted {
+        Binary::Until => CutWalk {
             read: read,
             raw: raw,
             part: joined(g, joined(f, under_next(raw), STAYS), on),
@@ -189,8 +189,8 @@ fn over_two(o: Binary, a: Counted, c: Counted, on: u8) -> Counted
 }
 
 // The cuts of the formula that s begins with, unfolded, on the board given or on its own choice.
-pub fn count_cuts(s: &[u8], owner: &[u8], on: u8) -> Counted
-    requires { ⌜ Begins (now s) × Table (now owner) × (length (now s) ≤ 4096) ⌝ }
+pub fn count_cuts(s: &[u8], owner: &[u8], on: u8) -> CutWalk
+    requires { ⌜ Begins (now s) × Table (now owner) × (length (now s) ≤ nodesRoom) ⌝ }
     ensures { λ r. ⌜ Cutting (now (owner .entry)) (now (s .entry)) on r ⌝ }
 {
     let k = Kind::of(s[0]);

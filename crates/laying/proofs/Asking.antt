@@ -19,7 +19,8 @@ use Rattle.network.specs.Layout.{Laid, cut, looked, laid}
 use Rattle.nodes.specs.Begins.{Front}
 use Rattle.cutting.specs.Cuts.{codeOf, staysOn}
 use Rattle.cutting.proofs.Looking.{stays-none, stays-board}
-use Rattle.tagging.specs.Tags.{boardIn, Tags, Tagged}
+use Rattle.tagging.specs.Packed.{boardIn}
+use Rattle.tagging.specs.Tags.{Tags, Tagged}
 use Rattle.laying.specs.declared.Place.{Place}
 use Rattle.laying.specs.declared.Lain.{Lain}
 use Rattle.laying.specs.Lays.{OnBoard, Source, Fits, Lays}

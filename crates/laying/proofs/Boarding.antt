@@ -12,16 +12,16 @@ use Rattle.nodes.specs.Begins.{Front}
 use Rattle.scores.specs.Owned.{Owned}
 use Rattle.cutting.specs.Cuts.{choiceOf}
 use Rattle.cutting.proofs.Looking.{place-given}
-use Rattle.tagging.specs.declared.Placed.{Placed}
+use Rattle.tagging.specs.declared.TaggedPart.{TaggedPart}
 use Rattle.tagging.specs.Tags.{TaggedAs}
-use Rattle.tagging.proofs.Places.{tag-has}
+use Rattle.tagging.proofs.Packing.{board-fits, tag-has}
 use Rattle.laying.specs.Lays.{OnBoard}
 
-pub on-board : {owner u tags : List ℕ} {f : Formula} {board : ℕ} (p q : ℕ) (masks : List ℕ) (y : Placed) → Owned p masks owner → Within p q f → Front u f []
+pub on-board : {owner u tags : List ℕ} {f : Formula} {board : ℕ} (p q : ℕ) (masks : List ℕ) (y : TaggedPart) → Owned p masks owner → Within p q f → Front u f []
     → TaggedAs owner f board tags y → board < boardsMost → OnBoard (chosen masks) u tags f [] board
 on-board {tags = tags} {board = board} p q masks y owned within front m l =
     let b : y .board ≡ board = m .board-is ∙ place-given board (choiceOf (y .scores .counts)) (λ e. omega arith) in
-    let h = tag-has (getD tags 0 0) (y .here) (y .board) (m .tag-is) (omega arith) (m .small) in
+    let h = tag-has (getD tags 0 0) (y .here) (y .board) (m .tag-is) (board-fits (y .board) (omega arith)) (m .small) in
     record {
       front = front;
       board-is = h .board-is ∙ b;

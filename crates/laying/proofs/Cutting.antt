@@ -20,7 +20,8 @@ use Rattle.le.specs.Le.{le}
 use Rattle.ltl.specs.Formula.{Formula, size, encode}
 use Rattle.network.specs.Layout.{Laid, whole, beside, cut, looked, laid}
 use Rattle.cutting.specs.Cuts.{staysOn}
-use Rattle.tagging.specs.Tags.{boardIn, hereIn, aheadIn}
+use Rattle.tagging.specs.Packed.{boardIn, aheadIn}
+use Rattle.tagging.proofs.Packing.{Has}
 use Rattle.nodes.proofs.Fronts.{Parts, isZero, isOne, isTwo, parts-as, zero-size}
 use Rattle.laying.specs.declared.Place.{Place}
 use Rattle.laying.specs.declared.Lain.{Lain}
@@ -30,7 +31,7 @@ use Rattle.laying.proofs.Sources.{source-tail}
 use Rattle.laying.proofs.Writing.{lays-whole, lays-one, lays-two, lays-slot}
 use Rattle.laying.proofs.Asking.{looked-stays, looked-cut}
 use Rattle.laying.proofs.Parts.{Operand, operand-laid, not, pair, Top, overOne, overTwo, tops}
-use Rattle.laying.proofs.Slots.{slot-size, held, held-stands, held-laid}
+use Rattle.laying.proofs.Slots.{slot-size, slot-board, held, held-stands, held-laid}
 
 -- the four numbers of what was laid
 abbrev pub Numbers : Lain → ℕ → ℕ → ℕ → ℕ → Type 0
@@ -120,28 +121,27 @@ module _ {u tags : List ℕ} {at : Place} {p r : List ℕ} where
       (l .0, subst (λ (x : Laid). Lays x at p r p′ r′ y) (sym (c .laid-is)) (l .1))
 
   -- ---- a slot of its own
-  pub slot-lays : {q r1 r2 : List ℕ} {x : Lain} (z : Lain) → r1 ≡ (boardIn (getD tags 0 0) ∷ 0 ∷ (le 2 (at .node) ++ le 2 (hereIn (getD tags 0 0)))) ++ drop 6 r
-      → Cuts u tags (owned at (boardIn (getD tags 0 0)) (hereIn (getD tags 0 0))) (tail (at .gap) (set p 0 (leafCode (Hold (at .slot))))) (tail 6 r1) q r2 x
-      → Numbers z (x .read) 1 (1 + x .slots) (hereIn (getD tags 0 0) + x .nodes)
+  pub slot-lays : {q r1 r2 : List ℕ} {x : Lain} {n c : ℕ} (z : Lain) → Has (getD tags 0 0) n c → r1 ≡ (c ∷ 0 ∷ (le 2 (at .node) ++ le 2 n)) ++ drop 6 r
+      → Cuts u tags (owned at c n) (tail (at .gap) (set p 0 (leafCode (Hold (at .slot))))) (tail 6 r1) q r2 x
+      → Numbers z (x .read) 1 (1 + x .slots) (n + x .nodes)
       → LaysSlot u tags at p r (tailAs (at .gap) (set p 0 (leafCode (Hold (at .slot)))) q) (tailAs 6 r1 r2) z
-  slot-lays {q} {r1} {r2} {x} z row h e choose hold f rest board s o =
-      let b = boardIn (getD tags 0 0) in
-      let n = hereIn (getD tags 0 0) in
+  slot-lays {q} {r1} {r2} {x} {n} {c} z has row h e choose hold f rest board s o =
       let l = h choose hold f rest s (o .front) (o .tagged) in
       let P = tailAs (at .gap) (set p 0 (leafCode (Hold (at .slot)))) q in
-      let size-is : n ≡ size (laid choose hold f b (at .slot + 1) .here) = slot-size s o (at .slot + 1) ∙ ap (λ (i : ℕ). size (laid choose hold f i (at .slot + 1) .here)) (sym (o .board-is)) in (
+      let size-is : n ≡ size (laid choose hold f c (at .slot + 1) .here) = slot-size has s o (at .slot + 1) ∙ ap (λ (i : ℕ). size (laid choose hold f i (at .slot + 1) .here)) (slot-board has o) in (
         e .0 ∙ l .0,
-        subst (λ (i : ℕ). Lays (cut i (at .slot) (laid choose hold f i (at .slot + 1))) at p r P (tailAs 6 r1 r2) z) (o .board-is)
-            (lays-slot (laid choose hold f b (at .slot + 1)) b at p r q r1 r2 n x size-is row (l .1) z (e .1)),
+        subst (λ (i : ℕ). Lays (cut i (at .slot) (laid choose hold f i (at .slot + 1))) at p r P (tailAs 6 r1 r2) z) (sym (slot-board has o))
+            (lays-slot (laid choose hold f c (at .slot + 1)) c at p r q r1 r2 n x size-is row (l .1) z (e .1)),
       )
 
   -- ---- a place holder
-  pub hold-cuts : {m : ℕ} {p′ r′ : List ℕ} {y : Lain} (z : Lain) → kindOf (getD u 0 0) ≡ Zero (Hold m) → LaysSlot (tail (aheadIn (getD tags 0 0)) u) (tail (aheadIn (getD tags 0 0)) tags) at p r p′ r′ y
-      → Numbers z 1 (y .here) (y .slots) (y .nodes) → Cuts u tags at p r p′ r′ z
-  hold-cuts {p′ = p′} {r′ = r′} z k h e choose hold f rest s front tagged =
+  pub hold-cuts : {m ahead : ℕ} {p′ r′ : List ℕ} {y : Lain} (z : Lain) → kindOf (getD u 0 0) ≡ Zero (Hold m) → ahead ≡ aheadIn (getD tags 0 0)
+      → LaysSlot (tail ahead u) (tail ahead tags) at p r p′ r′ y → Numbers z 1 (y .here) (y .slots) (y .nodes) → Cuts u tags at p r p′ r′ z
+  hold-cuts {ahead = ahead} {p′ = p′} {r′ = r′} {y = y} z k far h e choose hold f rest s front tagged =
       let t = parts-as u f rest front refl k in
       let x = held s t in
-      let l = h choose hold (x .formula) (x .rest) (x .board) (source-tail (aheadIn (getD tags 0 0)) u tags (x .inside) s) (held-stands s t) .1 in
+      let h′ : LaysSlot (tail (aheadIn (getD tags 0 0)) u) (tail (aheadIn (getD tags 0 0)) tags) at p r p′ r′ y = subst (λ (d : ℕ). LaysSlot (tail d u) (tail d tags) at p r p′ r′ y) far h in
+      let l = h′ choose hold (x .formula) (x .rest) (x .board) (source-tail (aheadIn (getD tags 0 0)) u tags (x .inside) s) (held-stands s t) .1 in
       let again : Lays (cut (x .board) (at .slot) (laid choose hold (x .formula) (x .board) (at .slot + 1))) at p r p′ r′ z =
       record { here-is = e .1 .0 ∙ l .here-is; slots-are = e .1 .1 ∙ l .slots-are; nodes-are = e .1 .2 ∙ l .nodes-are; nodes = l .nodes; records = l .records } in
       (e .0 ∙ zero-size t, subst (λ (y : Laid). Lays y at p r p′ r′ z) (sym (held-laid s t (at .board) (at .slot))) again)

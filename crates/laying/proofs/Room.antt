@@ -15,12 +15,14 @@ use Rattle.kinds.specs.declared.Binary.the-variants.{Joined}
 use Rattle.kinds.specs.declared.Kind.{Kind}
 use Rattle.kinds.specs.declared.Kind.the-variants.{Zero, Two}
 use Rattle.kinds.specs.Kinds.{kindOf, leafCode}
+use Rattle.limits.specs.Limits.{slotsRoom, nodesRoom}
 use Rattle.ltl.specs.Formula.{Formula, size}
 use Rattle.ltl.proofs.Decoding.{size-some}
 use Rattle.network.specs.Layout.{Laid}
 use Rattle.nodes.specs.Begins.{Front}
 use Rattle.nodes.proofs.Fronts.{parts-as, front-length}
-use Rattle.tagging.specs.Tags.{boardIn, hereIn, aheadIn}
+use Rattle.tagging.specs.Packed.{aheadIn}
+use Rattle.tagging.proofs.Packing.{Has}
 use Rattle.laying.specs.declared.Place.{Place}
 use Rattle.laying.specs.declared.Lain.{Lain}
 use Rattle.laying.specs.Lays.{Source, Fits, Lays, CutAsk, Cuts, LookAsk, Looks, SlotAsk}
@@ -49,8 +51,8 @@ pub record Done (u : List ℕ) (at : Place) (p r : ℕ) (x : Lain) : Type 0 wher
   pub here : x .here ≤ at .gap
   pub nodes : at .gap + x .nodes ≤ p
   pub records : 6 * x .slots ≤ r
-  pub slots : at .slot + x .slots ≤ 64
-  pub numbers : at .node + x .nodes ≤ 4096
+  pub slots : at .slot + x .slots ≤ slotsRoom
+  pub numbers : at .node + x .nodes ≤ nodesRoom
 
 done : {u rest p r p′ r′ : List ℕ} {f : Formula} {X : Laid} {at : Place} {m n : ℕ} {x : Lain} → Front u f rest → Fits X at m n → (x .read ≡ size f) × Lays X at p r p′ r′ x → Done u at m n x
 done {u} {rest} {f = f} front fits y =
@@ -86,8 +88,8 @@ pub record FirstDone (u tags : List ℕ) (at : Place) (p r : List ℕ) (b : ℕ)
   pub here : 1 + x .here ≤ at .gap
   pub nodes : at .gap + x .nodes ≤ length p
   pub records : 6 * x .slots ≤ length r
-  pub slots : at .slot + x .slots ≤ 64
-  pub numbers : at .node + x .nodes ≤ 4096
+  pub slots : at .slot + x .slots ≤ slotsRoom
+  pub numbers : at .node + x .nodes ≤ nodesRoom
   pub kept : length (tailAs 1 (set p 0 b) q) ≡ length p
 
 pub first-done : {u tags p r q r′ : List ℕ} {at : Place} {b : ℕ} {x : Lain} → Begun u tags at p r b → Looks (tail 1 u) (tail 1 tags) (inner at) (tail 1 (set p 0 b)) r q r′ x
@@ -120,8 +122,8 @@ right-begun {u} {p = p} {q = q} {r1 = r1} {b = b} {x = x} ask kind h d e =
 pub record BothDone (u p r p′ r′ : List ℕ) (x y : Lain) : Type 0 where
   pub reads : 1 + x .read + y .read ≤ length u
   pub here : 1 + x .here + y .here ≤ length p
-  pub slots : x .slots + y .slots ≤ 64
-  pub nodes : x .nodes + y .nodes ≤ 4096
+  pub slots : x .slots + y .slots ≤ slotsRoom
+  pub nodes : x .nodes + y .nodes ≤ nodesRoom
   pub kept : length p′ ≡ length p
   pub records-kept : length r′ ≡ length r
 
@@ -138,43 +140,40 @@ both-done {u} {p = p} {q = q} {r1 = r1} {q2 = q2} {r2 = r2} {b = b} {x = x} d e 
     record { reads = omega arith; here = omega arith; slots = omega arith; nodes = omega arith; kept = omega arith; records-kept = omega arith }
 
 -- ---- a place holder
-pub record HoldEntry (u tags : List ℕ) : Type 0 where
-  pub inside : aheadIn (getD tags 0 0) ≤ length u
+pub record HoldEntry (u tags : List ℕ) (ahead : ℕ) : Type 0 where
+  pub inside : ahead ≤ length u
   pub long : length u ≤ length tags
-  pub some-bytes : 0 < length u
-  pub fewer : 1 + length (tail (aheadIn (getD tags 0 0)) u) ≤ length u
+  pub fewer : 1 + length (tail ahead u) ≤ length u
 
-pub hold-entry : {u tags p r : List ℕ} {at : Place} {m : ℕ} → CutAsk u tags at p r → kindOf (getD u 0 0) ≡ Zero (Hold m) → HoldEntry u tags
-hold-entry {u} {tags} ask kind =
+pub hold-entry : {u tags p r : List ℕ} {at : Place} {m ahead : ℕ} → CutAsk u tags at p r → kindOf (getD u 0 0) ≡ Zero (Hold m) → ahead ≡ aheadIn (getD tags 0 0) → HoldEntry u tags ahead
+hold-entry {u} {ahead = ahead} ask kind far =
     let n = entry (ask .source) (ask .front) (ask .fits) in
     let h = held (ask .source) (parts-as u (ask .formula) (ask .rest) (ask .front) refl kind) in
-    let l = tail-length (aheadIn (getD tags 0 0)) u in
+    let l = tail-length ahead u in
     let a = h .ahead in
-    record { inside = h .inside; long = n .long; some-bytes = n .some-bytes; fewer = omega arith }
+    let b = h .inside in
+    record { inside = omega arith; long = n .long; fewer = omega arith }
 
--- ---- a slot of its own: its place holder is put, and its parts are laid behind its record
-pub record SlotBegun (u tags : List ℕ) (at : Place) (p r : List ℕ) : Type 0 where
-  pub some-tags : 0 < length tags
+-- ---- a slot of its own, with n nodes on board c: its place holder is put, and its parts are laid behind its record
+pub record SlotBegun (u tags : List ℕ) (at : Place) (p r : List ℕ) (n c : ℕ) : Type 0 where
   pub some-gap : 0 < at .gap
   pub gap-few : at .gap ≤ length p
-  pub length-few : hereIn (getD tags 0 0) ≤ 4096
-  pub slot-few : at .slot < 64
-  pub node-few : at .node + hereIn (getD tags 0 0) ≤ 4096
+  pub length-few : n ≤ nodesRoom
+  pub slot-few : at .slot < slotsRoom
+  pub node-few : at .node + n ≤ nodesRoom
   pub row : 6 ≤ length r
   pub put-length : length (set p 0 (leafCode (Hold (at .slot)))) ≡ length p
-  pub asks : (t : List ℕ) → length t ≡ length r
-      → CutAsk u tags (owned at (boardIn (getD tags 0 0)) (hereIn (getD tags 0 0))) (tail (at .gap) (set p 0 (leafCode (Hold (at .slot))))) (tail 6 t)
+  pub asks : (t : List ℕ) → length t ≡ length r → CutAsk u tags (owned at c n) (tail (at .gap) (set p 0 (leafCode (Hold (at .slot))))) (tail 6 t)
   pub kept : (q : List ℕ) → length q ≡ length (tail (at .gap) (set p 0 (leafCode (Hold (at .slot))))) → length (tailAs (at .gap) (set p 0 (leafCode (Hold (at .slot)))) q) ≡ length p
 
-pub slot-begun : {u tags p r : List ℕ} {at : Place} → SlotAsk u tags at p r → SlotBegun u tags at p r
-slot-begun {p = p} {at = at} ask =
+pub slot-begun : {u tags p r : List ℕ} {at : Place} {n c : ℕ} → SlotAsk u tags at p r → Has (getD tags 0 0) n c → SlotBegun u tags at p r n c
+slot-begun {p = p} {at = at} ask has =
     let n = entry (ask .source) (ask .stands .front) (ask .fits) in
-    let z = slot-size (ask .source) (ask .stands) (at .slot + 1) in
+    let z = slot-size has (ask .source) (ask .stands) (at .slot + 1) in
     let f = ask .fits in
     let P = set p 0 (leafCode (Hold (at .slot))) in
     let l : length P ≡ length p = length-set p 0 (leafCode (Hold (at .slot))) in
     record {
-      some-tags = omega arith;
       some-gap = n .some-gap;
       gap-few = n .gap-few;
       length-few = omega arith;
@@ -182,6 +181,6 @@ slot-begun {p = p} {at = at} ask =
       node-few = omega arith;
       row = omega arith;
       put-length = l;
-      asks = λ t e. slot-asks ask (tail (at .gap) P) (tail 6 t) (tail-length (at .gap) P ∙ ap (_- at .gap) l) (tail-length 6 t ∙ ap (_- 6) e);
+      asks = λ t e. slot-asks has ask (tail (at .gap) P) (tail 6 t) (tail-length (at .gap) P ∙ ap (_- at .gap) l) (tail-length 6 t ∙ ap (_- 6) e);
       kept = λ q e. handed-length (at .gap) P q (omega arith) e ∙ l;
     }

@@ -2,41 +2,49 @@
 -- Assumes nothing.
 use mathlib.Core.Path.{_≡_, sym, ap, _∙_, subst}
 use mathlib.Core.List.{List, [], _∷_, _++_, append-assoc}
-use Prim.Native.Nat.{ℕ, _+_, _-_, _*_, _≤_}
+use Prim.Native.Nat.{ℕ, _+_, _-_, _*_, _<_, _≤_}
 use native.Mathlib.Omega.{arith}
 use lib.ListN.{length, getD, take, drop, length-drop, take-append-drop}
 use lib.Seq.{length-take-le, drop-drop}
 use Rattle.lists.specs.Runs.{tail, tailAs}
 use Rattle.lists.proofs.Parts.{tail-length, handed-length}
 use Rattle.le.specs.Le.{le}
+use Rattle.limits.specs.Limits.{nodesRoom}
 use Rattle.ltl.specs.Formula.{size, encode}
 use Rattle.ltl.proofs.Decoding.{size-some}
 use Rattle.network.specs.Layout.{Laid, rooted, laid}
 use Rattle.state.specs.Bytes.{nodesOf, slotRecords, nodeBytes}
 use Rattle.nodes.proofs.Fronts.{front-length}
-use Rattle.tagging.specs.Tags.{boardIn, hereIn}
+use Rattle.tagging.proofs.Packing.{Has}
 use Rattle.laying.specs.declared.Lain.{Lain}
 use Rattle.laying.specs.Lays.{Fits, Lays, CutAsk, Cuts, RootAsk, LaysRoot}
 use Rattle.laying.proofs.Places.{first}
-use Rattle.laying.proofs.Slots.{slot-size}
+use Rattle.laying.proofs.Slots.{slot-size, slot-board}
 use Rattle.laying.proofs.Writing.{slot-records}
 
--- the numbers that the code needs, and what it asks behind the record
-pub record RootBegun (u tags p r : List ℕ) : Type 0 where
-  pub some-tags : 1 ≤ length tags
-  pub length-few : hereIn (getD tags 0 0) ≤ 4096
+-- the numbers that the code needs, and what it asks behind the record, of a slot of n nodes on board c
+pub record RootBegun (u tags p r : List ℕ) (n c : ℕ) : Type 0 where
+  pub length-few : n ≤ nodesRoom
   pub row : 6 ≤ length r
-  pub asks : (t : List ℕ) → length t ≡ length r → CutAsk u tags (first (boardIn (getD tags 0 0)) (hereIn (getD tags 0 0))) p (tail 6 t)
+  pub asks : (t : List ℕ) → length t ≡ length r → CutAsk u tags (first c n) p (tail 6 t)
   pub kept : (t q : List ℕ) → length t ≡ length r → length q ≡ length (tail 6 t) → length (tailAs 6 t q) ≡ length r
 
-module _ {u tags p r : List ℕ} (ask : RootAsk u tags p r) where
+-- there is a tag
+pub root-tagged : {u tags p r : List ℕ} → RootAsk u tags p r → 0 < length tags
+root-tagged {u} ask =
+    let l = front-length u (ask .formula) (ask .rest) (ask .stands .front) in
+    let s = size-some (ask .formula) in
+    let t = ask .source .long in
+    omega arith
+
+module _ {u tags p r : List ℕ} {n c : ℕ} (ask : RootAsk u tags p r) (has : Has (getD tags 0 0) n c) where
   abbrev laid-root : Laid
   laid-root = laid (ask .choose) (ask .hold) (ask .formula) (ask .board) 1
 
-  root-asks : (t : List ℕ) → length t ≡ length r - 6 → CutAsk u tags (first (boardIn (getD tags 0 0)) (hereIn (getD tags 0 0))) p t
+  root-asks : (t : List ℕ) → length t ≡ length r - 6 → CutAsk u tags (first c n) p t
   root-asks t e =
-      let z = slot-size (ask .source) (ask .stands) 1 in
-      let room : Fits laid-root (first (ask .board) (hereIn (getD tags 0 0))) (length p) (length t) =
+      let z = slot-size has (ask .source) (ask .stands) 1 in
+      let room : Fits laid-root (first (ask .board) n) (length p) (length t) =
       record { here = omega arith; nodes = omega arith; records = omega arith; slots = omega arith; numbers = omega arith } in
       record {
         choose = ask .choose;
@@ -47,17 +55,14 @@ module _ {u tags p r : List ℕ} (ask : RootAsk u tags p r) where
         front = ask .stands .front;
         tagged = ask .stands .tagged;
         fits =
-            subst (λ (i : ℕ). Fits (laid (ask .choose) (ask .hold) (ask .formula) i 1) (first i (hereIn (getD tags 0 0))) (length p) (length t)) (sym (ask .stands .board-is)) room;
+            subst (λ (i : ℕ). Fits (laid (ask .choose) (ask .hold) (ask .formula) i 1) (first i n) (length p) (length t)) (slot-board has (ask .stands)) room;
       }
 
-  pub root-begun : RootBegun u tags p r
+  pub root-begun : RootBegun u tags p r n c
   root-begun =
-      let z = slot-size (ask .source) (ask .stands) 1 in
-      let l = front-length u (ask .formula) (ask .rest) (ask .stands .front) in
-      let s = size-some (ask .formula) in
+      let z = slot-size has (ask .source) (ask .stands) 1 in
       let row : 6 ≤ length r = omega arith in
       record {
-        some-tags = omega arith;
         length-few = omega arith;
         row = row;
         asks = λ t e. root-asks (tail 6 t) (tail-length 6 t ∙ ap (_- 6) e);
@@ -81,19 +86,17 @@ module _ (X : Laid) (board n : ℕ) (size-is : n ≡ size (X .here)) (p r r1 p�
       let m = 6 * length (rooted board X) in
       slot-records X board 0 n n r r1 r2 size-is (omega arith) row (h .records) (take m r) (drop m r) (sym (take-append-drop m r)) (length-take-le m r l)
 
-pub root-lays : {u tags p : List ℕ} (r : List ℕ) {r1 p′ r2 : List ℕ} {x : Lain} → r1 ≡ (boardIn (getD tags 0 0) ∷ 0 ∷ (le 2 0 ++ le 2 (hereIn (getD tags 0 0)))) ++ drop 6 r
-    → Cuts u tags (first (boardIn (getD tags 0 0)) (hereIn (getD tags 0 0))) p (tail 6 r1) p′ r2 x → LaysRoot u tags p r p′ (tailAs 6 r1 r2)
-root-lays {u} {tags} {p} r {r1} {p′} {r2} {x} row h choose hold f rest board s o l k =
+pub root-lays : {u tags p : List ℕ} (r : List ℕ) {r1 p′ r2 : List ℕ} {x : Lain} {n c : ℕ} → Has (getD tags 0 0) n c → r1 ≡ (c ∷ 0 ∷ (le 2 0 ++ le 2 n)) ++ drop 6 r
+    → Cuts u tags (first c n) p (tail 6 r1) p′ r2 x → LaysRoot u tags p r p′ (tailAs 6 r1 r2)
+root-lays {u} {tags} {p} r {r1} {p′} {r2} {x} {n} {c} has row h choose hold f rest board s o l k =
     subst
     (λ (b : ℕ). nodesOf (rooted b (laid choose hold f b 1)) ≤ length p → 6 * length (rooted b (laid choose hold f b 1)) ≤ length r
     → (p′ ≡ nodeBytes (rooted b (laid choose hold f b 1)) ++ drop (nodesOf (rooted b (laid choose hold f b 1))) p)
     × (tailAs 6 r1 r2 ≡ slotRecords 0 (rooted b (laid choose hold f b 1)) ++ drop (6 * length (rooted b (laid choose hold f b 1))) r))
-    (o .board-is)
+    (sym (slot-board has o))
     (λ l k.
-    (let b = boardIn (getD tags 0 0) in
-    let n = hereIn (getD tags 0 0) in
-    let X = laid choose hold f b 1 in
+    (let X = laid choose hold f c 1 in
     let y = h choose hold f rest s (o .front) (o .tagged) .1 in
-    let size-is : n ≡ size (X .here) = slot-size s o 1 ∙ ap (λ (i : ℕ). size (laid choose hold f i 1 .here)) (sym (o .board-is)) in
-    (root-nodes X b n size-is p r r1 p′ r2 x y l, root-rows X b n size-is p r r1 p′ r2 x y row k)))
+    let size-is : n ≡ size (X .here) = slot-size has s o 1 ∙ ap (λ (i : ℕ). size (laid choose hold f i 1 .here)) (slot-board has o) in
+    (root-nodes X c n size-is p r r1 p′ r2 x y l, root-rows X c n size-is p r r1 p′ r2 x y row k)))
     l k

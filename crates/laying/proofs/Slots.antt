@@ -15,7 +15,8 @@ use Rattle.ltl.specs.Formula.{Formula, size}
 use Rattle.network.specs.Layout.{Laid, cut, laid}
 use Rattle.cutting.specs.Cuts.{staysOn}
 use Rattle.nodes.proofs.Fronts.{Parts, isZero, parts-as}
-use Rattle.tagging.specs.Tags.{boardIn, hereIn, aheadIn}
+use Rattle.tagging.specs.Packed.{boardIn, aheadIn}
+use Rattle.tagging.proofs.Packing.{Has}
 use Rattle.laying.specs.declared.Place.{Place}
 use Rattle.laying.specs.Lays.{OnBoard, HeldAt, Source, Fits, CutAsk, LookAsk, SlotAsk}
 use Rattle.laying.proofs.Places.{owned}
@@ -52,16 +53,18 @@ module _ {u tags p r : List ℕ} {at : Place} (ask : LookAsk u tags at p r) wher
         fits = subst (λ (x : Laid). Fits x at (length p) (length r)) (c .laid-is) (ask .fits);
       }
 
--- ---- a slot of its own
-pub slot-size : {u tags : List ℕ} {choose : Formula → Option ℕ} {hold : ℕ → ℕ → Laid} {f : Formula} {rest : List ℕ} {board : ℕ} → Source choose hold u tags → OnBoard choose u tags f rest board
-    → (k : ℕ) → hereIn (getD tags 0 0) ≡ size (laid choose hold f board k .here)
-slot-size {choose = choose} {hold = hold} {f = f} {board = board} s o k = o .here-is ∙ sym (here-size choose hold (s .single) f board k)
+-- ---- a slot of its own, with n nodes on board c by its tag
+pub slot-size : {u tags : List ℕ} {n c : ℕ} {choose : Formula → Option ℕ} {hold : ℕ → ℕ → Laid} {f : Formula} {rest : List ℕ} {board : ℕ} → Has (getD tags 0 0) n c → Source choose hold u tags
+    → OnBoard choose u tags f rest board → (k : ℕ) → n ≡ size (laid choose hold f board k .here)
+slot-size {choose = choose} {hold = hold} {f = f} {board = board} has s o k = sym (has .here-is) ∙ o .here-is ∙ sym (here-size choose hold (s .single) f board k)
 
-pub slot-asks : {u tags p r : List ℕ} {at : Place} (ask : SlotAsk u tags at p r) (q t : List ℕ) → length q ≡ length p - at .gap → length t ≡ length r - 6
-    → CutAsk u tags (owned at (boardIn (getD tags 0 0)) (hereIn (getD tags 0 0))) q t
-slot-asks {tags = tags} {at = at} ask q t e g =
-    let n = hereIn (getD tags 0 0) in
-    let room = fits-slot (ask .board) n (slot-size (ask .source) (ask .stands) (at .slot + 1)) (ask .fits) in
+pub slot-board : {u tags : List ℕ} {n c : ℕ} {choose : Formula → Option ℕ} {f : Formula} {rest : List ℕ} {board : ℕ} → Has (getD tags 0 0) n c → OnBoard choose u tags f rest board → board ≡ c
+slot-board has o = sym (o .board-is) ∙ has .board-is
+
+pub slot-asks : {u tags p r : List ℕ} {at : Place} {n c : ℕ} → Has (getD tags 0 0) n c → (ask : SlotAsk u tags at p r) (q t : List ℕ) → length q ≡ length p - at .gap → length t ≡ length r - 6
+    → CutAsk u tags (owned at c n) q t
+slot-asks {at = at} {n = n} has ask q t e g =
+    let room = fits-slot (ask .board) n (slot-size has (ask .source) (ask .stands) (at .slot + 1)) (ask .fits) in
     record {
       choose = ask .choose;
       hold = ask .hold;
@@ -71,7 +74,7 @@ slot-asks {tags = tags} {at = at} ask q t e g =
       front = ask .stands .front;
       tagged = ask .stands .tagged;
       fits =
-          subst (λ (c : ℕ). Fits (laid (ask .choose) (ask .hold) (ask .formula) c (at .slot + 1)) (owned at c n) (length q) (length t)) (sym (ask .stands .board-is)) (fits-as room e g);
+          subst (λ (c : ℕ). Fits (laid (ask .choose) (ask .hold) (ask .formula) c (at .slot + 1)) (owned at c n) (length q) (length t)) (slot-board has (ask .stands)) (fits-as room e g);
     }
 
 -- ---- a place holder in front
@@ -93,10 +96,11 @@ module _ {choose : Formula → Option ℕ} {hold : ℕ → ℕ → Laid} {u tags
       go : {g : Formula} → Parts u rest g (Zero (Hold m)) → laid choose hold g b k ≡ hold m k
       go (isZero w e) = refl
 
-pub hold-asks : {u tags p r : List ℕ} {at : Place} {m : ℕ} → CutAsk u tags at p r → kindOf (getD u 0 0) ≡ Zero (Hold m)
-    → SlotAsk (tail (aheadIn (getD tags 0 0)) u) (tail (aheadIn (getD tags 0 0)) tags) at p r
-hold-asks {u} {tags} {p} {r} {at} ask kind =
-    let x = parts-as u (ask .formula) (ask .rest) (ask .front) refl kind in
+pub hold-asks : {u tags p r : List ℕ} {at : Place} {m ahead : ℕ} → CutAsk u tags at p r → kindOf (getD u 0 0) ≡ Zero (Hold m) → ahead ≡ aheadIn (getD tags 0 0)
+    → SlotAsk (tail ahead u) (tail ahead tags) at p r
+hold-asks {u} {tags} {p} {r} {at} ask kind far =
+    rw far
+    (let x = parts-as u (ask .formula) (ask .rest) (ask .front) refl kind in
     let h = held (ask .source) x in
     record {
       choose = ask .choose;
@@ -107,4 +111,4 @@ hold-asks {u} {tags} {p} {r} {at} ask kind =
       source = source-tail (aheadIn (getD tags 0 0)) u tags (h .inside) (ask .source);
       stands = held-stands (ask .source) x;
       fits = subst (λ (y : Laid). Fits y at (length p) (length r)) (held-laid (ask .source) x (at .board) (at .slot)) (ask .fits);
-    }
+    })

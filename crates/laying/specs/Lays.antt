@@ -15,7 +15,8 @@ use Rattle.network.specs.Layout.{Laid, cut, rooted, looked, laid}
 use Rattle.state.specs.Clauses.{slotsMost}
 use Rattle.state.specs.Bytes.{nodesOf, slotRecords, nodeBytes}
 use Rattle.nodes.specs.Begins.{Begins, Front}
-use Rattle.tagging.specs.Tags.{hereOn, boardIn, hereIn, aheadIn, Tags, Tagged}
+use Rattle.tagging.specs.Packed.{boardIn, hereIn, aheadIn}
+use Rattle.tagging.specs.Tags.{hereOn, Tags, Tagged}
 use Rattle.laying.specs.declared.Place.{Place}
 use Rattle.laying.specs.declared.Lain.{Lain}
 

@@ -14,6 +14,7 @@ use kinds::Binary;
 use kinds::Kind;
 use kinds::Leaf;
 use kinds::Unary;
+use tagging::packed;
 
 // Where laying stands: the board of the slot whose nodes are written; the next slot's number, where its nodes begin in the network,
 // and how far behind the node to be written that is.
@@ -55,7 +56,7 @@ pub fn cut_parts(u: &[u8], tags: &[u32], at: Place, p: &mut [u8], r: &mut [u8]) 
             Leaf::Const(_) => put_leaf(p, b),
             Leaf::Prop(_) => put_leaf(p, b),
             Leaf::Hold(_) => {
-                let ahead = (tags[0] / 262144) as usize;
+                let ahead = packed::ahead_of(tags[0]);
                 let x = lay_slot(&u[ahead..], &tags[ahead..], at, p, r);
                 Lain {
                     read: 1,
@@ -171,7 +172,7 @@ fn look(u: &[u8], tags: &[u32], at: Place, p: &mut [u8], r: &mut [u8]) -> Lain
     requires { ⌜ LookAsk (now u) (now tags) at (now p) (now r) ⌝ }
     ensures { λ x. ⌜ Looks (now (u .entry)) (now (tags .entry)) at (now (p .entry)) (now (r .entry)) (now (p .exit)) (now (r .exit)) x ⌝ }
 {
-    let choice = (tags[0] % 32) as u8;
+    let choice = packed::board_of(tags[0]);
     if cutting::stays_on(choice, at.board) {
         return cut_parts(u, tags, at, p, r);
     }
@@ -184,8 +185,8 @@ fn lay_slot(u: &[u8], tags: &[u32], at: Place, p: &mut [u8], r: &mut [u8]) -> La
     ensures { λ x. ⌜ LaysSlot (now (u .entry)) (now (tags .entry)) at (now (p .entry)) (now (r .entry)) (now (p .exit)) (now (r .exit)) x ⌝ }
 {
     let tag = tags[0];
-    let n = (tag / 32 % 8192) as usize;
-    let board = (tag % 32) as u8;
+    let n = packed::length_of(tag);
+    let board = packed::board_of(tag);
     let gap = at.gap;
     p[0] = Kind::HOLD + at.slot as u8;
     put_record(r, board, at.node as u16, n as u16);
@@ -211,8 +212,8 @@ pub fn lay_root(u: &[u8], tags: &[u32], p: &mut [u8], r: &mut [u8])
     ensures { λ _. ⌜ LaysRoot (now (u .entry)) (now (tags .entry)) (now (p .entry)) (now (r .entry)) (now (p .exit)) (now (r .exit)) ⌝ }
 {
     let tag = tags[0];
-    let n = (tag / 32 % 8192) as usize;
-    let board = (tag % 32) as u8;
+    let n = packed::length_of(tag);
+    let board = packed::board_of(tag);
     put_record(r, board, 0, n as u16);
     let own = Place {
         board: board,

@@ -6,7 +6,7 @@ use native.Mathlib.Omega.{arith}
 use lib.ListN.{length, take}
 use lib.Dec.{eqb}
 use Rattle.lists.specs.Tests.{pick}
-use Rattle.limits.specs.Limits.{boardsMost}
+use Rattle.limits.specs.Limits.{boardsMost, nodesRoom}
 use Rattle.ltl.specs.Formula.{Formula, size}
 use Rattle.ltl.specs.Progression.{unfolded}
 use Rattle.network.specs.Scores.{chosen}
@@ -15,16 +15,16 @@ use Rattle.nodes.specs.Begins.{Front, Begins}
 use Rattle.nodes.proofs.Fronts.{front-length, front-one-way}
 use Rattle.scores.specs.Owned.{Table}
 use Rattle.unfolding.specs.declared.Walk.{Walk}
-use Rattle.unfolding.specs.Unfolds.{Room, Unfolds, UnfoldedTo}
+use Rattle.unfolding.specs.Unfolds.{UnfoldAsk, Unfolds, UnfoldedTo}
 use Rattle.unfolding.proofs.Fronts.{written-bytes, written-front}
-use Rattle.cutting.specs.declared.Part.{Part}
+use Rattle.cutting.specs.declared.LaidPart.{LaidPart}
 use Rattle.cutting.specs.Cuts.{codeOf}
 use Rattle.cutting.proofs.Choices.{chosen-below}
-use Rattle.tagging.specs.declared.Placed.{Placed}
+use Rattle.tagging.specs.declared.TaggedPart.{TaggedPart}
 use Rattle.tagging.specs.Tags.{TaggedAs, Tagging}
 use Rattle.storing.specs.Stores.{LaidOut, Counts, StateAsk, Stores}
 use Rattle.loading.specs.Load.{BeginAsk, FirstAsk, Firsts}
-use Rattle.loading.proofs.Rules.{Fitting, board-of, first-large, first-slots, first-nodes, first-choice, first-laid}
+use Rattle.loading.proofs.Rules.{LayoutFits, board-of, first-large, first-slots, first-nodes, first-choice, first-laid}
 
 pub whole-begins : {s : List ℕ} {f : Formula} → Front s f [] → Begins s
 whole-begins {f = f} x = record { formula = f; rest = []; front = x }
@@ -33,10 +33,10 @@ module _ {state masks bytes owner : List ℕ} {board slots nodes : ℕ} {u tags 
   abbrev U : Formula
   U = unfolded (ask .rule)
 
-  pub first-size : size U ≤ 4096
+  pub first-size : size U ≤ nodesRoom
   first-size = let l = first-large (ask .ruled) in omega arith
 
-  pub unfold-ask : Room u bytes
+  pub unfold-ask : UnfoldAsk u bytes
   unfold-ask = record { begins = record { formula = ask .rule; rest = []; front = ask .ruled .front }; room = let s = first-size in omega arith }
 
   module _ {u′ : List ℕ} (w : Walk) (h : Unfolds u bytes u′ (w .read) (w .written)) where
@@ -46,13 +46,13 @@ module _ {state masks bytes owner : List ℕ} {board slots nodes : ℕ} {u tags 
     front-is : Front (take (w .written) u′) U []
     front-is = written-front rule-unfolded (ask .ruled .front .coded)
 
-    pub tag-ask : Begins (take (w .written) u′) × Table owner × (length (take (w .written) u′) ≤ length tags) × (length (take (w .written) u′) ≤ 4096)
+    pub tag-ask : Begins (take (w .written) u′) × Table owner × (length (take (w .written) u′) ≤ length tags) × (length (take (w .written) u′) ≤ nodesRoom)
     tag-ask =
         let e = front-length (take (w .written) u′) U [] front-is in
         let s = first-size in
         (whole-begins front-is, ask .table, omega arith, omega arith)
 
-    module _ {tags′ : List ℕ} (y : Placed) (m : Tagging owner (take (w .written) u′) board tags′ y) (kept : length tags′ ≡ length tags) where
+    module _ {tags′ : List ℕ} (y : TaggedPart) (m : Tagging owner (take (w .written) u′) board tags′ y) (kept : length tags′ ≡ length tags) where
       laid-is : LaidOut (take (w .written) u′) tags′ (firstOf masks (ask .rule))
       laid-is =
           subst (λ (x : List ℕ). LaidOut x tags′ (firstOf masks (ask .rule))) (sym (written-bytes rule-unfolded))
@@ -71,8 +71,8 @@ module _ {state masks bytes owner : List ℕ} {board slots nodes : ℕ} {u tags 
           subst (λ (f : Formula). state′ ≡ loadedState masks f) same (h (firstOf masks (ask .rule)) laid-is counts-are)
 
 -- ---- what the counts tell
-pub first-ask : {masks bytes state owner : List ℕ} (ask : BeginAsk masks bytes state) → Table owner → {x : Part} {count : ℕ} → Fitting (ask .ruled) owner x count
-    → {board : ℕ} → board ≡ pick (eqb (x .choice) boardsMost) 0 (x .choice) → {u tags : List ℕ} → length u ≡ 4096 → length tags ≡ 4096
+pub first-ask : {masks bytes state owner : List ℕ} (ask : BeginAsk masks bytes state) → Table owner → {x : LaidPart} {count : ℕ} → LayoutFits (ask .ruled) owner x count
+    → {board : ℕ} → board ≡ pick (eqb (x .choice) boardsMost) 0 (x .choice) → {u tags : List ℕ} → length u ≡ nodesRoom → length tags ≡ nodesRoom
     → FirstAsk state masks bytes owner board (1 + x .cuts) (count + x .cuts) u tags
 first-ask {masks} ask table fits b ul ml =
     let s = first-slots (fits .cut) in

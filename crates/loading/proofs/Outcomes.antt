@@ -18,10 +18,11 @@ use Rattle.answers.specs.Said.{Said, accepted, refused, left, numberOf, Check, 
 use Rattle.answers.proofs.Answers.{number-some, left-refused, left-accepted, Passed, order-ok, order-refused, order-done}
 use Rattle.ltl.specs.Formula.{Formula, size, encode, Within, Coded}
 use Rattle.ltl.specs.Progression.{unfolded}
+use Rattle.state.specs.Clauses.{slotsMost}
 use Rattle.state.specs.Bytes.{nodesOf}
 use Rattle.state.specs.Calls.{firstOf, loadedState}
-use Rattle.cutting.specs.declared.Part.{Part}
-use Rattle.limits.specs.Limits.{boardsMost, ruleNodesMost, propositionsMost, holderCodes}
+use Rattle.cutting.specs.declared.LaidPart.{LaidPart}
+use Rattle.limits.specs.Limits.{boardsMost, propositionsMost, holderCodes, ruleNodesMost, nodesRoom, nodesMost}
 use Rattle.masks.specs.Masks.{masksRule}
 use Rattle.ltl.specs.Decode.{decoded, isRule, someFormula}
 use Rattle.ltl.proofs.Decoding.{RuleText, rule-is, decoded-of, wider}
@@ -33,8 +34,8 @@ use Rattle.rules.specs.RuleFile.{version, fileFormulaAt, countsOk, versionInFil
 use Rattle.rules.specs.Read.{offsetsOk, readSays, Reads}
 use Rattle.rules.specs.Read as read
 use Rattle.state.specs.Fields.{stateLength}
-use Rattle.loading.specs.Load.{ruleIn, loadLengthsOk, loadSays, LoadsRule, Ruled, beginSays, BeginAsk, Begun}
-use Rattle.loading.proofs.Rules.{Cut, Fitting, first-slots, first-nodes}
+use Rattle.loading.specs.Load.{ruleIn, loadLengthsOk, loadSays, LoadsRule, RuleGiven, beginSays, BeginAsk, Begun}
+use Rattle.loading.proofs.Rules.{Cut, LayoutFits, first-slots, first-nodes}
 
 -- ---- begin
 -- so much is answered of a rule, and so much left of the state
@@ -44,24 +45,24 @@ Ends masks rule state state′ said = (said ≡ beginSays masks rule) × (state�
 refusal : (masks : List ℕ) (rule : Formula) (state : List ℕ) (why : Refusal) → beginSays masks rule ≡ refused (numberOf why) → Ends masks rule state state (refused (numberOf why))
 refusal masks rule state why e = (sym e, sym (ap (λ (s : Said). left s (loadedState masks rule) state) e ∙ left-refused why (loadedState masks rule) state))
 
-slots-ok : {masks bytes owner : List ℕ} {x : Part} {rule : Formula} {r : Ruled masks bytes rule} → Cut r owner x → 1 + x .cuts ≤ 64 → leb (length (firstOf masks rule)) 64 ≡ true
-slots-ok {masks} {rule = rule} cuts few = let e = first-slots cuts in le-leb (length (firstOf masks rule)) 64 (omega arith)
+slots-ok : {masks bytes owner : List ℕ} {x : LaidPart} {rule : Formula} {r : RuleGiven masks bytes rule} → Cut r owner x → 1 + x .cuts ≤ slotsMost → leb (length (firstOf masks rule)) slotsMost ≡ true
+slots-ok {masks} {rule = rule} cuts few = let e = first-slots cuts in le-leb (length (firstOf masks rule)) slotsMost (omega arith)
 
-module _ {masks bytes owner : List ℕ} (state : List ℕ) {x : Part} {rule : Formula} {r : Ruled masks bytes rule} (cuts : Cut r owner x) where
-  pub begun-slots : 64 < 1 + x .cuts → Ends masks rule state state (refused (numberOf Slots))
-  begun-slots l = let e = first-slots cuts in refusal masks rule state Slots (order-refused 7 _ _ _ (lt-leb (length (firstOf masks rule)) 64 (omega arith)))
+module _ {masks bytes owner : List ℕ} (state : List ℕ) {x : LaidPart} {rule : Formula} {r : RuleGiven masks bytes rule} (cuts : Cut r owner x) where
+  pub begun-slots : slotsMost < 1 + x .cuts → Ends masks rule state state (refused (numberOf Slots))
+  begun-slots l = let e = first-slots cuts in refusal masks rule state Slots (order-refused 7 _ _ _ (lt-leb (length (firstOf masks rule)) slotsMost (omega arith)))
 
-  pub begun-nodes : 1 + x .cuts ≤ 64 → {count : ℕ} → count ≡ min (size (unfolded rule)) 4097 → 4096 < count + x .cuts → Ends masks rule state state (refused (numberOf Nodes))
+  pub begun-nodes : 1 + x .cuts ≤ slotsMost → {count : ℕ} → count ≡ min (size (unfolded rule)) (nodesRoom + 1) → nodesMost < count + x .cuts → Ends masks rule state state (refused (numberOf Nodes))
   begun-nodes few c l =
       let e = first-nodes cuts in
-      refusal masks rule state Nodes (order-ok 7 _ _ _ (slots-ok cuts few) ∙ order-refused 8 _ _ _ (lt-leb (nodesOf (firstOf masks rule)) 4096 (omega arith)))
+      refusal masks rule state Nodes (order-ok 7 _ _ _ (slots-ok cuts few) ∙ order-refused 8 _ _ _ (lt-leb (nodesOf (firstOf masks rule)) nodesMost (omega arith)))
 
-pub begun-done : {masks bytes owner : List ℕ} (state : List ℕ) {x : Part} {count : ℕ} {rule : Formula} {r : Ruled masks bytes rule} → Fitting r owner x count
+pub begun-done : {masks bytes owner : List ℕ} (state : List ℕ) {x : LaidPart} {count : ℕ} {rule : Formula} {r : RuleGiven masks bytes rule} → LayoutFits r owner x count
     → {state′ : List ℕ} → state′ ≡ loadedState masks rule → Ends masks rule state state′ (accepted [])
 begun-done {masks} state {rule = rule} fits h =
     let e = first-nodes (fits .cut) in
     let says : beginSays masks rule ≡ accepted [] =
-    order-ok 7 _ _ _ (slots-ok (fits .cut) (fits .few-slots)) ∙ order-ok 8 _ _ _ (le-leb (nodesOf (firstOf masks rule)) 4096 (omega arith)) ∙ order-done _ in
+    order-ok 7 _ _ _ (slots-ok (fits .cut) (fits .few-slots)) ∙ order-ok 8 _ _ _ (le-leb (nodesOf (firstOf masks rule)) nodesMost (omega arith)) ∙ order-done _ in
     (sym says, h ∙ sym (ap (λ (s : Said). left s (loadedState masks rule) state) says ∙ left-accepted [] (loadedState masks rule) state))
 
 -- ---- load
@@ -96,7 +97,7 @@ module _ (file state : List ℕ) where
     -- the checks of the file are those of reading
     abbrev layout-checks : List Check
     layout-checks =
-        check 7 (leb (length (firstOf (masksInFile file) (ruleIn file))) 64) ∷ check 8 (leb (nodesOf (firstOf (masksInFile file) (ruleIn file))) 4096) ∷ []
+        check 7 (leb (length (firstOf (masksInFile file) (ruleIn file))) slotsMost) ∷ check 8 (leb (nodesOf (firstOf (masksInFile file) (ruleIn file))) nodesMost) ∷ []
 
     abbrev file-checks : List Check
     file-checks =
@@ -140,7 +141,7 @@ module _ (file : List ℕ) (passed : ReadPassed file boardsMost ruleNodesMost) w
   pub read-within : Within (propositionsInFile file) 0 (ruleIn file)
   read-within = subst (Within (propositionsInFile file) 0) (sym same) (told .within)
 
-  pub read-ruled : Ruled (masksInFile file) (formulaInFile file) (ruleIn file)
+  pub read-ruled : RuleGiven (masksInFile file) (formulaInFile file) (ruleIn file)
   read-ruled =
       let z = sized file boardsMost ruleNodesMost (passed .lengths) in
       let c = counted (boardsInFile file) (propositionsInFile file) (nodesInFile file) (passed .counts) in
@@ -158,7 +159,7 @@ module _ (file : List ℕ) (passed : ReadPassed file boardsMost ruleNodesMost) w
       }
 
 -- ---- a rule was read into outputs of their lengths: all that the call needs of it
-pub record Read (file masks′ formula′ : List ℕ) (c : Counts) : Type 0 where
+pub record RuleRead (file masks′ formula′ : List ℕ) (c : Counts) : Type 0 where
   pub passed : ReadPassed file boardsMost ruleNodesMost
   pub boards-few : c .boards ≤ boardsMost
   pub nodes-few : c .nodes ≤ ruleNodesMost
@@ -193,7 +194,7 @@ module _ {file masks formula masks′ formula′ : List ℕ} {c : Counts} (m : l
   output-front l l₀ l′ n room e k =
       ap (take n) (e ∙ ap (λ (s : Said). left s (padded room l) l₀) says-read ∙ left-accepted _ (padded room l) l₀) ∙ take-at l (replicate (room - length l) 0) n k
 
-  pub read-whole : Read file masks′ formula′ c
+  pub read-whole : RuleRead file masks′ formula′ c
   read-whole =
       let n = counted (boardsInFile file) (propositionsInFile file) (nodesInFile file) (passed .counts) in
       let z = sized file boardsMost ruleNodesMost (passed .lengths) in
@@ -209,7 +210,7 @@ module _ {file masks formula masks′ formula′ : List ℕ} {c : Counts} (m : l
         formula-is = output-front (formulaInFile file) formula formula′ (c .nodes) ruleNodesMost (r .leaves-formula) (omega arith);
       }
 
-module _ {file masks′ formula′ : List ℕ} {c : Counts} {state : List ℕ} (long : length state ≡ stateLength) (r : Read file masks′ formula′ c) where
+module _ {file masks′ formula′ : List ℕ} {c : Counts} {state : List ℕ} (long : length state ≡ stateLength) (r : RuleRead file masks′ formula′ c) where
   pub read-begins : BeginAsk (take (c .boards) masks′) (take (c .nodes) formula′) state
   read-begins = record { rule = ruleIn file; ruled = rw (r .masks-are, r .formula-is) (read-ruled file (r .passed)); long = long }
 

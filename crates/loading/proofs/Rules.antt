@@ -16,7 +16,7 @@ use Rattle.kinds.specs.declared.Leaf.{Leaf}
 use Rattle.kinds.specs.declared.Leaf.the-variants.{Const, Prop, Hold}
 use Rattle.kinds.specs.Kinds.{leafWithin, leafCode}
 use Rattle.kinds.proofs.Codes.{unary-low, binary-low}
-use Rattle.limits.specs.Limits.{boardsMost, propositionsMost, holderCodes}
+use Rattle.limits.specs.Limits.{boardsMost, propositionsMost, holderCodes, ruleNodesMost, slotsRoom, nodesRoom}
 use Rattle.ltl.specs.Formula.{Formula, leaf, one, two, size, encode, Within}
 use Rattle.ltl.specs.Progression.{unfolded}
 use Rattle.ltl.proofs.Decoding.{length-encode, unfolded-coded}
@@ -30,19 +30,19 @@ use Rattle.state.specs.Bytes.{nodesOf}
 use Rattle.state.specs.Calls.{firstOf}
 use Rattle.nodes.proofs.Fronts.{front-length}
 use Rattle.scores.specs.Owned.{Owned}
-use Rattle.scores.proofs.Counting.{counted-chosen}
-use Rattle.cutting.specs.declared.Part.{Part}
+use Rattle.scores.proofs.Counting.{scored-chosen}
+use Rattle.cutting.specs.declared.LaidPart.{LaidPart}
 use Rattle.cutting.specs.Cuts.{codeOf, cutsOn, Rests, Parted}
 use Rattle.cutting.proofs.Choices.{chosen-below}
 use Rattle.cutting.proofs.Nodes.{unfolded-few}
 use Rattle.nodes.specs.Begins.{Front}
-use Rattle.tagging.specs.declared.Placed.{Placed}
+use Rattle.tagging.specs.declared.TaggedPart.{TaggedPart}
 use Rattle.tagging.specs.Tags.{TaggedAs}
 use Rattle.laying.specs.Lays.{Source}
 use Rattle.laying.proofs.Boarding.{on-board}
 use Rattle.laying.proofs.Counting.{held, held-none, laid-slots, laid-nodes}
 use Rattle.storing.specs.Stores.{LaidOut}
-use Rattle.loading.specs.Load.{Ruled}
+use Rattle.loading.specs.Load.{RuleGiven}
 
 -- ---- the board of the first slot
 pub board-none : (choice : ℕ) → choice ≡ boardsMost → pick (eqb choice boardsMost) 0 choice ≡ 0
@@ -58,13 +58,13 @@ board-of none h = board-none boardsMost refl
 board-of (some c) h = let l = h c refl in board-some c (λ e. omega arith)
 
 -- ---- no place holder among the bytes of a formula without one
-leaf-holder : (p : ℕ) → p ≤ 64 → (a : Leaf) → leafWithin p 0 a → (m : ℕ) → leafCode a ≡ leafCode (Hold m) → ⊥
+leaf-holder : (p : ℕ) → p ≤ propositionsMost → (a : Leaf) → leafWithin p 0 a → (m : ℕ) → leafCode a ≡ leafCode (Hold m) → ⊥
 leaf-holder p few (Const true) w m e = omega arith
 leaf-holder p few (Const false) w m e = omega arith
 leaf-holder p few (Prop j) w m e = omega arith
 leaf-holder p few (Hold k) w m e = omega arith
 
-no-holder : (p : ℕ) → p ≤ 64 → (f : Formula) → Within p 0 f → (i m : ℕ) → i < size f → getD (encode f) i 0 ≡ leafCode (Hold m) → ⊥
+no-holder : (p : ℕ) → p ≤ propositionsMost → (f : Formula) → Within p 0 f → (i m : ℕ) → i < size f → getD (encode f) i 0 ≡ leafCode (Hold m) → ⊥
 no-holder p few (leaf a) w zero m l e = leaf-holder p few a w m e
 no-holder p few (leaf a) w (suc i) m l e = omega arith
 no-holder p few (one o f) w zero m l e = let h = unary-low o in omega arith
@@ -85,7 +85,7 @@ no-holder p few (two o f g) w (suc i) m l e =
         right (omega arith) (sym (getD-append-add (encode f) (encode g) (i - size f) 0) ∙ ap (λ (x : ℕ). getD (encode f ++ encode g) x 0) j ∙ e)
 
 -- ---- a rule that was read
-module _ {masks bytes : List ℕ} {rule : Formula} (r : Ruled masks bytes rule) where
+module _ {masks bytes : List ℕ} {rule : Formula} (r : RuleGiven masks bytes rule) where
   abbrev choose : Formula → Option ℕ
   choose = chosen masks
 
@@ -95,7 +95,7 @@ module _ {masks bytes : List ℕ} {rule : Formula} (r : Ruled masks bytes rule) 
   rule-within : Within (r .propositions) 0 (unfolded rule)
   rule-within = unfolded-coded (r .propositions) 0 rule (r .within)
 
-  pub rule-size : size rule ≤ 1024
+  pub rule-size : size rule ≤ ruleNodesMost
   rule-size = let e = front-length bytes rule [] (r .front) in omega arith
 
   first-rests : Rests choose (unfolded rule) first-board
@@ -124,7 +124,7 @@ module _ {masks bytes : List ℕ} {rule : Formula} (r : Ruled masks bytes rule) 
   first-large = omega (arith, laid-out-nodes)
 
   -- the tagged bytes are laid out to it
-  module _ (owner : List ℕ) (owned : Owned (r .propositions) masks owner) (tags : List ℕ) (y : Placed) (m : TaggedAs owner (unfolded rule) first-board tags y) (long : size (unfolded rule) ≤ length tags) where
+  module _ (owner : List ℕ) (owned : Owned (r .propositions) masks owner) (tags : List ℕ) (y : TaggedPart) (m : TaggedAs owner (unfolded rule) first-board tags y) (long : size (unfolded rule) ≤ length tags) where
     first-source : Source choose noHold (encode (unfolded rule)) tags
     first-source =
         record {
@@ -152,15 +152,15 @@ module _ {masks bytes : List ℕ} {rule : Formula} (r : Ruled masks bytes rule) 
         }
 
 -- ---- how many slots and nodes the layout has, by the cuts that were counted
-pub record Cut {masks bytes : List ℕ} {rule : Formula} (r : Ruled masks bytes rule) (owner : List ℕ) (x : Part) : Type 0 where
+pub record Cut {masks bytes : List ℕ} {rule : Formula} (r : RuleGiven masks bytes rule) (owner : List ℕ) (x : LaidPart) : Type 0 where
   pub owned : Owned (r .propositions) masks owner
   pub parted : Parted owner (unfolded rule) boardsMost x
 
-module _ {masks bytes : List ℕ} {rule : Formula} {r : Ruled masks bytes rule} {owner : List ℕ} {x : Part} (cuts : Cut r owner x) where
+module _ {masks bytes : List ℕ} {rule : Formula} {r : RuleGiven masks bytes rule} {owner : List ℕ} {x : LaidPart} (cuts : Cut r owner x) where
   cuts-are : x .cuts ≡ cutsOn (chosen masks) (unfolded rule) (first-board r)
   cuts-are = cuts .parted .cuts-are (r .propositions) 0 masks (cuts .owned) (rule-within r) (first-board r) (inl (refl, first-rests r))
 
-  pub cuts-few : x .cuts < 4100 * 4096
+  pub cuts-few : x .cuts < (nodesRoom + 4) * nodesRoom
   cuts-few = let w = cuts .parted .few in let s = rule-size r in let u = unfolded-few rule (omega arith) in omega arith
 
   pub first-slots : length (firstOf masks rule) ≡ 1 + x .cuts
@@ -175,11 +175,11 @@ module _ {masks bytes : List ℕ} {rule : Formula} {r : Ruled masks bytes rule} 
   first-nodes = omega (arith, laid-out-nodes r, held-none (unfolded rule), cuts-are)
 
   pub first-choice : highest none 0 0 (x .scores .counts) ≡ chosen masks (unfolded rule)
-  first-choice = counted-chosen (r .propositions) 0 masks (cuts .parted .scored) (cuts .owned) (rule-within r)
+  first-choice = scored-chosen (r .propositions) 0 masks (cuts .parted .scored) (cuts .owned) (rule-within r)
 
 -- ---- a layout within the limits, by the nodes that were counted too
-pub record Fitting {masks bytes : List ℕ} {rule : Formula} (r : Ruled masks bytes rule) (owner : List ℕ) (x : Part) (count : ℕ) : Type 0 where
+pub record LayoutFits {masks bytes : List ℕ} {rule : Formula} (r : RuleGiven masks bytes rule) (owner : List ℕ) (x : LaidPart) (count : ℕ) : Type 0 where
   pub cut : Cut r owner x
-  pub few-slots : 1 + x .cuts ≤ 64
-  pub count-is : count ≡ min (size (unfolded rule)) 4097
-  pub few-nodes : count + x .cuts ≤ 4096
+  pub few-slots : 1 + x .cuts ≤ slotsRoom
+  pub count-is : count ≡ min (size (unfolded rule)) (nodesRoom + 1)
+  pub few-nodes : count + x .cuts ≤ nodesRoom

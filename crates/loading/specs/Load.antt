@@ -53,7 +53,7 @@ pub record LoadsRule (file state state′ : List ℕ) (answer : Outcome) : Type 
 
 -- ---- what the functions below the call ask and give
 -- masks that follow their rule, and a rule of their propositions
-pub record Ruled (masks bytes : List ℕ) (rule : Formula) : Type 0 where
+pub record RuleGiven (masks bytes : List ℕ) (rule : Formula) : Type 0 where
   pub propositions : ℕ
   pub few-propositions : propositions ≤ propositionsMost
   pub few-boards : length masks ≤ boardsMost
@@ -69,18 +69,18 @@ beginSays masks rule =
 
 pub record BeginAsk (masks bytes state : List ℕ) : Type 0 where
   pub rule : Formula
-  pub ruled : Ruled masks bytes rule
+  pub ruled : RuleGiven masks bytes rule
   pub long : length state ≡ stateLength
 
 abbrev pub Begun : List ℕ → List ℕ → List ℕ → List ℕ → Outcome → Type 0
 Begun masks bytes state state′ answer =
-    (rule : Formula) → Ruled masks bytes rule
+    (rule : Formula) → RuleGiven masks bytes rule
     → (saidOutcome answer ≡ beginSays masks rule) × (state′ ≡ left (beginSays masks rule) (loadedState masks rule) state)
 
 -- the layout is within the limits, and the board is the first slot's
 pub record FirstAsk (state masks bytes owner : List ℕ) (board slots nodes : ℕ) (u tags : List ℕ) : Type 0 where
   pub rule : Formula
-  pub ruled : Ruled masks bytes rule
+  pub ruled : RuleGiven masks bytes rule
   pub long : length state ≡ stateLength
   pub table : Table owner
   pub owned : Owned (ruled .propositions) masks owner
@@ -93,4 +93,4 @@ pub record FirstAsk (state masks bytes owner : List ℕ) (board slots nodes : �
   pub tags-long : length tags ≡ nodesMost
 
 abbrev pub Firsts : List ℕ → List ℕ → List ℕ → Type 0
-Firsts masks bytes state′ = (rule : Formula) → Ruled masks bytes rule → state′ ≡ loadedState masks rule
+Firsts masks bytes state′ = (rule : Formula) → RuleGiven masks bytes rule → state′ ≡ loadedState masks rule

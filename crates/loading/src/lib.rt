@@ -8,12 +8,13 @@ ghost use Rattle.loading.specs.Load.{FirstAsk, Firsts, BeginAsk, Begun, 
 use answers::Outcome;
 use answers::Refusal;
 use cutting::STAYS;
+use limits::BOARDS_MOST;
+use limits::NODES_ROOM;
+use limits::PROPOSITIONS_MOST;
+use limits::RULE_NODES_MOST;
+use limits::SLOTS_ROOM;
 use rules::ReadAnswer;
 use storing::STATE_LENGTH;
-use unfolding::NODES_MOST;
-
-// The most slots.
-const SLOTS_MOST: usize = 64;
 
 // The board of the first slot: board 0 where all scores are 0.
 fn first_board(choice: u8) -> u8
@@ -47,20 +48,20 @@ fn begin(masks: &[u64], rule: &[u8], state: &mut [u8]) -> Outcome
     requires { ⌜ BeginAsk (now masks) (now rule) (now state) ⌝ }
     ensures { λ r. ⌜ Begun (now (masks .entry)) (now (rule .entry)) (now (state .entry)) (now (state .exit)) r ⌝ }
 {
-    let mut owner = [0u8; 64];
+    let mut owner = [0u8; PROPOSITIONS_MOST];
     scores::owners(masks, &mut owner);
     let part = cutting::count_cuts(rule, &owner, STAYS).part;
     let slots = 1 + part.cuts;
-    if SLOTS_MOST < slots {
+    if SLOTS_ROOM < slots {
         return Outcome::Refused(Refusal::Slots);
     }
     let nodes = unfolding::count_unfolded(rule).written + part.cuts;
-    if NODES_MOST < nodes {
+    if NODES_ROOM < nodes {
         return Outcome::Refused(Refusal::Nodes);
     }
     let board = first_board(part.choice);
-    let mut u = [0u8; NODES_MOST];
-    let mut tags = [0u32; NODES_MOST];
+    let mut u = [0u8; NODES_ROOM];
+    let mut tags = [0u32; NODES_ROOM];
     put_first(
         state,
         masks,
@@ -81,8 +82,8 @@ pub fn load(file: &[u8], state: &mut [u8]) -> Outcome
     if state.len() != STATE_LENGTH {
         return Outcome::Refused(Refusal::Length);
     }
-    let mut masks = [0u64; 16];
-    let mut formula = [0u8; 1024];
+    let mut masks = [0u64; BOARDS_MOST];
+    let mut formula = [0u8; RULE_NODES_MOST];
     let answer = rules::read(file, &mut masks, &mut formula);
     match answer {
         ReadAnswer::Refused(why) => Outcome::Refused(why),

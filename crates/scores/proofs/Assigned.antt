@@ -57,17 +57,17 @@ none-has (m ∷ ms) i h zero = bit-no m i (omega arith)
 none-has (m ∷ ms) i h (suc j) = none-has ms i (omega arith) j
 
 -- ---- a proposition that one mask has
-pub record Placed (masks : List ℕ) (i x b : ℕ) : Type 0 where
+pub record AssignedOnce (masks : List ℕ) (i x b : ℕ) : Type 0 where
   pub place : ℕ
   pub number : assigned x b masks i ≡ b + place
   pub has : (j : ℕ) → bit (getD masks j 0) i ≡ eqb place j
 
-placed : (masks : List ℕ) (i x b : ℕ) → owners masks i ≡ 1 → Placed masks i x b
+assigned-once : (masks : List ℕ) (i x b : ℕ) → owners masks i ≡ 1 → AssignedOnce masks i x b
 unfolding owners assigned pick
-placed [] i x b h = absurd (omega arith)
-placed (m ∷ ms) i x b h = go (bitAt m i) refl (λ q. placed ms i x (suc b) q)
+assigned-once [] i x b h = absurd (omega arith)
+assigned-once (m ∷ ms) i x b h = go (bitAt m i) refl (λ q. assigned-once ms i x (suc b) q)
   where
-    go : (n : ℕ) → bitAt m i ≡ n → (owners ms i ≡ 1 → Placed ms i x (suc b)) → Placed (m ∷ ms) i x b
+    go : (n : ℕ) → bitAt m i ≡ n → (owners ms i ≡ 1 → AssignedOnce ms i x (suc b)) → AssignedOnce (m ∷ ms) i x b
     go zero e ih =
         let r = ih (omega arith) in
         let q = bit-no m i e in
@@ -107,7 +107,7 @@ module _ (masks before owner : List ℕ) (few : length masks ≤ boardsMost) (t 
     where
       has : (i b : ℕ) → i < p → bit (getD masks b 0) i ≡ eqb (getD owner i 0) b
       has i b h =
-          let x = placed masks i (getD before i 0) 0 (has-one p l rule i h) in
+          let x = assigned-once masks i (getD before i 0) 0 (has-one p l rule i h) in
           let e : x .place ≡ getD owner i 0 = omega (arith, x .number, each i) in
           x .has b ∙ ap (λ (k : ℕ). eqb k b) e
 

@@ -5,8 +5,8 @@ use mathlib.Core.List.{List, [], _∷_}
 use mathlib.Core.Option.{Option, none, some}
 use lib.ListN.{replicate, set, getD}
 use Rattle.limits.specs.Limits.{boardsMost}
-use Rattle.scores.specs.declared.Choice.{Choice}
-use Rattle.scores.specs.declared.Choice.the-variants.{Board, Stays}
+use Rattle.scores.specs.declared.BoardChoice.{BoardChoice}
+use Rattle.scores.specs.declared.BoardChoice.the-variants.{Board, Stays}
 
 -- nothing is scored
 abbrev pub noneScored : List ℕ
@@ -30,6 +30,6 @@ abbrev pub Few : List ℕ → Type 0
 Few counts = (b : ℕ) → getD counts b 0 < countsBelow
 
 -- the board that a part is chosen for; none where it stays
-abbrev pub boardOf : Choice → Option ℕ
+abbrev pub boardOf : BoardChoice → Option ℕ
 boardOf (Board b) = some b
 boardOf Stays = none

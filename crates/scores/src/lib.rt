@@ -6,7 +6,7 @@ ghost use Prim.Native.Nat.{ℕ, _+_, _<_, _≤_};
 ghost use lib.ListN.{length, getD};
 ghost use Rattle.lists.specs.Tests.{pick, bit};
 ghost use Rattle.kinds.specs.Kinds.{leafCoded};
-ghost use Rattle.limits.specs.Limits.{boardsMost, nodesRoom};
+ghost use Rattle.limits.specs.Limits.{boardsMost, propositionsMost, nodesRoom};
 ghost use Rattle.network.specs.Scores.{highest};
 ghost use Rattle.nodes.specs.Begins.{Begins};
 ghost use Rattle.scores.specs.Scored.{oneScored, added, countsBelow, Few, boardOf};
@@ -14,20 +14,26 @@ ghost use Rattle.scores.specs.Owned.{Table, Owns, ownerOf};
 ghost use Rattle.scores.specs.Tallies.{Tallies};
 use kinds::Kind;
 use kinds::Leaf;
+use limits::BOARDS_MOST;
 
 // Stands for a board where there is none.
 const NO_BOARD: u8 = 16;
+
+// A key has room for so many boards beside the count; the last of them.
+const KEY_BOARDS: u32 = 16;
+
+const LAST_BOARD: u32 = 15;
 
 // No count is as large: a key has room for it beside the board.
 const COUNTS_BELOW: u32 = 134217728;
 
 // How often each board's propositions occur in a part; a board that is not there counts 0.
 pub struct Scores {
-    pub counts: [u32; 16],
+    pub counts: [u32; BOARDS_MOST],
 }
 
 // The board that a part is chosen for, or that it stays where it is.
-pub enum Choice {
+pub enum BoardChoice {
     Board(u8),
     Stays,
 }
@@ -40,9 +46,9 @@ impl Scores {
         ensures { λ r. ⌜ r .counts ≡ oneScored board ⌝ }
     {
         let own = board as usize;
-        let mut counts = [0u32; 16];
+        let mut counts = [0u32; BOARDS_MOST];
         let mut b: usize = 0;
-        while b < 16 {
+        while b < BOARDS_MOST {
             counts[b] = if b == own { 1 } else { 0 };
             b += 1;
         }
@@ -56,7 +62,7 @@ impl Scores {
         let mut sums = self.counts;
         let more = other.counts;
         let mut b: usize = 0;
-        while b < 16 {
+        while b < BOARDS_MOST {
             sums[b] = sums[b] + more[b];
             b += 1;
         }
@@ -66,24 +72,24 @@ impl Scores {
     // The highest score, the lowest board on a tie; a part whose scores are all 0 stays. A board's key is its count and behind it how
     // far the board is from the last one, so that the highest key tells both. The remainder changes no count: it tells the compiler
     // that a key has no highest bit, and four of them are then compared at once.
-    pub fn choice(self) -> Choice
+    pub fn choice(self) -> BoardChoice
         requires { ⌜ Few (self .counts) ⌝ }
         ensures { λ r. ⌜ boardOf r ≡ highest none 0 0 (self .counts) ⌝ }
     {
         let counts = self.counts;
         let mut most: u32 = 0;
         let mut b: usize = 0;
-        while b < 16 {
-            let key = counts[b] % COUNTS_BELOW * 16 + (15 - b as u32);
+        while b < BOARDS_MOST {
+            let key = counts[b] % COUNTS_BELOW * KEY_BOARDS + (LAST_BOARD - b as u32);
             if most < key {
                 most = key;
             }
             b += 1;
         }
-        if most < 16 {
-            return Choice::Stays;
+        if most < KEY_BOARDS {
+            return BoardChoice::Stays;
         }
-        Choice::Board(15 - (most % 16) as u8)
+        BoardChoice::Board((LAST_BOARD - most % KEY_BOARDS) as u8)
     }
 }
 
@@ -145,7 +151,7 @@ pub fn tally(s: &[u8], owner: &[u8]) -> Tallied
 
 // Makes a board the owner of each proposition of its mask, the lowest one first, which is then cleared.
 fn own(mask: u64, board: u8, owner: &mut [u8])
-    requires { ⌜ length (now owner) ≡ 64 ⌝ }
+    requires { ⌜ length (now owner) ≡ propositionsMost ⌝ }
     ensures { λ _. ⌜ ((i : ℕ) → getD (now (owner .exit)) i 0 ≡ pick (bit mask i) board (getD (now (owner .entry)) i 0)) ⌝ }
 {
     let mut left = mask;
@@ -158,7 +164,7 @@ fn own(mask: u64, board: u8, owner: &mut [u8])
 
 // Fills the table of each proposition's board from the boards' masks. A proposition that no mask has keeps what the table had.
 pub fn owners(masks: &[u64], owner: &mut [u8])
-    requires { ⌜ (length (now masks) ≤ 16) × Table (now owner) ⌝ }
+    requires { ⌜ (length (now masks) ≤ boardsMost) × Table (now owner) ⌝ }
     ensures { λ _. ⌜ Owns (now (masks .entry)) (now (owner .entry)) (now (owner .exit)) ⌝ }
 {
     let mut board: usize = 0;

@@ -8,6 +8,7 @@ use native.Mathlib.Omega.{arith}
 use lib.ListN.{length, getD, take, drop, take-append-drop}
 use lib.Seq.{length-take-le, getD-drop}
 use Rattle.limits.specs.Limits.{boardsMost}
+use Rattle.kinds.specs.Kinds.{holdCode}
 use Rattle.ltl.specs.Formula.{Formula, size}
 use Rattle.network.specs.Scores.{chosen}
 use Rattle.state.specs.Fields.{slotsIn, masksIn, boardOfIn}
@@ -15,7 +16,7 @@ use Rattle.state.specs.Clauses.{stateOk}
 use Rattle.state.specs.Bytes.{networkOf}
 use Rattle.state.proofs.Rows.{masks-length}
 use Rattle.cutting.proofs.Choices.{chosen-below}
-use Rattle.tagging.specs.Tags.{aheadIn}
+use Rattle.tagging.specs.Packed.{aheadIn}
 use Rattle.laying.specs.Lays.{OnBoard, HeldAt}
 use Rattle.laying.proofs.Totals.{relaid-single}
 use Rattle.checked.proofs.Passing.{passing}
@@ -45,9 +46,9 @@ module _ (s : List ℕ) (ok : stateOk s ≡ true) where
       }
 
   -- the slot of a place holder
-  held-at : (w tags : List ℕ) (m : ℕ) → getD w 0 0 ≡ 128 + m → HeldFront s w tags → HeldAt choose (holdIn s) w tags m
+  held-at : (w tags : List ℕ) (m : ℕ) → getD w 0 0 ≡ holdCode + m → HeldFront s w tags → HeldAt choose (holdIn s) w tags m
   held-at w tags m e h =
-      let is : getD w 0 0 - 128 ≡ m = omega arith in
+      let is : getD w 0 0 - holdCode ≡ m = omega arith in
       let l : m < slotsIn s = subst (λ (n : ℕ). n < slotsIn s) is (h .there) in
       let at = aheadIn (getD tags 0 0) in
       let x : StandsIn s w tags at m = subst (StandsIn s w tags at) is (h .stands) in

@@ -7,24 +7,25 @@ use Prim.Native.Nat.{ℕ, _+_, _-_, _<_, _≤_}
 use native.Mathlib.Omega.{arith}
 use lib.ListN.{length, getD, take, drop, length-append, length-drop, List·getD-append}
 use lib.Seq.{take-all, take-append-le, drop-append-le, drop-at}
+use Rattle.kinds.specs.Kinds.{holdCode}
 use Rattle.ltl.specs.Formula.{size, encode}
 use Rattle.ltl.proofs.Decoding.{length-encode, size-some}
 use Rattle.network.specs.Scores.{chosen}
 use Rattle.state.specs.Fields.{slotsIn, masksIn}
-use Rattle.tagging.specs.Tags.{aheadIn}
+use Rattle.tagging.specs.Packed.{aheadIn}
 use Rattle.tagging.proofs.Places.{Agree, agree-drop, tagged-same}
-use Rattle.spreading.specs.Spreads.{unfoldedAt, Stands}
+use Rattle.spreading.specs.Spreads.{unfoldedAt, SlotStands}
 
 -- slot m stands from `at` on
 pub record StandsIn (s w tags : List ℕ) (at m : ℕ) : Type 0 where
   pub inside : at + size (unfoldedAt s m) ≤ length w
-  pub stands : Stands s (drop at w) (drop at tags) m
+  pub stands : SlotStands s (drop at w) (drop at tags) m
 
 -- the slot of a place holder at the front stands further on
 pub record HeldFront (s w tags : List ℕ) : Type 0 where
   pub ahead : 0 < aheadIn (getD tags 0 0)
-  pub there : getD w 0 0 - 128 < slotsIn s
-  pub stands : StandsIn s w tags (aheadIn (getD tags 0 0)) (getD w 0 0 - 128)
+  pub there : getD w 0 0 - holdCode < slotsIn s
+  pub stands : StandsIn s w tags (aheadIn (getD tags 0 0)) (getD w 0 0 - holdCode)
 
 module _ (s w x tags tags′ : List ℕ) (agree : Agree (length w) tags tags′) where
   pub stands-more : (at m : ℕ) → StandsIn s w tags at m → StandsIn s (w ++ x) tags′ at m
@@ -52,20 +53,20 @@ module _ (s w x tags tags′ : List ℕ) (agree : Agree (length w) tags tags′)
       let b : getD w 0 0 ≡ getD (w ++ x) 0 0 = sym (List·getD-append w x 0 0 l) in
       record {
         ahead = subst (λ (a : ℕ). 0 < a) e (h .ahead);
-        there = subst (λ (a : ℕ). a - 128 < slotsIn s) b (h .there);
+        there = subst (λ (a : ℕ). a - holdCode < slotsIn s) b (h .there);
         stands =
-            subst (λ (a : ℕ). StandsIn s (w ++ x) tags′ a (getD (w ++ x) 0 0 - 128)) e
-            (subst (λ (a : ℕ). StandsIn s (w ++ x) tags′ (aheadIn (getD tags 0 0)) (a - 128)) b (stands-more (aheadIn (getD tags 0 0)) (getD w 0 0 - 128) (h .stands)));
+            subst (λ (a : ℕ). StandsIn s (w ++ x) tags′ a (getD (w ++ x) 0 0 - holdCode)) e
+            (subst (λ (a : ℕ). StandsIn s (w ++ x) tags′ (aheadIn (getD tags 0 0)) (a - holdCode)) b (stands-more (aheadIn (getD tags 0 0)) (getD w 0 0 - holdCode) (h .stands)));
       }
 
 -- the slot that was put behind w
-pub stands-last : (s w u tags tags′ : List ℕ) (at m : ℕ) → length w ≡ at → drop at tags ≡ tags′ → Stands s u tags′ m → StandsIn s (w ++ encode (unfoldedAt s m)) tags at m
+pub stands-last : (s w u tags tags′ : List ℕ) (at m : ℕ) → length w ≡ at → drop at tags ≡ tags′ → SlotStands s u tags′ m → StandsIn s (w ++ encode (unfoldedAt s m)) tags at m
 stands-last s w u tags tags′ at m l e h =
     let f = unfoldedAt s m in
     record {
       inside = omega (arith, length-append w (encode f), length-encode f);
       stands =
-          subst (λ (x : List ℕ). Stands s (drop at (w ++ encode f)) x m) (sym e)
+          subst (λ (x : List ℕ). SlotStands s (drop at (w ++ encode f)) x m) (sym e)
           (record {
             bytes = ap (take (size f)) (drop-at w (encode f) at l) ∙ take-all (size f) (encode f) (omega (arith, length-encode f));
             board-is = h .board-is;

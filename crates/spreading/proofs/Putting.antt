@@ -13,29 +13,31 @@ use borrow.Author.Tests.{eqb-true, eqb-false}
 use Rattle.lists.specs.Runs.{tail, tailAs}
 use Rattle.lists.proofs.Parts.{tail-length, handed-length, handed-back, handed-front}
 use Rattle.lists.proofs.Stretches.{tail-put}
-use Rattle.limits.specs.Limits.{nodesRoom}
+use Rattle.limits.specs.Limits.{slotsRoom, nodesRoom}
+use Rattle.kinds.specs.Kinds.{holdCode}
 use Rattle.ltl.specs.Formula.{Formula, size, encode}
 use Rattle.ltl.proofs.Decoding.{length-encode}
 use Rattle.state.specs.Fields.{slotsIn}
-use Rattle.tagging.specs.Tags.{aheadIn}
-use Rattle.tagging.proofs.Places.{Alike, Agree, agree-drop, alike-same}
+use Rattle.tagging.specs.Packed.{aheadIn, withAhead}
+use Rattle.tagging.proofs.Packing.{Alike, alike-same, ahead-alike, ahead-has}
+use Rattle.tagging.proofs.Places.{Agree, agree-drop}
 use Rattle.checked.proofs.Bytes.{holds-append}
 use Rattle.counting.specs.Known.{Known}
 use Rattle.counting.specs.Held.{heldOver}
 use Rattle.counting.proofs.Held.{held-high, over-append}
 use Rattle.counting.proofs.Networks.{nodesOfSlot}
 use Rattle.counting.proofs.Slots.{slot-numbers}
-use Rattle.spreading.specs.Spreads.{unfoldedAt, SlotAsk, PutsSlot}
+use Rattle.spreading.specs.Spreads.{unfoldedAt, PutSlotAsk, PutsSlot}
 use Rattle.spreading.proofs.Room.{slot-hold, slot-room}
 use Rattle.spreading.proofs.Places.{StandsIn, HeldFront, stands-more, held-more, stands-last}
-use Rattle.spreading.proofs.Turns.{Turn, Reached, w-long, byte-is, room-next}
+use Rattle.spreading.proofs.Turns.{Turn, SpreadTo, w-long, byte-is, room-next}
 
 -- a turn at a place holder
 pub record Holder (s : List ℕ) (boards slots nodes : ℕ) (owner u tags : List ℕ) (i end : ℕ) : Type 0 where
   pub known : Known s boards slots nodes owner
   pub turn : Turn s u tags i end
   pub before : i < end
-  pub big : 128 ≤ getD u i 0
+  pub big : holdCode ≤ getD u i 0
 
 module _ {s : List ℕ} {boards slots nodes : ℕ} {owner u tags : List ℕ} {i end : ℕ} (holder : Holder s boards slots nodes owner u tags i end) where
   abbrev turn : Turn s u tags i end
@@ -45,13 +47,13 @@ module _ {s : List ℕ} {boards slots nodes : ℕ} {owner u tags : List ℕ} {i 
   w = take end u
 
   abbrev m : ℕ
-  m = getD u i 0 - 128
+  m = getD u i 0 - holdCode
 
   abbrev g : Formula
   g = unfoldedAt s m
 
   abbrev tagged : ℕ
-  tagged = getD tags i 0 % 262144 + (end - i) * 262144
+  tagged = withAhead (getD tags i 0) (end - i)
 
   -- the tags with v as the place holder's
   abbrev tags₁ : ℕ → List ℕ
@@ -76,10 +78,10 @@ module _ {s : List ℕ} {boards slots nodes : ℕ} {owner u tags : List ℕ} {i 
   slot-there : m < slots
   slot-there = let h = there in let e = holder .known .header .slots-are in omega arith
 
-  pub holder-few : m < 64
+  pub holder-few : m < slotsRoom
   holder-few = let x = slot-numbers (holder .known) slot-there in omega arith
 
-  pub holder-ask : (v : ℕ) → SlotAsk s boards slots nodes m owner (tail end u) (tail end (tags₁ v))
+  pub holder-ask : (v : ℕ) → PutSlotAsk s boards slots nodes m owner (tail end u) (tail end (tags₁ v))
   holder-ask v =
       let f = fits in
       let d = tail-length end u in
@@ -113,7 +115,7 @@ module _ {s : List ℕ} {boards slots nodes : ℕ} {owner u tags : List ℕ} {i 
     tag-other j k other = handed-front end (tags₁ v) y (inside-tags v) j k ∙ getD-set-other tags i j v 0 other
 
     alike-here : Alike (getD tags i 0) v
-    alike-here = let e = is-tagged in record { board-is = omega arith; here-is = omega arith }
+    alike-here = rw is-tagged (ahead-alike (getD tags i 0) (end - i))
 
     agree : Agree end tags tags′
     agree j k = go (eqb j i) refl
@@ -125,7 +127,7 @@ module _ {s : List ℕ} {boards slots nodes : ℕ} {owner u tags : List ℕ} {i 
         go false e = alike-same (getD tags j 0) (getD tags′ j 0) (sym (tag-other j k (eqb-false j i e)))
 
     -- a place holder before i
-    held-before : (j : ℕ) → j < i → 128 ≤ getD w j 0 → HeldFront s (drop j (w ++ encode g)) (drop j tags′)
+    held-before : (j : ℕ) → j < i → holdCode ≤ getD w j 0 → HeldFront s (drop j (w ++ encode g)) (drop j tags′)
     held-before j k is =
         let d = length-drop j w in
         let a = agree-drop j (length (drop j w)) end tags tags′ (omega (arith, long)) agree in
@@ -139,7 +141,7 @@ module _ {s : List ℕ} {boards slots nodes : ℕ} {owner u tags : List ℕ} {i 
     held-here =
         let d = length-drop i w in
         let tag : getD (drop i tags′) 0 0 ≡ v = getD-drop i tags′ 0 0 ∙ ap (λ (n : ℕ). getD tags′ n 0) (omega arith) ∙ tag-here in
-        let ahead : aheadIn (getD (drop i tags′) 0 0) ≡ end - i = ap aheadIn tag ∙ (let e = is-tagged in omega arith) in
+        let ahead : aheadIn (getD (drop i tags′) 0 0) ≡ end - i = ap aheadIn (tag ∙ is-tagged) ∙ ahead-has (getD tags i 0) (end - i) in
         let byte : getD (drop i w ++ encode g) 0 0 ≡ getD u i 0 =
         List·getD-append (drop i w) (encode g) 0 0 (omega (arith, long)) ∙ getD-drop i w 0 0 ∙ ap (λ (n : ℕ). getD w n 0) (omega arith) ∙ byte-is turn (holder .before) in
         let to : i + (end - i) ≡ end = omega arith in
@@ -148,13 +150,13 @@ module _ {s : List ℕ} {boards slots nodes : ℕ} {owner u tags : List ℕ} {i 
         subst (λ (z : List ℕ). HeldFront s z (drop i tags′)) (sym (drop-append-le i w (encode g) (omega (arith, long))))
         (record {
           ahead = omega arith;
-          there = subst (λ (b : ℕ). b - 128 < slotsIn s) (sym byte) there;
+          there = subst (λ (b : ℕ). b - holdCode < slotsIn s) (sym byte) there;
           stands =
-              subst (λ (a : ℕ). StandsIn s (drop i w ++ encode g) (drop i tags′) a (getD (drop i w ++ encode g) 0 0 - 128)) (sym ahead)
-              (subst (λ (b : ℕ). StandsIn s (drop i w ++ encode g) (drop i tags′) (end - i) (b - 128)) (sym byte) last);
+              subst (λ (a : ℕ). StandsIn s (drop i w ++ encode g) (drop i tags′) a (getD (drop i w ++ encode g) 0 0 - holdCode)) (sym ahead)
+              (subst (λ (b : ℕ). StandsIn s (drop i w ++ encode g) (drop i tags′) (end - i) (b - holdCode)) (sym byte) last);
         })
 
-    held-next : (j : ℕ) → j < i + 1 → 128 ≤ getD (w ++ encode g) j 0 → HeldFront s (drop j (w ++ encode g)) (drop j tags′)
+    held-next : (j : ℕ) → j < i + 1 → holdCode ≤ getD (w ++ encode g) j 0 → HeldFront s (drop j (w ++ encode g)) (drop j tags′)
     held-next j k is = go (eqb j i) refl
       where
         go : (t : Bool) → eqb j i ≡ t → HeldFront s (drop j (w ++ encode g)) (drop j tags′)
@@ -175,7 +177,7 @@ module _ {s : List ℕ} {boards slots nodes : ℕ} {owner u tags : List ℕ} {i 
           tags-long = handed-length end (tags₁ v) y (inside-tags v) ly ∙ length-set tags i v ∙ turn .tags-long;
           inside = omega arith;
           reached =
-              subst (λ (z : List ℕ). Reached s z tags′ (i + 1)) (sym written)
+              subst (λ (z : List ℕ). SpreadTo s z tags′ (i + 1)) (sym written)
               (record {
                 order = omega (arith, length-append w (encode g));
                 root = stands-more s w (encode g) tags tags′ (subst (λ (n : ℕ). Agree n tags tags′) (sym lw) agree) 0 0 (turn .reached .root);

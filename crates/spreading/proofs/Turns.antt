@@ -11,6 +11,7 @@ use lib.Seq.{length-take-le, take-at, getD-take}
 use lib.Dec.{ltb}
 use borrow.Author.Tests.{ltb-true, ltb-false}
 use Rattle.limits.specs.Limits.{nodesRoom}
+use Rattle.kinds.specs.Kinds.{holdCode}
 use Rattle.ltl.specs.Formula.{size, encode}
 use Rattle.ltl.proofs.Decoding.{length-encode}
 use Rattle.state.specs.Fields.{slotsIn}
@@ -18,16 +19,16 @@ use Rattle.checked.specs.Holds.{Holds}
 use Rattle.counting.specs.Held.{heldAt, heldOver}
 use Rattle.counting.proofs.Held.{held-low, over-next}
 use Rattle.counting.proofs.Networks.{nodesOfSlot}
-use Rattle.spreading.specs.Spreads.{unfoldedAt, SlotAsk, PutsSlot, SpreadAsk}
+use Rattle.spreading.specs.Spreads.{unfoldedAt, PutSlotAsk, PutsSlot, SpreadAsk}
 use Rattle.spreading.proofs.Room.{slot-hold, root-there, root-room}
 use Rattle.spreading.proofs.Places.{StandsIn, HeldFront, stands-last}
 
 -- bytes w are spread out, and looked at up to i: the root stands there, and the slot of each place holder before i; all place holders
 -- are of slots that are there, and those from i on have room
-pub record Reached (s w tags : List ℕ) (i : ℕ) : Type 0 where
+pub record SpreadTo (s w tags : List ℕ) (i : ℕ) : Type 0 where
   pub order : i ≤ length w
   pub root : StandsIn s w tags 0 0
-  pub held : (j : ℕ) → j < i → 128 ≤ getD w j 0 → HeldFront s (drop j w) (drop j tags)
+  pub held : (j : ℕ) → j < i → holdCode ≤ getD w j 0 → HeldFront s (drop j w) (drop j tags)
   pub holds : Holds (slotsIn s) w
   pub room : length w + heldOver (nodesOfSlot s) (drop i w) ≤ nodesRoom
 
@@ -35,11 +36,11 @@ pub record Turn (s u tags : List ℕ) (i end : ℕ) : Type 0 where
   pub u-long : length u ≡ nodesRoom
   pub tags-long : length tags ≡ nodesRoom
   pub inside : end ≤ nodesRoom
-  pub reached : Reached s (take end u) tags i
+  pub reached : SpreadTo s (take end u) tags i
 
 -- ---- the first turn: the root was put
 module _ {s owner u tags : List ℕ} {boards slots nodes : ℕ} (ask : SpreadAsk s boards slots nodes owner u tags) where
-  pub first-ask : SlotAsk s boards slots nodes 0 owner u tags
+  pub first-ask : PutSlotAsk s boards slots nodes 0 owner u tags
   first-ask =
       let r = root-room s (ask .known .passes) in
       let z = root-there s (ask .known .passes) in
@@ -57,7 +58,7 @@ module _ {s owner u tags : List ℕ} {boards slots nodes : ℕ} (ask : SpreadAsk
         tags-long = omega arith;
         inside = omega arith;
         reached =
-            subst (λ (w : List ℕ). Reached s w tags′ 0) (sym is)
+            subst (λ (w : List ℕ). SpreadTo s w tags′ 0) (sym is)
             (record {
               order = omega arith;
               root = stands-last s [] u′ tags′ tags′ 0 0 refl refl (h .stands);
@@ -86,7 +87,7 @@ module _ {s u tags : List ℕ} {i end : ℕ} (turn : Turn s u tags i end) (l : i
       omega (arith, w-long)
 
   -- it is no place holder
-  pub turn-past : getD u i 0 < 128 → Turn s u tags (i + 1) end
+  pub turn-past : getD u i 0 < holdCode → Turn s u tags (i + 1) end
   turn-past small =
       record {
         u-long = turn .u-long;
@@ -102,7 +103,7 @@ module _ {s u tags : List ℕ} {i end : ℕ} (turn : Turn s u tags i end) (l : i
             };
       }
     where
-      at-last : (j : ℕ) → j < i + 1 → 128 ≤ getD w j 0 → (t : Bool) → ltb j i ≡ t → HeldFront s (drop j w) (drop j tags)
+      at-last : (j : ℕ) → j < i + 1 → holdCode ≤ getD w j 0 → (t : Bool) → ltb j i ≡ t → HeldFront s (drop j w) (drop j tags)
       at-last j k big true e = turn .reached .held j (ltb-true j i e) big
       at-last j k big false e = absurd (let d = ltb-false j i e in let is : j ≡ i = omega arith in let same = ap (λ (n : ℕ). getD w n 0) is in omega (arith, byte-is))
 

@@ -12,7 +12,8 @@ use Rattle.state.specs.Fields.{masksIn, boardOfIn}
 use Rattle.state.specs.Bytes.{nodesOf, formulaAt}
 use Rattle.state.specs.Calls.{nextIn}
 use Rattle.counting.specs.Known.{Known}
-use Rattle.tagging.specs.Tags.{hereOn, boardIn, hereIn, Tagged}
+use Rattle.tagging.specs.Packed.{boardIn, hereIn}
+use Rattle.tagging.specs.Tags.{hereOn, Tagged}
 use Rattle.storing.specs.Stores.{LaidOut}
 
 -- slot m unfolded
@@ -20,13 +21,13 @@ abbrev pub unfoldedAt : List ℕ → ℕ → Formula
 unfoldedAt s m = unfolded (formulaAt s m)
 
 -- slot m stands unfolded at the front of some bytes, tagged on its board
-pub record Stands (s u tags : List ℕ) (m : ℕ) : Type 0 where
+pub record SlotStands (s u tags : List ℕ) (m : ℕ) : Type 0 where
   pub bytes : take (size (unfoldedAt s m)) u ≡ encode (unfoldedAt s m)
   pub board-is : boardIn (getD tags 0 0) ≡ boardOfIn s m
   pub here-is : hereIn (getD tags 0 0) ≡ hereOn (chosen (masksIn s)) (unfoldedAt s m) (boardOfIn s m)
   pub tagged : Tagged (chosen (masksIn s)) (unfoldedAt s m) tags
 
-pub record SlotAsk (s : List ℕ) (boards slots nodes m : ℕ) (owner u tags : List ℕ) : Type 0 where
+pub record PutSlotAsk (s : List ℕ) (boards slots nodes m : ℕ) (owner u tags : List ℕ) : Type 0 where
   pub known : Known s boards slots nodes owner
   pub there : m < slots
   pub room : size (unfoldedAt s m) ≤ length u
@@ -36,7 +37,7 @@ pub record SlotAsk (s : List ℕ) (boards slots nodes m : ℕ) (owner u tags : L
 pub record PutsSlot (s : List ℕ) (m : ℕ) (u u′ tags′ : List ℕ) (n : ℕ) : Type 0 where
   pub writes : n ≡ size (unfoldedAt s m)
   pub leaves : u′ ≡ encode (unfoldedAt s m) ++ drop (size (unfoldedAt s m)) u
-  pub stands : Stands s u′ tags′ m
+  pub stands : SlotStands s u′ tags′ m
 
 -- the network that it closes to is within the limit, and there is room for as much
 pub record SpreadAsk (s : List ℕ) (boards slots nodes : ℕ) (owner u tags : List ℕ) : Type 0 where

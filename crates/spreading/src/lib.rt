@@ -1,9 +1,10 @@
 // The slots that are reached from a network's root, unfolded one behind the other and tagged, each on its board, so that they can be
 // laid again: at each place holder the tag says how far on its slot stands.
-ghost use Rattle.spreading.specs.Spreads.{SlotAsk, PutsSlot, SpreadAsk, Spreads};
+ghost use Rattle.spreading.specs.Spreads.{PutSlotAsk, PutsSlot, SpreadAsk, Spreads};
 use checking::Counts;
 use checking::Span;
 use kinds::Kind;
+use tagging::packed;
 
 // Unfolds slot m to the front of u, and tags it on its board.
 fn put_slot(
@@ -14,7 +15,7 @@ fn put_slot(
     u: &mut [u8],
     tags: &mut [u32],
 ) -> usize
-    requires { ⌜ SlotAsk (now state) (c .boards) (c .slots) (c .nodes) m (now owner) (now u) (now tags) ⌝ }
+    requires { ⌜ PutSlotAsk (now state) (c .boards) (c .slots) (c .nodes) m (now owner) (now u) (now tags) ⌝ }
     ensures { λ r. ⌜ PutsSlot (now (state .entry)) m (now (u .entry)) (now (u .exit)) (now (tags .exit)) r ⌝ }
 {
     let Span { from, to } = checking::span_of(state, c, m);
@@ -34,7 +35,7 @@ pub fn spread(state: &[u8], c: Counts, owner: &[u8], u: &mut [u8], tags: &mut [u
     while i < end {
         let b = u[i];
         if Kind::HOLD <= b {
-            tags[i] = tags[i] % 262144 + ((end - i) * 262144) as u32;
+            tags[i] = packed::with_ahead(tags[i], end - i);
             end += put_slot(
                 state,
                 c,

@@ -1,5 +1,4 @@
--- Tags by their places: a formula's tags are those at the places of its nodes (`tagged-same`), and a number has its length and
--- its board back (`tag-has`). Assumes nothing.
+-- Tags by their places: a formula's tags are those at the places of its nodes (`tagged-same`). Assumes nothing.
 use mathlib.Core.Path.{_≡_, sym, ap, _∙_, subst}
 use mathlib.Core.List.{List}
 use mathlib.Core.Option.{Option}
@@ -13,18 +12,12 @@ use Rattle.kinds.specs.declared.Unary.the-variants.{Not, Next, Ever}
 use Rattle.kinds.specs.declared.Binary.the-variants.{Joined, Until}
 use Rattle.ltl.specs.Formula.{Formula, leaf, one, two, size}
 use Rattle.ltl.proofs.Decoding.{size-some}
-use Rattle.tagging.specs.Tags.{boardIn, hereIn, tagOf, Tags, Tagged}
+use Rattle.tagging.specs.Tags.{Tags, Tagged}
+use Rattle.tagging.proofs.Packing.{Alike, alike-same}
 
 -- equal boards and lengths at the first n places
-pub record Alike (tag tag′ : ℕ) : Type 0 where
-  pub board-is : boardIn tag ≡ boardIn tag′
-  pub here-is : hereIn tag ≡ hereIn tag′
-
 abbrev pub Agree : ℕ → List ℕ → List ℕ → Type 0
 Agree n xs ys = (i : ℕ) → i < n → Alike (getD xs i 0) (getD ys i 0)
-
-pub alike-same : (tag tag′ : ℕ) → tag ≡ tag′ → Alike tag tag′
-alike-same tag tag′ e = record { board-is = ap boardIn e; here-is = ap hereIn e }
 
 pub tags-alike : {choose : Formula → Option ℕ} {f : Formula} {on tag tag′ : ℕ} → Alike tag tag′ → Tags choose f on tag → Tags choose f on tag′
 tags-alike a m = record { board-is = sym (a .board-is) ∙ m .board-is; here-is = λ b l. sym (a .here-is) ∙ m .here-is b l }
@@ -59,11 +52,3 @@ left-stays n s left right l h i k =
     ∙ getD-drop 1 (tailAs 1 s left) i 0
     ∙ sym (handed-front (1 + n) (tailAs 1 s left) right (omega arith) (1 + i) (omega arith))
     ∙ sym (getD-drop 1 (tailAs (1 + n) (tailAs 1 s left) right) i 0))
-
--- ---- a length and a board in one number
-pub record Has (tag here board : ℕ) : Type 0 where
-  pub here-is : hereIn tag ≡ here
-  pub board-is : boardIn tag ≡ board
-
-pub tag-has : (tag here board : ℕ) → tag ≡ tagOf here board → board < 32 → here < 8192 → Has tag here board
-tag-has tag here board e l k = record { here-is = omega arith; board-is = omega arith }

@@ -14,22 +14,22 @@ use Rattle.kinds.specs.declared.Join.{Join}
 use Rattle.kinds.specs.declared.Binary.{Binary}
 use Rattle.kinds.specs.declared.Binary.the-variants.{Joined, Until}
 use Rattle.kinds.specs.declared.Kind.the-variants.{Zero}
-use Rattle.limits.specs.Limits.{boardsMost}
+use Rattle.limits.specs.Limits.{boardsMost, nodesRoom}
 use Rattle.ltl.specs.Formula.{Formula, one, size}
 use Rattle.nodes.specs.Begins.{Front, Begins}
 use Rattle.nodes.proofs.Fronts.{front-length, front-begins, begins-some, Parts, isZero, Single, Double}
 use Rattle.nodes.proofs.Operands.{LeftRead, left-read}
-use Rattle.tagging.specs.declared.Placed.{Placed}
+use Rattle.tagging.specs.declared.TaggedPart.{TaggedPart}
 use Rattle.scores.specs.Owned.{Table}
-use Rattle.scores.specs.Tallies.{Counted}
-use Rattle.tagging.specs.Tags.{hereOn, Tagged, TaggedAs, Tagging, Over, OverNot, OverPair}
+use Rattle.scores.specs.Tallies.{ScoredAs}
+use Rattle.tagging.specs.Tags.{hereOn, Tagged, TaggedAs, Tagging, TagOver, OverNot, OverPair}
 use Rattle.lists.proofs.Parts.{tail-length, handed-length, handed-back}
 use Rattle.tagging.proofs.Places.{Agree, left-stays}
 use Rattle.tagging.proofs.Tops.{tagged-whole, tagged-not, tagged-pair}
 
 -- ---- what the walk asks
 abbrev pub Asks : List ℕ → List ℕ → List ℕ → Type 0
-Asks owner u tags = Begins u × Table owner × (length u ≤ length tags) × (length u ≤ 4096)
+Asks owner u tags = Begins u × Table owner × (length u ≤ length tags) × (length u ≤ nodesRoom)
 
 pub asks-some : {owner u : List ℕ} (tags : List ℕ) → Asks owner u tags → 0 < length tags
 asks-some {u = u} tags p = let s = begins-some u (p .0) in omega arith
@@ -47,8 +47,8 @@ module _ {owner u : List ℕ} (tags : List ℕ) (p : Asks owner u tags) where
   asks-right {n = n} left k x = asks-part (1 + n) (tailAs 1 tags left) (handed-length 1 tags left (omega arith) k) (x .front) (x .part)
 
 -- ---- parts that stay whole
-module _ {owner u rest : List ℕ} {f : Formula} {on : ℕ} {tags tags′ : List ℕ} {r : Placed} (p : Asks owner u tags) (y : Front u f rest)
-    (w : Counted owner f (r .scores .counts) × Over (size f) (r .scores .counts) on (λ b. size f) tags tags′ r) where
+module _ {owner u rest : List ℕ} {f : Formula} {on : ℕ} {tags tags′ : List ℕ} {r : TaggedPart} (p : Asks owner u tags) (y : Front u f rest)
+    (w : ScoredAs owner f (r .scores .counts) × TagOver (size f) (r .scores .counts) on (λ b. size f) tags tags′ r) where
   whole : ((choose : Formula → Option ℕ) (b : ℕ) → hereOn choose f b ≡ size f) → ((choose : Formula → Option ℕ) → Tagged choose f tags′) → TaggedAs owner f on tags′ r
   whole here none-tagged = tagged-whole tags (asks-some tags p) here none-tagged w (let e = front-length u f rest y in omega arith)
 
@@ -79,8 +79,8 @@ module _ {owner u rest : List ℕ} {f : Formula} {on : ℕ} {tags tags′ : List
   until-done x = whole (λ choose b. rw (x .same)) (λ choose. rw (x .same) tt)
 
 -- ---- operands that were tagged, in tags that were lent on
-module _ {owner u rest : List ℕ} {f : Formula} {on : ℕ} (tags : List ℕ) {tags′ : List ℕ} {r : Placed} (p : Asks owner u tags) where
-  pub not-done : {a : Placed} {left : List ℕ} → length left ≡ length (tail 1 tags) → Single u rest f Not → Tagging owner (tail 1 u) boardsMost left a
+module _ {owner u rest : List ℕ} {f : Formula} {on : ℕ} (tags : List ℕ) {tags′ : List ℕ} {r : TaggedPart} (p : Asks owner u tags) where
+  pub not-done : {a : TaggedPart} {left : List ℕ} → length left ≡ length (tail 1 tags) → Single u rest f Not → Tagging owner (tail 1 u) boardsMost left a
       → OverNot a on (tailAs 1 tags left) tags′ r → TaggedAs owner f on tags′ r
   not-done {a} {left} k x h v =
       let l = asks-some tags p in
@@ -90,7 +90,7 @@ module _ {owner u rest : List ℕ} {f : Formula} {on : ℕ} (tags : List ℕ) {t
       rw (x .same)
       (tagged-not (tailAs 1 tags left) (omega arith) (rw back m) v (omega arith))
 
-  pub pair-done : {a c : Placed} {left right : List ℕ} {j : Join} → length left ≡ length (tail 1 tags) → Double u rest f (Joined j)
+  pub pair-done : {a c : TaggedPart} {left right : List ℕ} {j : Join} → length left ≡ length (tail 1 tags) → Double u rest f (Joined j)
       → Tagging owner (tail 1 u) boardsMost left a → Tagging owner (tail (1 + a .read) u) boardsMost right c → length right ≡ length (tail (1 + a .read) (tailAs 1 tags left))
       → OverPair a c on (tailAs (1 + a .read) (tailAs 1 tags left) right) tags′ r → TaggedAs owner f on tags′ r
   pair-done {a} {c} {left} {right} {j} k d w h n v =

@@ -1,2 +1,3 @@
 -- What the contracts of `tagging` cite.
+pub mod Packed
 pub mod Tags

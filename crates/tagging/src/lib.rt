@@ -1,13 +1,16 @@
 // Tags for laying an unfolded formula: for each of its operands the board that it is chosen for, and how long it is in a slot on
 // that board. One walk from the leaves up, a tag for each node outside next, at the node's place.
+pub mod packed;
+
 ghost use mathlib.Core.Path.{_≡_};
 ghost use Prim.Native.Nat.{_+_, _*_, _<_, _≤_};
 ghost use lib.ListN.{length};
-ghost use Rattle.limits.specs.Limits.{boardsMost};
+ghost use Rattle.limits.specs.Limits.{boardsMost, nodesRoom};
 ghost use Rattle.nodes.specs.Begins.{Begins};
 ghost use Rattle.scores.specs.Owned.{Table};
 ghost use Rattle.scores.specs.Scored.{oneScored};
-ghost use Rattle.tagging.specs.Tags.{shownAs, Seals, Small, SmallPair, Over, OverNot, OverPair, Whole, Tagging};
+ghost use Rattle.tagging.specs.Packed.{lengthRoom};
+ghost use Rattle.tagging.specs.Tags.{shownAs, Seals, NotAsk, PairAsk, TagOver, OverNot, OverPair, Whole, Tagging};
 use cutting::STAYS;
 use kinds::Binary;
 use kinds::Kind;
@@ -15,7 +18,7 @@ use kinds::Unary;
 use scores::Scores;
 
 // A part that was tagged: its length, its scores, the board that it is laid on, and its length in a slot there.
-pub struct Placed {
+pub struct TaggedPart {
     pub read: usize,
     pub scores: Scores,
     pub board: u8,
@@ -23,7 +26,7 @@ pub struct Placed {
 }
 
 // The length of an operand in a slot on the board: its own where it stays, one place holder where it is cut.
-fn shown(a: Placed, board: u8) -> usize
+fn shown(a: TaggedPart, board: u8) -> usize
     ensures { λ r. ⌜ r ≡ shownAs (a .board) (a .here) board ⌝ }
 {
     if cutting::stays_on(a.board, board) {
@@ -34,12 +37,12 @@ fn shown(a: Placed, board: u8) -> usize
 }
 
 // Puts the tag of a part at the front of the tags.
-fn seal(tags: &mut [u32], read: usize, scores: Scores, board: u8, here: usize) -> Placed
-    requires { ⌜ (0 < length (now tags)) × (here ≤ 8192) ⌝ }
+fn seal(tags: &mut [u32], read: usize, scores: Scores, board: u8, here: usize) -> TaggedPart
+    requires { ⌜ (0 < length (now tags)) × (here < lengthRoom) ⌝ }
     ensures { λ r. ⌜ Seals read scores board here (now (tags .entry)) (now (tags .exit)) r ⌝ }
 {
-    tags[0] = (here * 32 + board as usize) as u32;
-    Placed {
+    tags[0] = packed::tag_of(here, board);
+    TaggedPart {
         read: read,
         scores: scores,
         board: board,
@@ -48,8 +51,8 @@ fn seal(tags: &mut [u32], read: usize, scores: Scores, board: u8, here: usize) -
 }
 
 // Not of a part that was tagged on its own choice, which is that of the whole.
-fn over_not(tags: &mut [u32], a: Placed, on: u8) -> Placed
-    requires { ⌜ (0 < length (now tags)) × Small a ⌝ }
+fn over_not(tags: &mut [u32], a: TaggedPart, on: u8) -> TaggedPart
+    requires { ⌜ (0 < length (now tags)) × NotAsk a ⌝ }
     ensures { λ r. ⌜ OverNot a on (now (tags .entry)) (now (tags .exit)) r ⌝ }
 {
     let scores = a.scores;
@@ -58,8 +61,8 @@ fn over_not(tags: &mut [u32], a: Placed, on: u8) -> Placed
 }
 
 // Two parts that were tagged, under a join.
-fn over_pair(tags: &mut [u32], a: Placed, c: Placed, on: u8) -> Placed
-    requires { ⌜ (0 < length (now tags)) × SmallPair a c ⌝ }
+fn over_pair(tags: &mut [u32], a: TaggedPart, c: TaggedPart, on: u8) -> TaggedPart
+    requires { ⌜ (0 < length (now tags)) × PairAsk a c ⌝ }
     ensures { λ r. ⌜ OverPair a c on (now (tags .entry)) (now (tags .exit)) r ⌝ }
 {
     let left = a.scores;
@@ -71,17 +74,17 @@ fn over_pair(tags: &mut [u32], a: Placed, c: Placed, on: u8) -> Placed
 }
 
 // A node without operands: its owner, if it has one, is what it is chosen for.
-fn tag_leaf(tags: &mut [u32], owner: u8, on: u8) -> Placed
+fn tag_leaf(tags: &mut [u32], owner: u8, on: u8) -> TaggedPart
     requires { ⌜ (0 < length (now tags)) × (owner ≤ boardsMost) ⌝ }
-    ensures { λ r. ⌜ Over 1 (oneScored owner) on (λ b. 1) (now (tags .entry)) (now (tags .exit)) r ⌝ }
+    ensures { λ r. ⌜ TagOver 1 (oneScored owner) on (λ b. 1) (now (tags .entry)) (now (tags .exit)) r ⌝ }
 {
     let board = cutting::place_of(owner, on);
     seal(tags, 1, Scores::one(owner), board, 1)
 }
 
 // A part that stays whole: next, or a temporal operator.
-fn tag_whole(u: &[u8], tags: &mut [u32], owner: &[u8], on: u8) -> Placed
-    requires { ⌜ Begins (now u) × Table (now owner) × (length (now u) ≤ length (now tags)) × (length (now u) ≤ 4096) ⌝ }
+fn tag_whole(u: &[u8], tags: &mut [u32], owner: &[u8], on: u8) -> TaggedPart
+    requires { ⌜ Begins (now u) × Table (now owner) × (length (now u) ≤ length (now tags)) × (length (now u) ≤ nodesRoom) ⌝ }
     ensures { λ r. ⌜ Whole (now (owner .entry)) (now (u .entry)) on (now (tags .entry)) (now (tags .exit)) r ⌝ }
 {
     let t = scores::tally(u, owner);
@@ -91,8 +94,8 @@ fn tag_whole(u: &[u8], tags: &mut [u32], owner: &[u8], on: u8) -> Placed
 }
 
 // Tags the formula that u begins with, laid on the board given or on its own choice.
-pub fn tag(u: &[u8], tags: &mut [u32], owner: &[u8], on: u8) -> Placed
-    requires { ⌜ Begins (now u) × Table (now owner) × (length (now u) ≤ length (now tags)) × (length (now u) ≤ 4096) ⌝ }
+pub fn tag(u: &[u8], tags: &mut [u32], owner: &[u8], on: u8) -> TaggedPart
+    requires { ⌜ Begins (now u) × Table (now owner) × (length (now u) ≤ length (now tags)) × (length (now u) ≤ nodesRoom) ⌝ }
     ensures { λ r. ⌜ Tagging (now (owner .entry)) (now (u .entry)) on (now (tags .exit)) r ⌝ }
 {
     let k = Kind::of(u[0]);

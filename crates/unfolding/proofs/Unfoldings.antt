@@ -20,7 +20,7 @@ use Rattle.ltl.specs.Progression.{unfolded}
 use Rattle.ltl.proofs.Decoding.{size-some, length-encode}
 use Rattle.nodes.specs.Begins.{Front, Begins, Ends}
 use Rattle.nodes.proofs.Fronts.{front-length, front-own, front-one-way, front-begins, Parts, isZero, Single, Double}
-use Rattle.unfolding.specs.Unfolds.{Room, UnfoldedTo, Unfolds, RoomBehind, UnfoldedBehind, UnfoldsBehind, Repeated, Both}
+use Rattle.unfolding.specs.Unfolds.{UnfoldAsk, UnfoldedTo, Unfolds, BehindAsk, UnfoldedBehind, UnfoldsBehind, Repeated, Both}
 use Rattle.nodes.proofs.Operands.{one-of, two-of, LeftRead, left-read}
 use Rattle.lists.proofs.Stretches.{set-first, put-first, put-more}
 
@@ -51,7 +51,7 @@ behind-done {out} {last = last} {b = b} h u f rest x =
 first-byte : (s l : List ℕ) (b : ℕ) → s ≡ b ∷ l → getD s 0 0 ≡ b
 first-byte s l b e = ap (λ (x : List ℕ). getD x 0 0) e
 
-pub room-some : {out s : List ℕ} → Room out s → 0 < length out
+pub room-some : {out s : List ℕ} → UnfoldAsk out s → 0 < length out
 room-some p = let z = size-some (unfolded (p .begins .formula)) in omega arith
 
 pub leaf-done : {s rest : List ℕ} {f : Formula} {a : Leaf} → Parts s rest f (Zero a) → {out : List ℕ} → 0 < length out → UnfoldedTo f out (set out 0 (getD s 0 0)) 1 1
@@ -59,7 +59,7 @@ leaf-done {s} {rest} (isZero {a = a} w e) {out} h =
     record { reads = refl; writes = refl; leaves = set-first out (getD s 0 0) h ∙ ap (_∷ drop 1 out) (first-byte s rest (leafCode a) e) }
 
 -- ---- not
-pub room-not : {out s : List ℕ} (p : Room out s) → Single s (p .begins .rest) (p .begins .formula) Not → RoomBehind out (tail 1 s)
+pub room-not : {out s : List ℕ} (p : UnfoldAsk out s) → Single s (p .begins .rest) (p .begins .formula) Not → BehindAsk out (tail 1 s)
 room-not {out} p x =
     let r = subst (λ (f : Formula). size (unfolded f) ≤ length out) (x .same) (p .room) in
     record { begins = front-begins (x .front); room = r }
@@ -78,7 +78,7 @@ ends-within {s} b u =
     let l = front-length _ _ _ (b .front) in
     omega arith
 
-pub next-fits : {out s : List ℕ} (p : Room out s) → Single s (p .begins .rest) (p .begins .formula) Next → {n : ℕ} → Ends s n → length (take n s) ≤ length out
+pub next-fits : {out s : List ℕ} (p : UnfoldAsk out s) → Single s (p .begins .rest) (p .begins .formula) Next → {n : ℕ} → Ends s n → length (take n s) ≤ length out
 next-fits {out} {s} p x {n} u =
     let b = p .begins in
     let r : size (unfolded (one Next (x .operand))) ≤ length out = subst (λ (f : Formula). size (unfolded f) ≤ length out) (x .same) (p .room) in
@@ -108,14 +108,14 @@ pub record EverParts (s rest : List ℕ) (f : Formula) (j : Join) : Type 0 where
   pub node : Single s rest f (Ever j)
   pub grown : size (unfolded f) ≡ 3 + size (unfolded (node .operand)) + size (node .operand)
 
-module _ {out s : List ℕ} {b : ℕ} (p : Room out s × Repeated s b) where
+module _ {out s : List ℕ} {b : ℕ} (p : UnfoldAsk out s × Repeated s b) where
   pub ever : EverParts s (p .0 .begins .rest) (p .0 .begins .formula) (p .1 .by)
   ever =
       let x = one-of (p .0 .begins .front) refl (p .1 .kind) in
       let e = ap (λ (f : Formula). size (unfolded f)) (x .same) in
       record { node = x; grown = omega arith }
 
-  pub room-ever : RoomBehind out (tail 1 s)
+  pub room-ever : BehindAsk out (tail 1 s)
   room-ever =
       let x = ever in
       record { begins = front-begins (x .node .front); room = omega arith }
@@ -151,13 +151,13 @@ pub record BothParts (s rest : List ℕ) (f : Formula) (j : Join) : Type 0 where
   pub node : Double s rest f (Joined j)
   pub grown : size (unfolded f) ≡ 1 + size (unfolded (node .left)) + size (unfolded (node .right))
 
-module _ {out s : List ℕ} {b : ℕ} (p : Room out s × Both s b) where
+module _ {out s : List ℕ} {b : ℕ} (p : UnfoldAsk out s × Both s b) where
   pub both : BothParts s (p .0 .begins .rest) (p .0 .begins .formula) (p .1 .by)
   both =
       let x = two-of (p .0 .begins .front) refl (p .1 .kind) in
       record { node = x; grown = ap (λ (f : Formula). size (unfolded f)) (x .same) }
 
-  pub room-both : RoomBehind out (tail 1 s)
+  pub room-both : BehindAsk out (tail 1 s)
   room-both =
       let x = both in
       record { begins = front-begins (x .node .front); room = omega arith }
@@ -172,7 +172,7 @@ module _ {out s : List ℕ} {b : ℕ} (p : Room out s × Both s b) where
     pub first-made : Bounded out s (1 + r) w
     first-made = let x = both in let y = first-done in record { reads = omega arith; writes = omega arith }
 
-    pub room-second : length out₁ ≡ length out → Room (tail w out₁) (tail (1 + r) s)
+    pub room-second : length out₁ ≡ length out → UnfoldAsk (tail w out₁) (tail (1 + r) s)
     room-second k =
         let x = both in
         let y = first-done in
@@ -206,7 +206,7 @@ pub record UntilParts (s rest : List ℕ) (f : Formula) : Type 0 where
   pub node : Double s rest f Until
   pub grown : size (unfolded f) ≡ 3 + size (unfolded (node .left)) + size (unfolded (node .right)) + (1 + size (node .left) + size (node .right))
 
-module _ {out s : List ℕ} (p : Room out s × (kindOf (getD s 0 0) ≡ Two Until)) where
+module _ {out s : List ℕ} (p : UnfoldAsk out s × (kindOf (getD s 0 0) ≡ Two Until)) where
   pub until : UntilParts s (p .0 .begins .rest) (p .0 .begins .formula)
   until =
       let x = two-of (p .0 .begins .front) refl (p .1) in
@@ -224,7 +224,7 @@ module _ {out s : List ℕ} (p : Room out s × (kindOf (getD s 0 0) ≡ Two Unti
     pub until-end : 1 + i < length s
     until-end = left-end .within
 
-    pub room-right : RoomBehind out (tail (1 + i) s)
+    pub room-right : BehindAsk out (tail (1 + i) s)
     room-right =
         let x = until in
         record { begins = front-begins (left-end .front); room = omega arith }
@@ -237,7 +237,7 @@ module _ {out s : List ℕ} (p : Room out s × (kindOf (getD s 0 0) ≡ Two Unti
       pub right-made : Bounded out s (1 + i + r) w
       right-made = let x = until in let e = left-end in let y = right-done in record { reads = omega arith; writes = omega arith }
 
-      pub room-left : length out₁ ≡ length out → RoomBehind (tail w out₁) (tail 1 s)
+      pub room-left : length out₁ ≡ length out → BehindAsk (tail w out₁) (tail 1 s)
       room-left k =
           let x = until in
           let e = left-end in

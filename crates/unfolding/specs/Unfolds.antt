@@ -14,13 +14,13 @@ use Rattle.ltl.specs.Progression.{unfolded}
 use Rattle.nodes.specs.Begins.{Front, Begins}
 
 -- the bytes begin with a formula, and there is room for what it unfolds to
-pub record Room (out s : List ℕ) : Type 0 where
+pub record UnfoldAsk (out s : List ℕ) : Type 0 where
   pub begins : Begins s
   pub room : size (unfolded (begins .formula)) ≤ length out
 
 -- the formula in front was read, and its unfolded nodes counted up to one more than the most
-abbrev pub Counted : List ℕ → ℕ → ℕ → Type 0
-Counted s read count = (f : Formula) (rest : List ℕ) → Front s f rest → (read ≡ size f) × (count ≡ min (size (unfolded f)) (nodesRoom + 1))
+abbrev pub CountsUnfolded : List ℕ → ℕ → ℕ → Type 0
+CountsUnfolded s read count = (f : Formula) (rest : List ℕ) → Front s f rest → (read ≡ size f) × (count ≡ min (size (unfolded f)) (nodesRoom + 1))
 
 -- the formula in front was read, and stands unfolded at the front of the output, behind which nothing changed
 pub record UnfoldedTo (f : Formula) (out out′ : List ℕ) (read written : ℕ) : Type 0 where
@@ -33,7 +33,7 @@ Unfolds out s out′ read written = (f : Formula) (rest : List ℕ) → Front s 
 
 -- ---- the parts of the walk
 -- the bytes begin with a formula, and there is room for one byte and what it unfolds to
-pub record RoomBehind (out s : List ℕ) : Type 0 where
+pub record BehindAsk (out s : List ℕ) : Type 0 where
   pub begins : Begins s
   pub room : 1 + size (unfolded (begins .formula)) ≤ length out
 

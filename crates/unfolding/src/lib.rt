@@ -7,12 +7,14 @@ ghost use lib.ListN.{length, getD, drop};
 ghost use Rattle.kinds.specs.declared.Kind.the-variants.{Two};
 ghost use Rattle.kinds.specs.declared.Binary.the-variants.{Until};
 ghost use Rattle.kinds.specs.Kinds.{kindOf};
+ghost use Rattle.limits.specs.Limits.{nodesRoom};
 ghost use Rattle.nodes.specs.Begins.{Begins};
-ghost use Rattle.unfolding.specs.Unfolds.{Room, Counted, Unfolds, RoomBehind, UnfoldsBehind, Repeated, Both};
+ghost use Rattle.unfolding.specs.Unfolds.{UnfoldAsk, CountsUnfolded, Unfolds, BehindAsk, UnfoldsBehind, Repeated, Both};
 use kinds::Binary;
 use kinds::Join;
 use kinds::Kind;
 use kinds::Unary;
+use limits::NODES_ROOM;
 
 // How many bytes of a formula were read, and how many were written, or would be.
 pub struct Walk {
@@ -20,20 +22,17 @@ pub struct Walk {
     pub written: usize,
 }
 
-// The most nodes that an unfolded formula may have.
-pub const NODES_MOST: usize = 4096;
-
 // A count of nodes, or one more than the most where there are more.
 fn capped(n: usize) -> usize
-    ensures { λ r. ⌜ r ≡ min n 4097 ⌝ }
+    ensures { λ r. ⌜ r ≡ min n (nodesRoom + 1) ⌝ }
 {
-    if n <= NODES_MOST { n } else { NODES_MOST + 1 }
+    if n <= NODES_ROOM { n } else { NODES_ROOM + 1 }
 }
 
 // How many nodes the formula that s begins with unfolds to, counted up to one more than the most.
 pub fn count_unfolded(s: &[u8]) -> Walk
-    requires { ⌜ Begins (now s) × (length (now s) ≤ 4096) ⌝ }
-    ensures { λ r. ⌜ Counted (now (s .entry)) (r .read) (r .written) ⌝ }
+    requires { ⌜ Begins (now s) × (length (now s) ≤ nodesRoom) ⌝ }
+    ensures { λ r. ⌜ CountsUnfolded (now (s .entry)) (r .read) (r .written) ⌝ }
 {
     let k = Kind::of(s[0]);
     match k {
@@ -86,7 +85,7 @@ pub fn count_unfolded(s: &[u8]) -> Walk
 
 // Unfolds the formula that s begins with to the front of `out`.
 pub fn unfold_into(out: &mut [u8], s: &[u8]) -> Walk
-    requires { ⌜ Room (now out) (now s) ⌝ }
+    requires { ⌜ UnfoldAsk (now out) (now s) ⌝ }
     ensures { λ r. ⌜ Unfolds (now (out .entry)) (now (s .entry)) (now (out .exit)) (r .read) (r .written) ⌝ }
 {
     let b = s[0];
@@ -131,7 +130,7 @@ pub fn unfold_into(out: &mut [u8], s: &[u8]) -> Walk
 
 // A byte, and the formula that s begins with, unfolded behind it.
 fn unfold_behind(out: &mut [u8], b: u8, s: &[u8]) -> Walk
-    requires { ⌜ RoomBehind (now out) (now s) ⌝ }
+    requires { ⌜ BehindAsk (now out) (now s) ⌝ }
     ensures { λ r. ⌜ UnfoldsBehind b (now (out .entry)) (now (s .entry)) (now (out .exit)) (r .read) (r .written) ⌝ }
 {
     out[0] = b;
@@ -153,7 +152,7 @@ fn put_next(out: &mut [u8], f: &[u8])
 
 // Eventually or always: the join, the operand unfolded, and the whole under next.
 fn unfold_ever(out: &mut [u8], s: &[u8], join: u8) -> Walk
-    requires { ⌜ Room (now out) (now s) × Repeated (now s) join ⌝ }
+    requires { ⌜ UnfoldAsk (now out) (now s) × Repeated (now s) join ⌝ }
     ensures { λ r. ⌜ Unfolds (now (out .entry)) (now (s .entry)) (now (out .exit)) (r .read) (r .written) ⌝ }
 {
     let a = unfold_behind(out, join, &s[1..]);
@@ -168,7 +167,7 @@ fn unfold_ever(out: &mut [u8], s: &[u8], join: u8) -> Walk
 
 // And or or: both operands unfolded.
 fn unfold_both(out: &mut [u8], s: &[u8], join: u8) -> Walk
-    requires { ⌜ Room (now out) (now s) × Both (now s) join ⌝ }
+    requires { ⌜ UnfoldAsk (now out) (now s) × Both (now s) join ⌝ }
     ensures { λ r. ⌜ Unfolds (now (out .entry)) (now (s .entry)) (now (out .exit)) (r .read) (r .written) ⌝ }
 {
     let a = unfold_behind(out, join, &s[1..]);
@@ -183,7 +182,7 @@ fn unfold_both(out: &mut [u8], s: &[u8], join: u8) -> Walk
 
 // Until: the right operand unfolded or else the left one, unfolded, and the whole under next.
 fn unfold_until(out: &mut [u8], s: &[u8]) -> Walk
-    requires { ⌜ Room (now out) (now s) × (kindOf (getD (now s) 0 0) ≡ Two Until) ⌝ }
+    requires { ⌜ UnfoldAsk (now out) (now s) × (kindOf (getD (now s) 0 0) ≡ Two Until) ⌝ }
     ensures { λ r. ⌜ Unfolds (now (out .entry)) (now (s .entry)) (now (out .exit)) (r .read) (r .written) ⌝ }
 {
     let m = 1 + nodes::operand_end(&s[1..]);

@@ -77,8 +77,8 @@ pub +count-cuts-spec : {M : Type 1} → statement M
     (λ c. let x = left-done t (c .before) in omega arith)
     (λ c. let x = left-done t (c .before) in omega arith)
     (λ c. let x = left-done t (c .before) in omega arith)
-    (λ c κs. let x = left-done t (c .before .before) in
-    (omega arith, (front-begins (x .front), first t (c .before .before .before .before .before .before .before) .pre .1 .1, omega arith)))
+    (λ c κs. let k = c .before .before in let x = left-done t k in let p = first t (k .before .before .before .before .before) .pre in
+    (omega arith, (front-begins (x .front), p .1 .1, omega arith)))
     (λ c κs. let k = c .before .before .before in let d = double t (k .before .before .before) in let x = left-done t k in
     let p = first t (k .before .before .before .before .before) .pre in
     record { owner = _; left = _; right = _; walked-left = k .count-cuts2 .ensures _ _ (d .front); walked-right = c .count-cuts3 .ensures _ _ (x .front); small = omega arith })

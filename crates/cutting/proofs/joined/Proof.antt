@@ -9,19 +9,26 @@ use borrow.Author.Needs.{needs}
 use Rattle.cutting.proofs.joined.Statement.{statement}
 use Rattle.cutting.proofs.joined.Tie as tie
 
+-- the places: the scores are added, and both parts were looked at
+abbrev entry : tie.After-plus → tie.Start
+entry c = c .before .before .before
+
+abbrev added : tie.After-looked2 → tie.After-plus
+added c = c .before .before .before .before
+
 pub joined-spec : {M : Type 1} → statement M
 joined-spec = tie.close (tie.spec
     (λ c κs. search needs)
-    (λ c κs. rw (c .plus .ensures) (sums-few _ _ (c .before .before .before .pre .scores)))
+    (λ c κs. rw (c .plus .ensures) (sums-few _ _ (entry c .pre .scores)))
     (λ c κs. search needs)
     (λ c κs. search needs)
     (λ c κs. search needs)
-    (λ c. let a = c .before .before .before .before .before .before .before .args in let board = c .before .before .place-of .result in
+    (λ c. let a = entry (added c) .args in let board = c .before .before .place-of .result in
     let f = cut-few (a .a .choice) board in let g = cut-few (a .b .choice) board in omega arith)
-    (λ c. let a = c .before .before .before .before .before .before .before .args in
+    (λ c. let a = entry (added c) .args in
     let e = c .before .before .place-of .ensures ∙ ap (placeBy _) (c .before .before .before .choice-of .ensures) in
     record {
-      scores = c .before .before .before .before .plus .ensures;
+      scores = added c .plus .ensures;
       choice-is = c .before .before .before .choice-of .ensures;
       cuts = ap₂ _+_ (c .before .looked .ensures ∙ ap (lookedCuts (a .a)) e) (c .looked2 .ensures ∙ ap (lookedCuts (a .b)) e);
     }))

@@ -2,20 +2,25 @@
 -- that has fewer; the numbers in between are those of `Room`, and each return is a law of `Cutting`. Assumes nothing.
 use mathlib.Core.Path.{_≡_, refl, sym, ap, _∙_}
 use mathlib.Core.List.{List}
-use Rattle.lists.specs.Runs.{tailAs}
+use Rattle.lists.specs.Runs.{tail, tailAs}
 use Rattle.kinds.specs.declared.Leaf.{Leaf}
+use Rattle.kinds.specs.declared.Leaf.the-variants.{Hold}
 use Rattle.kinds.specs.declared.Unary.{Unary}
 use Rattle.kinds.specs.declared.Binary.{Binary}
 use Rattle.kinds.specs.declared.Kind.the-variants.{Zero, One, Two}
-use Rattle.kinds.specs.Kinds.{kindOf}
+use Rattle.kinds.specs.Kinds.{kindOf, leafCode}
 use Rattle.nodes.proofs.Fronts.{parts-as, no-code}
+use Rattle.cutting.specs.Cuts.{staysOn}
+use Rattle.tagging.specs.Packed.{boardIn}
+use Rattle.tagging.proofs.Packing.{Has}
+use Rattle.laying.proofs.Places.{owned}
 use Rattle.laying.proofs.Parts.{not, pair}
 use Rattle.laying.proofs.Slots.{stay-asks, cut-asks, hold-asks}
-use Rattle.laying.proofs.Room.{Entry, entry, cut-done, Begun, begun, FirstDone, first-done, RightBegun, right-begun, BothDone, both-done, HoldEntry, hold-entry, SlotBegun, slot-begun}
+use Rattle.laying.proofs.Room.{Entry, entry, Done, cut-done, Begun, begun, FirstDone, first-done, RightBegun, right-begun, BothDone, both-done, HoldEntry, hold-entry, SlotBegun, slot-begun}
 use Rattle.laying.proofs.Cutting.{constant, proposition, next, ever, until, whole-asks, whole-cuts, leaf-cuts, not-cuts, pair-cuts, stay-looks, cut-looks, slot-lays, hold-cuts}
 use native.Mathlib.Omega.{arith}
 use borrow.Author.Needs.{needs}
-use Prim.Native.Nat.{ℕ, _+_, _*_, _<_}
+use Prim.Native.Nat.{ℕ, _+_, _*_, _^_, _<_}
 use lib.ListN.{length, getD, set}
 use borrow.Fn.Kinds.{In}
 use borrow.Fn.PlainCycle.{Measures, is, falls, and}
@@ -36,6 +41,9 @@ use Rattle.laying.proofs.look.Kinds as look-kinds
 use Rattle.laying.proofs.+cut_not+cut_pair+cut_parts+lay_slot+look.Lts-look as look-lts
 use Rattle.cutting.proofs.stays_on.Reads as stays-on-reads
 use Rattle.kinds.proofs.Kind.of.Reads as of-reads
+use Rattle.tagging.proofs.packed.board_of.Reads as board-of-reads
+use Rattle.tagging.proofs.packed.length_of.Reads as length-of-reads
+use Rattle.tagging.proofs.packed.ahead_of.Reads as ahead-of-reads
 use Rattle.laying.proofs.put_leaf.Reads as put-leaf-reads
 use Rattle.laying.proofs.put_record.Reads as put-record-reads
 use Rattle.laying.proofs.put_whole.Reads as put-whole-reads
@@ -82,6 +90,7 @@ module _ (t : ℕ) where
   abbrev not-calls : cut-not-lts.Claims
   not-calls = (look-below t, look.Post)
 
+  -- the places: the byte is put, the operand was laid, its numbers are read
   abbrev NotIn : Type 0
   NotIn = cut-not-lts.After-slice-known2 not-calls not-here cut-not.Post
 
@@ -93,6 +102,9 @@ module _ (t : ℕ) where
 
   abbrev not-in : NotOut → NotIn
   not-in c = c .before .before .before .before .before .before
+
+  abbrev not-out : cut-not-lts.After-struct-known2 not-calls not-here cut-not.Post → NotOut
+  not-out c = c .before .before .before .before .before
 
   -- where the byte is put: what is there, and what is asked of the operand
   not-begun : (c : NotIn) → let a = not-first c .args in Begun (a .u .now) (a .tags .now) (a .at) (a .p .now) (a .r .now) 2
@@ -118,11 +130,11 @@ module _ (t : ℕ) where
       (λ c. let n = not-begun (c .before .before .before) in omega arith)
       (λ c. let n = not-begun (c .before .before .before) in omega arith)
       (λ c κs. let i = c .before .before .before .before .before in let n = not-begun i in let q = not-first i .pre .0 in (omega arith, n .asks))
-      (λ c. let o = c .before .before .before .before .before in let d = not-done o in let g = not-first (not-in o) .good in omega arith)
-      (λ c. let o = c .before .before .before .before .before .before in let d = not-done o in let g = not-first (not-in o) .good in omega arith)
-      (λ c. not-done (c .before .before .before .before .before .before) .kept)
+      (λ c. let o = not-out c in let d = not-done o in let g = not-first (not-in o) .good in omega arith)
+      (λ c. let o = not-out (c .before) in let d = not-done o in let g = not-first (not-in o) .good in omega arith)
+      (λ c. not-done (not-out (c .before)) .kept)
       (λ c. search needs)
-      (λ c. let o = c .before .before .before .before .before .before in not-cuts _ (not-first (not-in o) .pre .1 .1) (o .look .ensures) (refl, (refl, refl, refl)))
+      (λ c. let o = not-out (c .before) in not-cuts _ (not-first (not-in o) .pre .1 .1) (o .look .ensures) (refl, (refl, refl, refl)))
 
 -- ---- two operands
 module _ (t : ℕ) where
@@ -132,11 +144,19 @@ module _ (t : ℕ) where
   abbrev pair-calls : cut-pair-lts.Claims
   pair-calls = (look-below t, look.Post)
 
+  -- the places: the byte is put; the left one was laid, its numbers are read, its slots are counted, the right one's place is known; the
+  -- right one was laid, and the numbers of both are read
   abbrev PairIn : Type 0
   PairIn = cut-pair-lts.After-shared-slice-known3 pair-calls pair-here cut-pair.Post
 
   abbrev LeftOut : Type 0
   LeftOut = cut-pair-lts.After-look pair-calls pair-here cut-pair.Post
+
+  abbrev LeftKnown : Type 0
+  LeftKnown = cut-pair-lts.After-struct-known2 pair-calls pair-here cut-pair.Post
+
+  abbrev LeftCounted : Type 0
+  LeftCounted = cut-pair-lts.After-struct-known6 pair-calls pair-here cut-pair.Post
 
   abbrev RightIn : Type 0
   RightIn = cut-pair-lts.After-struct-known10 pair-calls pair-here cut-pair.Post
@@ -144,17 +164,35 @@ module _ (t : ℕ) where
   abbrev PairOut : Type 0
   PairOut = cut-pair-lts.After-look2 pair-calls pair-here cut-pair.Post
 
+  abbrev PairKnown : Type 0
+  PairKnown = cut-pair-lts.After-struct-known11 pair-calls pair-here cut-pair.Post
+
   abbrev pair-first : PairIn → cut-pair-lts.Start pair-calls pair-here cut-pair.Post
   pair-first c = c .before .before .before .before .before
 
   abbrev pair-in : LeftOut → PairIn
   pair-in c = c .before .before .before .before .before .before
 
-  abbrev left-out : RightIn → LeftOut
-  left-out c = c .before .before .before .before .before .before .before .before .before .before .before .before .before
+  abbrev left-out : LeftKnown → LeftOut
+  left-out c = c .before .before .before .before .before
+
+  abbrev left-known : LeftCounted → LeftKnown
+  left-known c = c .before .before .before .before
+
+  abbrev left-of : RightIn → LeftOut
+  left-of c = left-out (left-known (c .before .before .before .before))
 
   abbrev right-in : PairOut → RightIn
   right-in c = c .before .before .before .before .before
+
+  abbrev pair-out : PairKnown → PairOut
+  pair-out c = c .before .before .before .before .before
+
+  abbrev pair-end : cut-pair-lts.After-struct-known16 pair-calls pair-here cut-pair.Post → PairOut
+  pair-end c = pair-out (c .before .before .before .before .before)
+
+  abbrev both-left : PairOut → LeftOut
+  both-left c = left-of (right-in c)
 
   -- the nodes as the left one has left them
   abbrev left-nodes : LeftOut → List ℕ
@@ -175,13 +213,16 @@ module _ (t : ℕ) where
 
   -- where both were laid
   pair-done : (c : PairOut)
-      → let l = left-out (right-in c) in let x = l .look .result in let a = pair-first (pair-in l) .args in
+      → let l = both-left c in let x = l .look .result in let a = pair-first (pair-in l) .args in
       BothDone (a .u .now) (a .p .now) (a .r .now)
       (tailAs (1 + x .here) (left-nodes l) (c .look2 .last .1 .1 .1 .0)) (tailAs (6 * x .slots) (l .look .last .1 .1 .1 .1 .0) (c .look2 .last .1 .1 .1 .1 .0))
       x (c .look2 .result)
   pair-done c =
-      let l = left-out (right-in c) in
+      let l = both-left c in
       both-done (left-done l) (l .look .kept .1 .1 .1 .1 .0) (right-begins l) (c .look2 .ensures) (c .look2 .kept .1 .1 .1 .0) (c .look2 .kept .1 .1 .1 .1 .0)
+
+  pair-sums : (c : PairOut) → let x = both-left c .look .result in let y = c .look2 .result in (1 + x .read + y .read < 2 ^ 64) × (1 + x .here + y .here < 2 ^ 64)
+  pair-sums c = let d = pair-done c in let g = pair-first (pair-in (both-left c)) .good in (omega arith, omega arith)
 
   pair-spec : {M : Type 1} → cut-pair-lts.Closed pair-calls pair-here cut-pair.Post M
   pair-spec =
@@ -199,34 +240,34 @@ module _ (t : ℕ) where
       (λ c. let n = pair-begun (c .before .before .before) in omega arith)
       (λ c. let n = pair-begun (c .before .before .before) in omega arith)
       (λ c κs. let i = c .before .before .before .before .before in let n = pair-begun i in let q = pair-first i .pre .0 in (omega arith, n .asks))
-      (λ c. let l = c .before .before .before .before .before in let x = left-done l in let g = pair-first (pair-in l) .good in omega arith)
-      (λ c. let l = c .before .before .before .before .before .before in let x = left-done l in let g = pair-first (pair-in l) .good in omega arith)
-      (λ c. let x = left-done (c .before .before .before .before .before .before .before) in omega arith)
-      (λ c. let x = left-done (c .before .before .before .before .before .before .before .before .before) in omega arith)
-      (λ c. let x = left-done (c .before .before .before .before .before .before .before .before .before .before .before) in omega arith)
-      (λ c. let x = left-done (c .before .before .before .before .before .before .before .before .before .before .before .before) in omega arith)
       (λ c. let l = left-out c in let x = left-done l in let g = pair-first (pair-in l) .good in omega arith)
-      (λ c. let x = left-done (left-out c) in omega arith)
-      (λ c. let x = left-done (left-out c) in omega arith)
-      (λ c. let x = left-done (left-out c) in omega arith)
       (λ c. let l = left-out (c .before) in let x = left-done l in let g = pair-first (pair-in l) .good in omega arith)
-      (λ c. let x = left-done (left-out (c .before)) in omega arith)
-      (λ c. let x = left-done (left-out (c .before)) in omega arith)
-      (λ c. let x = left-done (left-out (c .before)) in omega arith)
       (λ c. let x = left-done (left-out (c .before .before)) in omega arith)
-      (λ c. let x = left-done (left-out (c .before .before)) in omega arith)
-      (λ c. let x = left-done (left-out (c .before .before)) in omega arith)
-      (λ c. let x = right-begins (left-out (c .before .before .before)) in omega arith)
-      (λ c. let x = right-begins (left-out (c .before .before .before)) in omega arith)
-      (λ c. let x = right-begins (left-out (c .before .before .before)) in omega arith)
-      (λ c κs. let l = left-out (c .before .before .before .before) in let n = right-begins l in let q = pair-first (pair-in l) .pre .0 in (omega arith, n .asks))
-      (λ c. let o = c .before .before .before .before .before in let x = pair-done o in let g = pair-first (pair-in (left-out (right-in o))) .good in omega arith)
-      (λ c. let o = c .before .before .before .before .before .before in let x = pair-done o in let g = pair-first (pair-in (left-out (right-in o))) .good in omega arith)
-      (λ c. let x = pair-done (c .before .before .before .before .before .before .before .before) in omega arith)
-      (λ c. let x = pair-done (c .before .before .before .before .before .before .before .before .before .before) in omega arith)
-      (λ c. pair-done (c .before .before .before .before .before .before .before .before .before .before) .kept)
-      (λ c. pair-done (c .before .before .before .before .before .before .before .before .before .before) .records-kept)
-      (λ c. let o = c .before .before .before .before .before .before .before .before .before .before in let l = left-out (right-in o) in pair-cuts _ (pair-first (pair-in l) .pre .1 .1) (l .look .ensures) (o .look2 .ensures) (refl, (refl, refl, refl)))
+      (λ c. let x = left-done (left-out (left-known c)) in omega arith)
+      (λ c. let x = left-done (left-out (left-known (c .before .before))) in omega arith)
+      (λ c. let x = left-done (left-out (left-known (c .before .before .before))) in omega arith)
+      (λ c. let l = left-of c in let x = left-done l in let g = pair-first (pair-in l) .good in omega arith)
+      (λ c. let x = left-done (left-of c) in omega arith)
+      (λ c. let x = left-done (left-of c) in omega arith)
+      (λ c. let x = left-done (left-of c) in omega arith)
+      (λ c. let l = left-of (c .before) in let x = left-done l in let g = pair-first (pair-in l) .good in omega arith)
+      (λ c. let x = left-done (left-of (c .before)) in omega arith)
+      (λ c. let x = left-done (left-of (c .before)) in omega arith)
+      (λ c. let x = left-done (left-of (c .before)) in omega arith)
+      (λ c. let x = left-done (left-of (c .before .before)) in omega arith)
+      (λ c. let x = left-done (left-of (c .before .before)) in omega arith)
+      (λ c. let x = left-done (left-of (c .before .before)) in omega arith)
+      (λ c. let x = right-begins (left-of (c .before .before .before)) in omega arith)
+      (λ c. let x = right-begins (left-of (c .before .before .before)) in omega arith)
+      (λ c. let x = right-begins (left-of (c .before .before .before)) in omega arith)
+      (λ c κs. let l = left-of (c .before .before .before .before) in let n = right-begins l in let q = pair-first (pair-in l) .pre .0 in (omega arith, n .asks))
+      (λ c. let x = pair-sums (pair-out c) in omega arith)
+      (λ c. let x = pair-sums (pair-out (c .before)) in omega arith)
+      (λ c. let x = pair-done (pair-out (c .before .before .before)) in omega arith)
+      (λ c. let x = pair-done (pair-end c) in omega arith)
+      (λ c. pair-done (pair-end c) .kept)
+      (λ c. pair-done (pair-end c) .records-kept)
+      (λ c. let o = pair-end c in let l = both-left o in pair-cuts _ (pair-first (pair-in l) .pre .1 .1) (l .look .ensures) (o .look2 .ensures) (refl, (refl, refl, refl)))
 
 -- ---- a formula in the slot that is being laid
 module _ (t : ℕ) where
@@ -234,7 +275,7 @@ module _ (t : ℕ) where
   parts-here = and 4 cut-parts-kinds.ps (is 4 cut-parts-kinds.ps μ-cut-parts t) cut-parts.Pre
 
   abbrev parts-calls : cut-parts-lts.Claims
-  parts-calls = (of-reads.Asked, of-reads.Learnt, put-leaf-reads.Asked, put-leaf-reads.Learnt, lay-slot-below t, lay-slot.Post, cut-not-below t, cut-not.Post, put-whole-reads.Asked, put-whole-reads.Learnt, cut-pair-below t, cut-pair.Post)
+  parts-calls = (of-reads.Asked, of-reads.Learnt, put-leaf-reads.Asked, put-leaf-reads.Learnt, ahead-of-reads.Asked, ahead-of-reads.Learnt, lay-slot-below t, lay-slot.Post, cut-not-below t, cut-not.Post, put-whole-reads.Asked, put-whole-reads.Learnt, cut-pair-below t, cut-pair.Post)
 
   abbrev PartsIn : Type 0
   PartsIn = cut-parts-lts.Start parts-calls parts-here cut-parts.Post
@@ -256,12 +297,27 @@ module _ (t : ℕ) where
   two-is : (c : cut-parts-lts.After-k3 parts-calls parts-here cut-parts.Post) {o : Binary} → c .k3 .given .0 .0 ≡ o → kindOf (getD (parts-first (c .before .before) .args .u .now) 0 0) ≡ Two o
   two-is c e = sym (c .before .before .of .ensures) ∙ c .k3 .given .1 ∙ ap Two e
 
-  abbrev hold-first : cut-parts-lts.After-enum-told3 parts-calls parts-here cut-parts.Post → PartsIn
-  hold-first c = parts-first (c .before .before .before .before .before)
+  -- at a place holder: its slot stands further on, where its tag says
+  abbrev HoldRead : Type 0
+  HoldRead = cut-parts-lts.After-ahead-of parts-calls parts-here cut-parts.Post
 
-  -- at a place holder: its slot stands further on
-  hold : (c : cut-parts-lts.After-enum-told3 parts-calls parts-here cut-parts.Post) → HoldEntry (hold-first c .args .u .now) (hold-first c .args .tags .now)
-  hold c = hold-entry (hold-first c .pre .1) (zero-is (c .before .before .before) (c .enum-told3 .given .1))
+  abbrev HoldOut : Type 0
+  HoldOut = cut-parts-lts.After-lay-slot parts-calls parts-here cut-parts.Post
+
+  abbrev hold-kind : HoldRead → cut-parts-lts.After-k parts-calls parts-here cut-parts.Post
+  hold-kind c = c .before .before .before .before .before
+
+  abbrev hold-first : HoldRead → PartsIn
+  hold-first c = parts-first (hold-kind c .before .before)
+
+  abbrev hold-read : HoldOut → HoldRead
+  hold-read c = c .before .before .before .before .before
+
+  hold-is : (c : HoldRead) → kindOf (getD (hold-first c .args .u .now) 0 0) ≡ Zero (Hold (c .before .before .enum-told3 .given .0 .0))
+  hold-is c = zero-is (hold-kind c) (c .before .before .enum-told3 .given .1)
+
+  hold : (c : HoldRead) → HoldEntry (hold-first c .args .u .now) (hold-first c .args .tags .now) (c .ahead-of .result)
+  hold c = hold-entry (hold-first c .pre .1) (hold-is c) (c .ahead-of .ensures)
 
   parts-spec : {M : Type 1} → cut-parts-lts.Closed parts-calls parts-here cut-parts.Post M
   parts-spec =
@@ -274,16 +330,16 @@ module _ (t : ℕ) where
       (λ c. search needs)
       (λ c κs. let n = parts-entry (parts-first (c .before .before .before .before .before .before)) in omega arith)
       (λ c. search needs)
+      (λ c. let n = parts-entry (parts-first (c .before .before .before .before .before .before)) in omega arith)
+      (λ c κs. tt)
+      (λ c. let n = hold c in omega arith)
+      (λ c. let n = hold c in omega arith)
+      (λ c. let n = hold c in omega arith)
       (λ c. let n = hold (c .before) in omega arith)
       (λ c. let n = hold (c .before) in omega arith)
       (λ c. let n = hold (c .before) in omega arith)
       (λ c. let n = hold (c .before) in omega arith)
-      (λ c. let n = hold (c .before) in omega arith)
-      (λ c. let n = hold (c .before .before) in omega arith)
-      (λ c. let n = hold (c .before .before) in omega arith)
-      (λ c. let n = hold (c .before .before) in omega arith)
-      (λ c. let n = hold (c .before .before) in omega arith)
-      (λ c κs. let e = c .before .before .before .before .before in let n = hold e in let a = hold-first e .pre in let q = a .0 in (omega arith, hold-asks (a .1) (zero-is (e .before .before .before) (e .enum-told3 .given .1))))
+      (λ c κs. let e = c .before .before .before .before in let n = hold e in let a = hold-first e .pre in let q = a .0 in (omega arith, hold-asks (a .1) (hold-is e) (e .ahead-of .ensures)))
       (λ c. search needs)
       (λ c. search needs)
       (λ c κs. let e = c .before .before in let a = parts-first (e .before .before .before .before .before) .pre in let q = a .0 in (omega arith, (a .1, one-is (e .before .before .before) (e .enum-told4 .given .1))))
@@ -304,7 +360,7 @@ module _ (t : ℕ) where
       (λ c. let e = c .before .before .before .before in leaf-cuts proposition (zero-is (e .before .before .before) (e .enum-told2 .given .1)) (c .before .before .put-leaf2 .ensures))
       (λ c. search needs)
       (λ c. search needs)
-      (λ c. let e = c .before .before .before .before .before .before .before .before .before .before in hold-cuts _ (zero-is (e .before .before .before) (e .enum-told3 .given .1)) (c .before .before .before .before .lay-slot .ensures) (refl, (refl, refl, refl)))
+      (λ c. let o = c .before .before .before .before in let e = hold-read o in hold-cuts _ (hold-is e) (e .ahead-of .ensures) (o .lay-slot .ensures) (refl, (refl, refl, refl)))
       (λ c. search needs)
       (λ c. search needs)
       (λ c. c .before .before .before .before .cut-not .ensures)
@@ -326,56 +382,79 @@ module _ (t : ℕ) where
   slot-here = and 4 lay-slot-kinds.ps (is 4 lay-slot-kinds.ps μ-lay-slot t) lay-slot.Pre
 
   abbrev slot-calls : lay-slot-lts.Claims
-  slot-calls = (put-record-reads.Asked, put-record-reads.Learnt, cut-parts-below t, cut-parts.Post)
+  slot-calls = (length-of-reads.Asked, length-of-reads.Learnt, board-of-reads.Asked, board-of-reads.Learnt, put-record-reads.Asked, put-record-reads.Learnt, cut-parts-below t, cut-parts.Post)
 
-  abbrev SlotIn : Type 0
-  SlotIn = lay-slot-lts.After-shared-slice-known3 slot-calls slot-here lay-slot.Post
+  -- the places: the tag was read, the record was put, the place of the parts is known, the parts were laid, their numbers are read
+  abbrev SlotRead : Type 0
+  SlotRead = lay-slot-lts.After-board-of slot-calls slot-here lay-slot.Post
 
   abbrev SlotPut : Type 0
   SlotPut = lay-slot-lts.After-put-record slot-calls slot-here lay-slot.Post
 
+  abbrev SlotPlaced : Type 0
+  SlotPlaced = lay-slot-lts.After-struct-known4 slot-calls slot-here lay-slot.Post
+
   abbrev SlotOut : Type 0
   SlotOut = lay-slot-lts.After-cut-parts slot-calls slot-here lay-slot.Post
 
-  abbrev slot-first : SlotIn → lay-slot-lts.Start slot-calls slot-here lay-slot.Post
+  abbrev slot-first : lay-slot-lts.After-shared-slice-known3 slot-calls slot-here lay-slot.Post → lay-slot-lts.Start slot-calls slot-here lay-slot.Post
   slot-first c = c .before .before .before .before .before
 
-  abbrev slot-in : SlotPut → SlotIn
-  slot-in c = c .before .before .before .before
+  abbrev slot-start : SlotRead → lay-slot-lts.Start slot-calls slot-here lay-slot.Post
+  slot-start c = slot-first (c .before .before)
 
-  abbrev slot-put : SlotOut → SlotPut
-  slot-put c = c .before .before .before .before .before .before .before
+  abbrev slot-read : SlotPut → SlotRead
+  slot-read c = c .before .before .before .before
 
-  -- at the entry: what is there, and what is asked of the parts once the record was put
-  slot : (c : SlotIn) → let a = slot-first c .args in SlotBegun (a .u .now) (a .tags .now) (a .at) (a .p .now) (a .r .now)
-  slot c = slot-begun (slot-first c .pre .1)
+  abbrev slot-put : SlotPlaced → SlotPut
+  slot-put c = c .before .before .before .before
+
+  abbrev slot-put-out : SlotOut → SlotPut
+  slot-put-out c = slot-put (c .before .before .before)
+
+  abbrev slot-out : lay-slot-lts.After-struct-known5 slot-calls slot-here lay-slot.Post → SlotOut
+  slot-out c = c .before .before .before .before .before
+
+  -- where the tag was read: what it has, what is there, and what is asked of the parts once the record was put
+  slot-has : (c : SlotRead) → Has (getD (slot-start c .args .tags .now) 0 0) (c .before .length-of .result) (c .board-of .result)
+  slot-has c = record { here-is = sym (c .before .length-of .ensures); board-is = sym (c .board-of .ensures) }
+
+  slot : (c : SlotRead) → let a = slot-start c .args in SlotBegun (a .u .now) (a .tags .now) (a .at) (a .p .now) (a .r .now) (c .before .length-of .result) (c .board-of .result)
+  slot c = slot-begun (slot-start c .pre .1) (slot-has c)
+
+  -- where the parts were laid: they have taken no more than there was
+  slot-done : (c : SlotOut)
+      → let k = slot-put-out c in let i = slot-read k in let a = slot-start i .args in
+      let q = tail (a .at .gap) (set (a .p .now) 0 (leafCode (Hold (a .at .slot)))) in
+      Done (a .u .now) (owned (a .at) (i .board-of .result) (i .before .length-of .result)) (length q) (length (tail 6 (k .put-record .last .0))) (c .cut-parts .result)
+  slot-done c = let k = slot-put-out c in cut-done (slot (slot-read k) .asks (k .put-record .last .0) (k .put-record .kept .0)) (c .cut-parts .ensures)
 
   slot-spec : {M : Type 1} → lay-slot-lts.Closed slot-calls slot-here lay-slot.Post M
   slot-spec =
       lay-slot-lts.spec slot-calls slot-here lay-slot.Post
-      (λ c. slot c .some-tags)
-      (λ c. let n = slot c in omega arith)
-      (λ c. omega arith)
+      (λ c. let a = slot-first c .pre .1 in let n = entry (a .source) (a .stands .front) (a .fits) in omega arith)
+      (λ c κs. tt)
+      (λ c κs. tt)
       (λ c. let n = slot (c .before) in omega arith)
       (λ c. let n = slot (c .before) in omega arith)
       (λ c. let n = slot (c .before) in omega arith)
       (λ c. let n = slot (c .before .before .before) in omega arith)
       (λ c. let n = slot (c .before .before .before) in omega arith)
       (λ c κs. slot (c .before .before .before) .row)
-      (λ c. let n = slot (slot-in (c .before .before .before)) in omega arith)
-      (λ c. let n = slot (slot-in (c .before .before .before .before)) in omega arith)
-      (λ c. let n = slot (slot-in (c .before .before .before .before)) in omega arith)
-      (λ c. let n = slot (slot-in (c .before .before .before .before)) in omega arith)
-      (λ c. let n = slot (slot-in (c .before .before .before .before)) in omega arith)
-      (λ c. let k = c .before .before .before .before .before in let n = slot (slot-in k) in let l = k .put-record .kept .0 in omega arith)
-      (λ c. let k = c .before .before .before .before .before in let n = slot (slot-in k) in let l = k .put-record .kept .0 in omega arith)
-      (λ c. let k = c .before .before .before .before .before in let n = slot (slot-in k) in let l = k .put-record .kept .0 in omega arith)
-      (λ c κs. let k = c .before .before .before .before .before .before in let q = slot-first (slot-in k) .pre .0 in (omega arith, slot (slot-in k) .asks (k .put-record .last .0) (k .put-record .kept .0)))
-      (λ c. let o = c .before .before .before .before .before in let k = slot-put o in let d = cut-done (slot (slot-in k) .asks (k .put-record .last .0) (k .put-record .kept .0)) (o .cut-parts .ensures) in omega arith)
-      (λ c. let o = c .before .before .before .before .before .before in let k = slot-put o in let d = cut-done (slot (slot-in k) .asks (k .put-record .last .0) (k .put-record .kept .0)) (o .cut-parts .ensures) in omega arith)
-      (λ c. let o = c .before .before .before .before .before .before in slot (slot-in (slot-put o)) .kept (o .cut-parts .last .1 .1 .1 .0) (o .cut-parts .kept .1 .1 .1 .0))
+      (λ c. let n = slot (slot-read (c .before .before .before)) in omega arith)
+      (λ c. let n = slot (slot-read (slot-put c)) in omega arith)
+      (λ c. let n = slot (slot-read (slot-put c)) in omega arith)
+      (λ c. let n = slot (slot-read (slot-put c)) in omega arith)
+      (λ c. let n = slot (slot-read (slot-put c)) in omega arith)
+      (λ c. let k = slot-put (c .before) in let n = slot (slot-read k) in let l = k .put-record .kept .0 in omega arith)
+      (λ c. let k = slot-put (c .before) in let n = slot (slot-read k) in let l = k .put-record .kept .0 in omega arith)
+      (λ c. let k = slot-put (c .before) in let n = slot (slot-read k) in let l = k .put-record .kept .0 in omega arith)
+      (λ c κs. let k = slot-put (c .before .before) in let q = slot-start (slot-read k) .pre .0 in (omega arith, slot (slot-read k) .asks (k .put-record .last .0) (k .put-record .kept .0)))
+      (λ c. let d = slot-done (slot-out c) in omega arith)
+      (λ c. let d = slot-done (slot-out (c .before)) in omega arith)
+      (λ c. let o = slot-out (c .before) in slot (slot-read (slot-put-out o)) .kept (o .cut-parts .last .1 .1 .1 .0) (o .cut-parts .kept .1 .1 .1 .0))
       (λ c. search needs)
-      (λ c. let o = c .before .before .before .before .before .before in slot-lays _ (slot-put o .put-record .ensures) (o .cut-parts .ensures) (refl, (refl, refl, refl)))
+      (λ c. let o = slot-out (c .before) in let k = slot-put-out o in slot-lays _ (slot-has (slot-read k)) (k .put-record .ensures) (o .cut-parts .ensures) (refl, (refl, refl, refl)))
 
 -- ---- an operand
 module _ (t : ℕ) where
@@ -383,22 +462,36 @@ module _ (t : ℕ) where
   look-here = and 4 look-kinds.ps (is 4 look-kinds.ps μ-look t) look.Pre
 
   abbrev look-calls : look-lts.Claims
-  look-calls = (stays-on-reads.Asked, stays-on-reads.Learnt, cut-parts-below t, cut-parts.Post, lay-slot-below t, lay-slot.Post)
+  look-calls = (board-of-reads.Asked, board-of-reads.Learnt, stays-on-reads.Asked, stays-on-reads.Learnt, cut-parts-below t, cut-parts.Post, lay-slot-below t, lay-slot.Post)
+
+  -- the places: the tag was read, and it is known whether the operand stays
+  abbrev Looked : Type 0
+  Looked = look-lts.After-stays-on look-calls look-here look.Post
+
+  abbrev look-first : look-lts.After-board-of look-calls look-here look.Post → look-lts.Start look-calls look-here look.Post
+  look-first c = c .before .before .before .before .before .before
+
+  abbrev look-start : Looked → look-lts.Start look-calls look-here look.Post
+  look-start c = look-first (c .before)
+
+  -- the test, by the tag
+  stays : (c : Looked) → let a = look-start c .args in staysOn (boardIn (getD (a .tags .now) 0 0)) (a .at .board) ≡ c .stays-on .result
+  stays c = sym (c .stays-on .ensures ∙ ap (λ (b : ℕ). staysOn b (look-start c .args .at .board)) (c .before .board-of .ensures))
 
   look-spec : {M : Type 1} → look-lts.Closed look-calls look-here look.Post M
   look-spec =
       look-lts.spec look-calls look-here look.Post
       (λ c. let a = c .before .before .before .before .before .pre .1 in let n = entry (a .source) (a .front) (a .fits) in omega arith)
-      (λ c. omega arith)
       (λ c κs. tt)
-      (λ c κs. let s = c .before .before .before in let a = s .before .before .before .before .before .before .pre in let q = a .0 in (omega arith, stay-asks (a .1) (sym (s .stays-on .ensures) ∙ c .before .before .if1 .taken)))
+      (λ c κs. tt)
+      (λ c κs. let i = c .before .before in let a = look-start (i .before) .pre in let q = a .0 in (omega arith, stay-asks (a .1) (stays (i .before) ∙ i .if1 .taken)))
       (λ c. search needs)
       (λ c. search needs)
-      (λ c. let s = c .before .before .before .before .before .before .before in stay-looks (sym (s .before .stays-on .ensures) ∙ s .if1 .taken) (c .before .before .before .before .cut-parts .ensures))
-      (λ c κs. let s = c .before .before .before in let a = s .before .before .before .before .before .before .pre in let q = a .0 in (omega arith, cut-asks (a .1) (sym (s .stays-on .ensures) ∙ c .before .before .if1 .left)))
+      (λ c. let o = c .before .before .before .before in let i = o .before .before .before in stay-looks (stays (i .before) ∙ i .if1 .taken) (o .cut-parts .ensures))
+      (λ c κs. let i = c .before .before in let a = look-start (i .before) .pre in let q = a .0 in (omega arith, cut-asks (a .1) (stays (i .before) ∙ i .if1 .left)))
       (λ c. search needs)
       (λ c. search needs)
-      (λ c. let s = c .before .before .before .before .before .before .before in cut-looks (sym (s .before .stays-on .ensures) ∙ s .if1 .left) (c .before .before .before .before .lay-slot .ensures))
+      (λ c. let o = c .before .before .before .before in let i = o .before .before .before in cut-looks (stays (i .before) ∙ i .if1 .left) (o .lay-slot .ensures))
 
 pub +cut-not+cut-pair+cut-parts+lay-slot+look-spec : {M : Type 1} → statement M
 +cut-not+cut-pair+cut-parts+lay-slot+look-spec =

@@ -1,10 +1,11 @@
 -- The layout's counts decide; within the limits it is put. Assumes nothing.
 use mathlib.Core.Path.{refl}
 use mathlib.Core.List.{[]}
+use Rattle.limits.specs.Limits.{propositionsMost}
 use Rattle.ltl.specs.Formula.{Formula}
 use Rattle.scores.proofs.Added.{zeros-few}
-use Rattle.loading.specs.Load.{Ruled}
-use Rattle.loading.proofs.Rules.{Cut, Fitting, cuts-few}
+use Rattle.loading.specs.Load.{RuleGiven}
+use Rattle.loading.proofs.Rules.{Cut, LayoutFits, cuts-few}
 use Rattle.loading.proofs.Firsts.{whole-begins, first-ask}
 use Rattle.loading.proofs.Outcomes.{begun-slots, begun-nodes, begun-done}
 use native.Mathlib.Omega.{arith}
@@ -12,37 +13,55 @@ use borrow.Author.Needs.{needs}
 use Rattle.loading.proofs.begin.Statement.{statement}
 use Rattle.loading.proofs.begin.Tie as tie
 
--- of any rule that the bytes are: the cuts that were counted, and behind both checks that the layout is within the limits
+-- the places: the table of owners is filled, the cuts are counted, the slots are few, the nodes are counted, both are few
+abbrev entry : tie.After-owners → tie.Start
+entry c = c .before .before .before .before .before
+
+abbrev owned : tie.After-count-cuts → tie.After-owners
+owned c = c .before .before .before
+
+abbrev counted : tie.Else1 → tie.After-count-cuts
+counted c = c .before .before .before
+
+abbrev unfolded : tie.Else2 → tie.After-count-unfolded
+unfolded c = c .before .before .before
+
 abbrev first : tie.After-count-cuts → tie.Start
-first c = c .before .before .before .before .before .before .before .before
+first c = entry (owned c)
 
-cut : (c : tie.After-count-cuts) {rule : Formula} (r : Ruled (first c .args .masks .now) (first c .args .rule .now) rule) → Cut r (c .before .before .before .owners .last .1 .0) (c .count-cuts .result .part)
-cut c {rule} r = record { owned = c .before .before .before .owners .ensures .owned (r .propositions) (r .few-propositions) (r .follow); parted = c .count-cuts .ensures rule [] (r .front) .parted }
+-- of any rule that the bytes are: the cuts that were counted, and behind both checks that the layout is within the limits
 
-abbrev counted : tie.Else2 → tie.After-count-cuts
-counted c = c .before .before .before .before .before .before .before
+cut : (c : tie.After-count-cuts) {rule : Formula} (r : RuleGiven (first c .args .masks .now) (first c .args .rule .now) rule) → Cut r (owned c .owners .last .1 .0) (c .count-cuts .result .part)
+cut c {rule} r = record { owned = owned c .owners .ensures .owned (r .propositions) (r .few-propositions) (r .follow); parted = c .count-cuts .ensures rule [] (r .front) .parted }
 
-fits : (c : tie.Else2) {rule : Formula} (r : Ruled (first (counted c) .args .masks .now) (first (counted c) .args .rule .now) rule)
-    → let k = counted c in Fitting r (k .before .before .before .owners .last .1 .0) (k .count-cuts .result .part) (c .before .before .before .count-unfolded .result .written)
-fits c {rule} r = record { cut = cut (counted c) r; few-slots = let l = c .before .before .before .before .if1 .left in omega arith; count-is = c .before .before .before .count-unfolded .ensures rule [] (r .front) .1; few-nodes = c .if2 .left }
+abbrev cuts-of : tie.Else2 → tie.After-count-cuts
+cuts-of c = counted (unfolded c .before)
+
+fits : (c : tie.Else2) {rule : Formula} (r : RuleGiven (first (cuts-of c) .args .masks .now) (first (cuts-of c) .args .rule .now) rule)
+    → let k = cuts-of c in LayoutFits r (owned k .owners .last .1 .0) (k .count-cuts .result .part) (unfolded c .count-unfolded .result .written)
+fits c {rule} r =
+    let u = unfolded c in
+    record { cut = cut (cuts-of c) r; few-slots = let l = u .before .if1 .left in omega arith; count-is = u .count-unfolded .ensures rule [] (r .front) .1; few-nodes = c .if2 .left }
 
 pub begin-spec : {M : Type 1} → statement M
 begin-spec =
     tie.close
     (tie.spec
     (λ c. search needs)
-    (λ c κs. (c .before .before .before .before .pre .ruled .few-boards, record { long = refl; boards = λ i. (let z = zeros-few 64 i in omega arith) }))
+    (λ c κs. (c .before .before .before .before .pre .ruled .few-boards, record { long = refl; boards = λ i. (let z = zeros-few propositionsMost i in omega arith) }))
     (λ c. search needs)
-    (λ c κs. let r = c .before .before .before .before .before .before .before .pre .ruled in let n = r .few-nodes in (whole-begins (r .front), c .before .before .owners .ensures .table, omega arith))
+    (λ c κs. let o = c .before .before in let r = entry o .pre .ruled in let n = r .few-nodes in (whole-begins (r .front), o .owners .ensures .table, omega arith))
     (λ c. let k = c .before .before in let w = cuts-few (cut k (first k .pre .ruled)) in omega arith)
     (λ c rule r. begun-slots _ (cut (c .before .before .before) r) (c .if1 .taken))
-    (λ c κs. let r = c .before .before .before .before .before .before .before .before .before .before .before .pre .ruled in let n = r .few-nodes in (whole-begins (r .front), omega arith))
-    (λ c. let k = c .before .before .before .before .before .before in let r = first k .pre .ruled in let w = cuts-few (cut k r) in let n = c .before .before .count-unfolded .ensures (first k .pre .rule) [] (r .front) .1 in omega arith)
-    (λ c rule r. begun-nodes _ (cut (c .before .before .before .before .before .before .before) r) (c .before .before .before .before .if1 .left) (c .before .before .before .count-unfolded .ensures rule [] (r .front) .1) (c .if2 .taken))
+    (λ c κs. let r = first (counted c) .pre .ruled in let n = r .few-nodes in (whole-begins (r .front), omega arith))
+    (λ c. let u = c .before .before in let k = counted (u .before) in let r = first k .pre .ruled in let w = cuts-few (cut k r) in let n = u .count-unfolded .ensures (first k .pre .rule) [] (r .front) .1 in omega arith)
+    (λ c rule r. let u = c .before .before .before in let e = u .before in
+    begun-nodes _ (cut (counted e) r) (e .if1 .left) (u .count-unfolded .ensures rule [] (r .front) .1) (c .if2 .taken))
     (λ c κs. search needs)
     (λ c. search needs)
     (λ c. search needs)
     (λ c. search needs)
-    (λ c κs. let k = counted (c .before .before .before .before .before) in first-ask (first k .pre) (k .before .before .before .owners .ensures .table) (fits (c .before .before .before .before .before) (first k .pre .ruled)) (c .before .before .before .before .first-board .ensures) refl refl)
+    (λ c κs. let e = c .before .before .before .before .before in let k = cuts-of e in
+    first-ask (first k .pre) (owned k .owners .ensures .table) (fits e (first k .pre .ruled)) (c .before .before .before .before .first-board .ensures) refl refl)
     (λ c. search needs)
-    (λ c rule r. begun-done _ (fits (c .before .before .before .before .before .before .before .before .before .before) r) (c .before .before .before .before .put-first .ensures rule r)))
+    (λ c rule r. let o = c .before .before .before .before in begun-done _ (fits (o .before .before .before .before .before .before) r) (o .put-first .ensures rule r)))

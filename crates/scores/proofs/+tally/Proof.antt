@@ -6,7 +6,7 @@ use Prim.Native.Nat.{ℕ, _<_}
 use lib.ListN.{length}
 use Rattle.nodes.proofs.Fronts.{Single, Double, parts-as, no-code, begins-some, front-begins, leaf-within}
 use Rattle.nodes.proofs.Operands.{one-of, two-of, single-as, double-as, LeftRead, left-read}
-use Rattle.scores.proofs.Counting.{counted-leaf, tallied-leaf, tallied-one, tallied-two}
+use Rattle.scores.proofs.Counting.{scored-leaf, tallied-leaf, tallied-one, tallied-two}
 use native.Mathlib.Omega.{arith}
 use borrow.Author.Needs.{needs}
 use borrow.Fn.Kinds.{In}
@@ -83,8 +83,8 @@ pub +tally-spec : {M : Type 1} → statement M
     let r = c .before .before .before .tally3 .ensures _ _ (x .front) .1 .few b in omega arith)
     (λ c. search needs)
     (λ c κs. omega arith)
-    (λ c f rest y. tallied-leaf (parts-as _ f rest y (c .before .before .before .before .before .of .ensures) (c .before .before .before .k .given .1)) (counted-leaf (c .before .owner-of .ensures .0) (c .one .ensures)))
+    (λ c f rest y. tallied-leaf (parts-as _ f rest y (c .before .before .before .before .before .of .ensures) (c .before .before .before .k .given .1)) (scored-leaf (c .before .owner-of .ensures .0) (c .one .ensures)))
     (λ c f rest y. tallied-one (single-as (single t (c .before .before .before .before)) refl y) (c .before .before .tally .ensures))
-    (λ c f rest y. let k = c .before .before .before .before .before .before .before in
-    rw (c .plus .ensures) (tallied-two (double-as (double t (k .before .before)) refl y) (k .tally2 .ensures) (c .before .before .before .before .tally3 .ensures)))
+    (λ c f rest y. let o = c .before .before .before .before in let k = o .before .before .before in
+    rw (c .plus .ensures) (tallied-two (double-as (double t (k .before .before)) refl y) (k .tally2 .ensures) (o .tally3 .ensures)))
     (λ c f rest y. absurd (no-code (parts-as _ f rest y (c .before .before .before .of .ensures) (c .before .enum-told3 .given .1))))

@@ -5,6 +5,7 @@ use Prim.Native.Nat.{ℕ, _-_}
 use lib.ListN.{length, getD, length-set}
 use lib.Bits.{and-le-r}
 use Rattle.lists.specs.Tests.{pick, bit}
+use Rattle.limits.specs.Limits.{propositionsMost}
 use Rattle.scores.proofs.Clearing.{own-more, own-done}
 use native.Mathlib.Omega.{arith}
 use borrow.Author.Needs.{needs}
@@ -12,7 +13,7 @@ use Rattle.scores.proofs.own.Statement.{statement}
 use Rattle.scores.proofs.own.Tie as tie
 
 abbrev Inv-loop : tie.InvT-loop
-Inv-loop mask board owner₀ left₀ owner left = (length owner ≡ 64) × ((i : ℕ) → pick (bit left i) board (getD owner i 0) ≡ pick (bit mask i) board (getD owner₀ i 0))
+Inv-loop mask board owner₀ left₀ owner left = (length owner ≡ propositionsMost) × ((i : ℕ) → pick (bit left i) board (getD owner i 0) ≡ pick (bit mask i) board (getD owner₀ i 0))
 
 abbrev μ-loop : tie.MeasureT-loop
 μ-loop mask board owner₀ left₀ owner left = left

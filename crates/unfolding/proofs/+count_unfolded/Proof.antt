@@ -10,7 +10,7 @@ use borrow.Fn.PlainCycle.{Measures}
 use lib.ListN.{length}
 use Rattle.nodes.proofs.Fronts.{Single, Double, parts-as, no-code, begins-some, front-begins}
 use Rattle.nodes.proofs.Operands.{one-of, two-of, single-as, double-as, LeftRead, left-read}
-use Rattle.unfolding.proofs.Counts.{Small, counted-leaf, small-one, counted-not, counted-next, counted-ever, small-two, counted-joined, counted-until}
+use Rattle.unfolding.proofs.Counts.{CountSmall, counted-leaf, small-one, counted-not, counted-next, counted-ever, small-two, counted-joined, counted-until}
 use Rattle.unfolding.proofs.count_unfolded.Reads as count-unfolded
 use Rattle.unfolding.proofs.count_unfolded.Kinds as count-unfolded-kinds
 use Rattle.unfolding.proofs.+count_unfolded.Lts-count_unfolded as lts
@@ -42,7 +42,7 @@ module _ (t : ℕ) where
   single c = one-of (first (c .before .before .before) .pre .1 .0 .front) (c .before .before .before .of .ensures) (c .before .k .given .1)
 
   one-small : (c : lts.After-struct-known calls here count-unfolded.Post)
-      → let r = c .before .count-unfolded .result in Small (first (c .before .before .before .before .before .before) .args .s .now) (1 + r .read) (r .written)
+      → let r = c .before .count-unfolded .result in CountSmall (first (c .before .before .before .before .before .before) .args .s .now) (1 + r .read) (r .written)
   one-small c = small-one (single (c .before .before .before)) (c .before .count-unfolded .ensures)
 
   -- ---- two operands: the same, and where the left one was counted
@@ -54,8 +54,8 @@ module _ (t : ℕ) where
   left-done c = let x = double (c .before .before .before) in left-read x (c .before .count-unfolded2 .ensures _ _ (x .front) .0)
 
   two-small : (c : lts.After-struct-known5 calls here count-unfolded.Post)
-      → let r = c .before .before .before .before .count-unfolded2 .result in let q = c .before .count-unfolded3 .result in
-      Small (first (c .before .before .before .before .before .before .before .before .before) .args .s .now) (1 + r .read + q .read) (r .written + q .written)
+      → let d = c .before .before .before in let r = d .before .count-unfolded2 .result in let q = c .before .count-unfolded3 .result in
+      CountSmall (first (d .before .before .before .before .before .before) .args .s .now) (1 + r .read + q .read) (r .written + q .written)
   two-small c =
       let d = c .before .before .before in
       small-two (double (d .before .before .before)) (d .before .count-unfolded2 .ensures) (c .before .count-unfolded3 .ensures)

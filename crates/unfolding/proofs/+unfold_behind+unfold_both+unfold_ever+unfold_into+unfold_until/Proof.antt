@@ -101,44 +101,56 @@ module _ (t : ℕ) where
   until-calls = (operand-end-reads.Asked, operand-end-reads.Learnt, behind-below, unfold-behind.Post, put-next-reads.Asked, put-next-reads.Learnt)
 
   -- ---- and and or: where the left operand was unfolded, and where both were
+  abbrev both-left : both-lts.After-struct-known both-calls both-here unfold-both.Post → both-lts.After-unfold-behind both-calls both-here unfold-both.Post
+  both-left c = c .before .before .before
+
   abbrev both-start : both-lts.After-struct-known both-calls both-here unfold-both.Post → both-lts.Start both-calls both-here unfold-both.Post
-  both-start c = c .before .before .before .before .before .before .before .before
+  both-start c = both-left c .before .before .before .before .before
 
   left-written : (c : both-lts.After-struct-known both-calls both-here unfold-both.Post)
-      → let a = both-start c .args in let r = c .before .before .before .unfold-behind .result in Bounded (a .out .now) (a .s .now) (1 + r .read) (r .written)
-  left-written c = first-made (both-start c .pre .1) (c .before .before .before .unfold-behind .ensures)
+      → let a = both-start c .args in let r = both-left c .unfold-behind .result in Bounded (a .out .now) (a .s .now) (1 + r .read) (r .written)
+  left-written c = first-made (both-start c .pre .1) (both-left c .unfold-behind .ensures)
 
   both-written : (c : both-lts.After-unfold-into both-calls both-here unfold-both.Post)
-      → let d = c .before .before .before in let a = both-start d .args in let r = d .before .before .before .unfold-behind .result in
+      → let d = c .before .before .before in let a = both-start d .args in let r = both-left d .unfold-behind .result in
       Bounded (a .out .now) (a .s .now) (1 + r .read + c .unfold-into .result .read) (r .written + c .unfold-into .result .written)
   both-written c =
       let d = c .before .before .before in
-      both-made (both-start d .pre .1) (d .before .before .before .unfold-behind .ensures) (c .unfold-into .ensures)
+      both-made (both-start d .pre .1) (both-left d .unfold-behind .ensures) (c .unfold-into .ensures)
 
   -- ---- eventually and always: where the operand was unfolded
+  abbrev ever-operand : ever-lts.After-struct-known ever-calls ever-here unfold-ever.Post → ever-lts.After-unfold-behind ever-calls ever-here unfold-ever.Post
+  ever-operand c = c .before .before .before
+
   abbrev ever-start : ever-lts.After-struct-known ever-calls ever-here unfold-ever.Post → ever-lts.Start ever-calls ever-here unfold-ever.Post
-  ever-start c = c .before .before .before .before .before .before .before .before
+  ever-start c = ever-operand c .before .before .before .before .before
 
   operand-written : (c : ever-lts.After-struct-known ever-calls ever-here unfold-ever.Post)
-      → let a = ever-start c .args in let r = c .before .before .before .unfold-behind .result in
+      → let a = ever-start c .args in let r = ever-operand c .unfold-behind .result in
       Bounded (a .out .now) (a .s .now) (1 + r .read) (r .written + 1 + (1 + r .read))
-  operand-written c = ever-made (ever-start c .pre .1) (c .before .before .before .unfold-behind .ensures)
+  operand-written c = ever-made (ever-start c .pre .1) (ever-operand c .unfold-behind .ensures)
 
   -- ---- the formula in front, by its operator
   abbrev into-start : into-lts.After-of into-calls into-here unfold-into.Post → into-lts.Start into-calls into-here unfold-into.Post
   into-start c = c .before .before .before .before
 
+  abbrev one-start : into-lts.After-known-told into-calls into-here unfold-into.Post → into-lts.Start into-calls into-here unfold-into.Post
+  one-start c = into-start (c .before .before .before)
+
+  abbrev two-start : into-lts.After-known-told3 into-calls into-here unfold-into.Post → into-lts.Start into-calls into-here unfold-into.Post
+  two-start c = into-start (c .before .before .before)
+
   under-one : (c : into-lts.After-known-told into-calls into-here unfold-into.Post)
-      → let a = into-start (c .before .before .before) in Single (a .args .s .now) (a .pre .1 .begins .rest) (a .pre .1 .begins .formula) (c .before .k .given .0 .0)
-  under-one c = one-of (into-start (c .before .before .before) .pre .1 .begins .front) (c .before .before .before .of .ensures) (c .before .k .given .1)
+      → let a = one-start c in Single (a .args .s .now) (a .pre .1 .begins .rest) (a .pre .1 .begins .formula) (c .before .k .given .0 .0)
+  under-one c = one-of (one-start c .pre .1 .begins .front) (c .before .before .before .of .ensures) (c .before .k .given .1)
 
   under-two : (c : into-lts.After-known-told3 into-calls into-here unfold-into.Post)
-      → let a = into-start (c .before .before .before) in Double (a .args .s .now) (a .pre .1 .begins .rest) (a .pre .1 .begins .formula) (c .before .k2 .given .0 .0)
-  under-two c = two-of (into-start (c .before .before .before) .pre .1 .begins .front) (c .before .before .before .of .ensures) (c .before .k2 .given .1)
+      → let a = two-start c in Double (a .args .s .now) (a .pre .1 .begins .rest) (a .pre .1 .begins .formula) (c .before .k2 .given .0 .0)
+  under-two c = two-of (two-start c .pre .1 .begins .front) (c .before .before .before .of .ensures) (c .before .k2 .given .1)
 
   under-not : (c : into-lts.After-enum-told2 into-calls into-here unfold-into.Post)
-      → let a = into-start (c .before .before .before .before .before) in Single (a .args .s .now) (a .pre .1 .begins .rest) (a .pre .1 .begins .formula) Not
-  under-not c = single-as (under-one (c .before .before)) (c .enum-told2 .given .1) (into-start (c .before .before .before .before .before) .pre .1 .begins .front)
+      → let a = one-start (c .before .before) in Single (a .args .s .now) (a .pre .1 .begins .rest) (a .pre .1 .begins .formula) Not
+  under-not c = single-as (under-one (c .before .before)) (c .enum-told2 .given .1) (one-start (c .before .before) .pre .1 .begins .front)
 
   -- ---- until: where the left operand's end was found, where the right one was unfolded, and where both were
   abbrev until-start : until-lts.After-operand-end until-calls until-here unfold-until.Post → until-lts.Start until-calls until-here unfold-until.Post
@@ -177,8 +189,8 @@ pub +unfold-behind+unfold-both+unfold-ever+unfold-into+unfold-until-spec : {M : 
     (λ c. simp length-set (omega arith))
     (λ c κs. let a = c .before .before .before in
     (omega arith, record { begins = a .pre .1 .begins; room = simp (length-take, length-drop, length-set) (omega arith) }))
-    (λ c. let a = c .before .before .before .before .before .before .before .pre .1 .begins in
-    let w = c .before .before .before .unfold-into .ensures _ _ (a .front) in omega arith)
+    (λ c. let o = c .before .before .before in let a = o .before .before .before .before .pre .1 .begins in
+    let w = o .unfold-into .ensures _ _ (a .front) in omega arith)
     (λ c. c .before .before .out .given .1 ∙ simp length-set)
     (λ c. behind-done (omega arith) (c .before .before .before .unfold-into .ensures)))
     (λ t. both-lts.spec (both-calls t) (both-here t) unfold-both.Post
@@ -196,13 +208,14 @@ pub +unfold-behind+unfold-both+unfold-ever+unfold-into+unfold-until-spec : {M : 
     (λ c. let x = left-written t (c .before) in omega arith)
     (λ c κs. let d = c .before .before in let a = both-start t d in
     let x = left-written t d in
-    let l = tail-length (1 + d .before .before .before .unfold-behind .result .read) (a .args .s .now) in
-    (omega arith, room-second (a .pre .1) (d .before .before .before .unfold-behind .ensures) (d .before .before .before .unfold-behind .kept .0)))
+    let y = both-left t d .unfold-behind in
+    let l = tail-length (1 + y .result .read) (a .args .s .now) in
+    (omega arith, room-second (a .pre .1) (y .ensures) (y .kept .0)))
     (λ c. let x = both-written t (c .before .before .before) in omega arith)
     (λ c. let x = both-written t (c .before .before .before .before) in omega arith)
     (λ c. omega arith)
-    (λ c. let d = c .before .before .before .before .before .before .before in
-    both-done (both-start t d .pre .1) (d .before .before .before .unfold-behind .ensures) (c .before .before .before .before .unfold-into .ensures)))
+    (λ c. let o = c .before .before .before .before in let d = o .before .before .before in
+    both-done (both-start t d .pre .1) (both-left t d .unfold-behind .ensures) (o .unfold-into .ensures)))
     (λ t. ever-lts.spec (ever-calls t) (ever-here t) unfold-ever.Post
     (λ c. let x = ever (c .before .before .before .pre .1) in omega arith)
     (λ c. let x = ever (c .before .before .before .pre .1) in omega arith)
@@ -219,7 +232,7 @@ pub +unfold-behind+unfold-both+unfold-ever+unfold-into+unfold-until-spec : {M : 
     (λ c. let x = operand-written t (c .before .before .before .before .before) in omega arith)
     (λ c. omega arith)
     (λ c. let d = c .before .before .before .before .before in
-    ever-done (ever-start t d .pre .1) (d .before .before .before .unfold-behind .ensures) (c .before .before .put-next .ensures)))
+    ever-done (ever-start t d .pre .1) (ever-operand t d .unfold-behind .ensures) (c .before .before .put-next .ensures)))
     (λ t. into-lts.spec (into-calls t) (into-here t) unfold-into.Post
     (λ c. begins-some _ (c .before .before .before .pre .1 .begins))
     (λ c κs. tt)
@@ -231,25 +244,25 @@ pub +unfold-behind+unfold-both+unfold-ever+unfold-into+unfold-until-spec : {M : 
     (λ c. let x = under-not t (c .before) in omega arith)
     (λ c. let x = under-not t (c .before) in omega arith)
     (λ c κs. let x = under-not t (c .before .before) in
-    (omega arith, room-not (into-start t (c .before .before .before .before .before .before .before) .pre .1) x))
+    (omega arith, room-not (one-start t (c .before .before .before .before) .pre .1) x))
     (λ c. let x = under-not t (c .before .before .before .before .before .before) in
     let y = c .before .before .before .unfold-behind .ensures _ _ (x .front) in omega arith)
     (λ c. search needs)
-    (λ c κs. into-start t (c .before .before .before .before .before) .pre .1 .begins)
-    (λ c. let p = into-start t (c .before .before .before .before .before .before .before .before) .pre .1 in
+    (λ c κs. one-start t (c .before .before) .pre .1 .begins)
+    (λ c. let p = one-start t (c .before .before .before .before .before) .pre .1 in
     sym (length-take-le _ _ (ends-within (p .begins) (c .before .before .operand-end .ensures))))
-    (λ c κs. let p = into-start t (c .before .before .before .before .before .before .before .before) .pre .1 in
-    next-fits p (single-as (under-one t (c .before .before .before .before .before)) (c .before .before .before .enum-told3 .given .1) (p .begins .front)) (c .before .before .operand-end .ensures))
+    (λ c κs. let k = c .before .before .before .before .before in let p = one-start t k .pre .1 in
+    next-fits p (single-as (under-one t k) (c .before .before .before .enum-told3 .given .1) (p .begins .front)) (c .before .before .operand-end .ensures))
     (λ c. search needs)
     (λ c κs. tt)
-    (λ c κs. let d = c .before .before .before .before .before in let p = into-start t (d .before .before .before) .pre .1 in
+    (λ c κs. let d = c .before .before .before .before .before in let p = one-start t d .pre .1 in
     (omega arith, (p, record { by = _; kind = under-one t d .kind ∙ ap One (c .before .before .before .o .given .1); code = c .code .ensures })))
     (λ c. search needs)
     (λ c. search needs)
-    (λ c κs. let p = into-start t (c .before .before .before .before .before .before) .pre .1 in
-    (omega arith, (p, both-of (double-as (under-two t (c .before .before .before)) (c .before .enum-told4 .given .1) (p .begins .front)))))
+    (λ c κs. let k = c .before .before .before in let p = two-start t k .pre .1 in
+    (omega arith, (p, both-of (double-as (under-two t k) (c .before .enum-told4 .given .1) (p .begins .front)))))
     (λ c. search needs)
-    (λ c κs. (omega arith, (into-start t (c .before .before .before .before .before .before) .pre .1, under-two t (c .before .before .before) .kind ∙ ap Two (c .before .enum-told5 .given .1))))
+    (λ c κs. let k = c .before .before .before in (omega arith, (two-start t k .pre .1, under-two t k .kind ∙ ap Two (c .before .enum-told5 .given .1))))
     (λ c. search needs)
     (λ c. simp length-set)
     (λ c f rest y. leaf-done (parts-as _ f rest y (c .before .before .of .ensures) (c .enum-told .given .1)) (room-some (into-start t (c .before .before) .pre .1)))

@@ -5,18 +5,20 @@ use mathlib.Core.Logic.{⊎-elim, inl}
 use mathlib.Core.Option.{none}
 use Prim.Native.Nat.{_-_, _*_, _+_, _/_, _%_, _<_, _≤_}
 use lib.ListN.{length, drop, getD}
+use Rattle.limits.specs.Limits.{boardsMost}
 use Rattle.network.specs.Scores.{highest}
-use Rattle.scores.proofs.Highest.{boardIn, Before, before-more, before-key, key-first, key-higher, key-not, key-none, key-board}
+use Rattle.scores.specs.Scored.{countsBelow}
+use Rattle.scores.proofs.Highest.{lastBoard, keyBoard, Before, before-more, before-key, key-first, key-higher, key-not, key-none, key-board}
 use native.Mathlib.Omega.{arith}
 use borrow.Author.Needs.{needs}
 use Rattle.scores.proofs.Scores.choice.Statement.{statement}
 use Rattle.scores.proofs.Scores.choice.Tie as tie
 
 abbrev Inv-loop : tie.InvT-loop
-Inv-loop counts most₀ b₀ most b = (b ≤ 16) × (length counts ≡ 16) × Before b most × (highest (boardIn most) (most / 16) b (drop b counts) ≡ highest none 0 0 counts)
+Inv-loop counts most₀ b₀ most b = (b ≤ boardsMost) × (length counts ≡ boardsMost) × Before b most × (highest (keyBoard most) (most / boardsMost) b (drop b counts) ≡ highest none 0 0 counts)
 
 abbrev μ-loop : tie.MeasureT-loop
-μ-loop counts most₀ b₀ most b = 16 - b
+μ-loop counts most₀ b₀ most b = boardsMost - b
 
 pub choice-spec : {M : Type 1} → statement M
 choice-spec = tie.close (tie.spec Inv-loop μ-loop
@@ -35,8 +37,8 @@ choice-spec = tie.close (tie.spec Inv-loop μ-loop
     let counts = c .before .before .before .before .args .self .counts in
     let l = c .before .before .before .before .pre b in
     let i : b < length counts = omega arith in
-    let key = getD counts b 0 % 134217728 * 16 + (15 - b) in
-    let e : key ≡ getD counts b 0 * 16 + (15 - b) = omega arith in (
+    let key = getD counts b 0 % countsBelow * boardsMost + (lastBoard - b) in
+    let e : key ≡ getD counts b 0 * boardsMost + (lastBoard - b) = omega arith in (
       omega arith,
       k .1,
       ⊎-elim
@@ -49,10 +51,10 @@ choice-spec = tie.close (tie.spec Inv-loop μ-loop
           (c .if1 .came),
     ))
     (λ c. let d = c .before .before .loop in
-    let e : d .b ≡ 16 = omega arith in
+    let e : d .b ≡ boardsMost = omega arith in
     key-none (d .most) (c .before .before .before .before .args .self .counts) (omega arith) (c .if2 .taken) ∙ rw e at (d .inv .3))
     (λ c. search needs)
     (λ c. search needs)
     (λ c. let d = c .before .before .loop in
-    let e : d .b ≡ 16 = omega arith in
+    let e : d .b ≡ boardsMost = omega arith in
     key-board (d .most) (c .before .before .before .before .args .self .counts) (omega arith) (c .if2 .left) ∙ rw e at (d .inv .3)))

@@ -3,6 +3,7 @@ use mathlib.Core.Path.{_≡_, _∙_}
 use mathlib.Core.Logic.{⊎-elim}
 use Prim.Native.Nat.{_-_, _≤_}
 use lib.ListN.{length, length-set}
+use Rattle.limits.specs.Limits.{boardsMost}
 use Rattle.scores.proofs.Alone.{aloneTo, alone-none, alone-own, alone-other, alone-all}
 use native.Mathlib.Omega.{arith}
 use borrow.Author.Needs.{needs}
@@ -10,10 +11,10 @@ use Rattle.scores.proofs.Scores.one.Statement.{statement}
 use Rattle.scores.proofs.Scores.one.Tie as tie
 
 abbrev Inv-loop : tie.InvT-loop
-Inv-loop board own counts₀ b₀ counts b = (b ≤ 16) × (length counts ≡ 16) × (counts ≡ aloneTo own b)
+Inv-loop board own counts₀ b₀ counts b = (b ≤ boardsMost) × (length counts ≡ boardsMost) × (counts ≡ aloneTo own b)
 
 abbrev μ-loop : tie.MeasureT-loop
-μ-loop board own counts₀ b₀ counts b = 16 - b
+μ-loop board own counts₀ b₀ counts b = boardsMost - b
 
 pub one-spec : {M : Type 1} → statement M
 one-spec = tie.close (tie.spec Inv-loop μ-loop
@@ -31,5 +32,5 @@ one-spec = tie.close (tie.spec Inv-loop μ-loop
       rw (k .2) (⊎-elim (λ w. rw (w .1) (alone-own own b (w .0 .taken))) (λ w. rw (w .1) (alone-other own b (w .0 .left))) (c .if1 .came)),
     ))
     (λ c. let k = c .before .loop .inv in
-    let e : c .before .loop .b ≡ 16 = omega arith in
+    let e : c .before .loop .b ≡ boardsMost = omega arith in
     k .2 ∙ rw e (alone-all (c .before .before .args .board) (c .before .before .pre))))
