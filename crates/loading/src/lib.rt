@@ -8,6 +8,8 @@ ghost use Rattle.loading.specs.Load.{FirstAsk, Firsts, BeginAsk, Begun, 
 use answers::Outcome;
 use answers::Refusal;
 use cutting::STAYS;
+use limits::BOARDS_MOST;
+use limits::RULE_NODES_MOST;
 use rules::ReadAnswer;
 use storing::STATE_LENGTH;
 use unfolding::NODES_MOST;
@@ -81,9 +83,9 @@ pub fn load(file: &[u8], state: &mut [u8]) -> Outcome
     if state.len() != STATE_LENGTH {
         return Outcome::Refused(Refusal::Length);
     }
-    let mut masks = [0u64; 16];
-    let mut formula = [0u8; 1024];
-    let answer = rules::read(file, &mut masks, &mut formula);
+    let mut masks = [0u64; BOARDS_MOST];
+    let mut formula = [0u8; RULE_NODES_MOST];
+    let answer = reading::read(file, &mut masks, &mut formula);
     match answer {
         ReadAnswer::Refused(why) => Outcome::Refused(why),
         ReadAnswer::Rule(c) => {
