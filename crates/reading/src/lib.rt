@@ -13,16 +13,24 @@ use rules::RuleCounts;
 use rules::VERSION;
 use rules::checks;
 
-// The masks found and the formula behind b masks into the lent outputs, zero past the formula.
-fn hand_out(file: &[u8], b: usize, found: &[u64], masks: &mut [u64], formula: &mut [u8])
+// The formula into the lent output, zero past it.
+fn hand_out(text: &[u8], formula: &mut [u8])
+    requires { ⌜ length (now text) ≤ length (now formula) ⌝ }
+    ensures { λ _. ⌜ now (formula .exit) ≡ padded (length (now (formula .entry))) (now (text .entry)) ⌝ }
+{
+    buffers::copy(formula, text);
+    let n = text.len();
+    buffers::clear(&mut formula[n..]);
+}
+
+// The masks found, and the formula behind b masks, into the lent outputs.
+fn put_rule(file: &[u8], b: usize, found: &[u64], masks: &mut [u64], formula: &mut [u8])
     requires { ⌜ (length (now found) ≡ length (now masks)) × (fileFormulaAt b ≤ length (now file)) × (length (now file) ≤ fileFormulaAt b + length (now formula)) ⌝ }
     ensures { λ _. ⌜ (now (masks .exit) ≡ now (found .entry)) × (now (formula .exit) ≡ padded (length (now (formula .entry))) (drop (fileFormulaAt b) (now (file .entry)))) ⌝ }
 {
     let at = MASKS_AT + 8 * b;
-    let n = file.len() - at;
     buffers::copy_masks(masks, found);
-    buffers::copy(formula, &file[at..]);
-    buffers::clear(&mut formula[n..]);
+    hand_out(&file[at..], formula);
 }
 
 pub fn read(file: &[u8], masks: &mut [u64], formula: &mut [u8]) -> ReadAnswer
@@ -50,7 +58,7 @@ pub fn read(file: &[u8], masks: &mut [u64], formula: &mut [u8]) -> ReadAnswer
     if !checks::formula_ok(file, b, p) {
         return ReadAnswer::Refused(Refusal::Formula);
     }
-    hand_out(file, b, &found, masks, formula);
+    put_rule(file, b, &found, masks, formula);
     ReadAnswer::Rule(RuleCounts {
         boards: b as u64,
         propositions: p,

@@ -22,7 +22,7 @@ use borrow.Author.Needs.{needs}
 use Rattle.reading.proofs.read.Statement.{statement}
 use Rattle.reading.proofs.read.Tie as tie
 
--- ---- from behind a check back to the one before it, and from behind `hand_out` back to the last check
+-- ---- from behind a check back to the one before it, and from behind `put_rule` back to the last check
 abbrev entry : tie.Else1 → tie.Start
 entry c = c .before .before .before .before .before
 
@@ -44,10 +44,10 @@ tested c = c .before .before
 abbrev masked : tie.Else6 → tie.Else5
 masked c = c .before .before
 
-abbrev formed : tie.After-hand-out-arg2 → tie.Else6
+abbrev formed : tie.After-put-rule-arg2 → tie.Else6
 formed c = c .before .before .before
 
-abbrev handed : tie.After-slice-known4 → tie.After-hand-out
+abbrev handed : tie.After-slice-known4 → tie.After-put-rule
 handed c = c .before .before .before .before
 
 -- ---- the file, and the counts that the code has read
@@ -127,8 +127,8 @@ total c =
     let n = nodes-are (ranged c) in
     omega arith
 
-hand-out-requires : tie.Need-hand-out-requires
-hand-out-requires c κs =
+put-rule-requires : tie.Need-put-rule-requires
+put-rule-requires c κs =
     let m = tested (masked (formed c)) in
     let o = laid m in
     let n = ranged o in
@@ -151,8 +151,8 @@ rule-read c =
     read-rule _ _ _
     (record { lengths = lengths-hold l; version = version-holds v; counts = counts-hold n; offsets = offsets-hold o; masks = masks-hold m; formula = formula-holds t }) _ _ _
     e (propositions-are n) (nodes-are n)
-    (h .hand-out .ensures .0 ∙ found-padded f _ _ (tested m .masks-ok .ensures .1) ∙ ap (λ (i : ℕ). padded boardsMost (listed (maskInFile f) i)) e)
-    (h .hand-out .ensures .1 ∙ ap₂ (λ (n : ℕ) (u : List ℕ). padded n u) (lengths-told l .formula-room) (ap (λ (i : ℕ). drop (fileFormulaAt i) f) e))
+    (h .put-rule .ensures .0 ∙ found-padded f _ _ (tested m .masks-ok .ensures .1) ∙ ap (λ (i : ℕ). padded boardsMost (listed (maskInFile f) i)) e)
+    (h .put-rule .ensures .1 ∙ ap₂ (λ (n : ℕ) (u : List ℕ). padded n u) (lengths-told l .formula-room) (ap (λ (i : ℕ). drop (fileFormulaAt i) f) e))
 
 pub read-spec : {M : Type 1} → statement M
 read-spec =
@@ -181,7 +181,7 @@ read-spec =
     (λ c. let m = c .before .before in let o = laid (tested m) in let n = ranged o in let v = versioned (n .before) in
     read-formula _ _ _ (lengths-hold (long v)) (version-holds v) (counts-hold n) (offsets-hold o) (masks-hold m) (formula-is (c .before) ∙ not-true _ (c .if6 .taken)))
     (λ c. search needs)
-    hand-out-requires
+    put-rule-requires
     (λ c. search needs)
     (λ c. search needs)
     rule-read)
