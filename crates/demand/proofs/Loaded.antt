@@ -16,7 +16,8 @@ use Rattle.nodes.specs.Begins.{Front}
 use Rattle.rules.specs.RuleFile.{boardsInFile, propositionsInFile, nodesInFile, maskInFile, masksInFile, formulaInFile}
 use Rattle.rules.specs.Read as read
 use Rattle.lists.proofs.Listed.{listed-length}
-use Rattle.rules.proofs.Outcomes.{counted, ReadPassed}
+use Rattle.rules.proofs.Passed.{counts-passed}
+use Rattle.rules.proofs.ReadOutcomes.{ReadPassed}
 use Rattle.state.specs.Clauses.{slotsMost}
 use Rattle.state.specs.Bytes.{nodesOf}
 use Rattle.state.specs.Calls.{firstOf, loadedState}
@@ -47,7 +48,7 @@ load-passed file room e =
 
 loads-of : (file : List ℕ) → LoadPassed file → Loads (propositionsInFile file) (masksInFile file) (ruleIn file)
 loads-of file x =
-    let c = counted (boardsInFile file) (propositionsInFile file) (nodesInFile file) (x .file-passed .counts) in
+    let c = counts-passed (boardsInFile file) (propositionsInFile file) (nodesInFile file) (x .file-passed .counts) in
     let n = listed-length (maskInFile file) (boardsInFile file) in
     let a = c .boards-some in
     let b = c .boards-few in

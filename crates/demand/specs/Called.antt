@@ -11,8 +11,8 @@ use Rattle.answers.specs.declared.Outcome.the-variants.{Refused, Done}
 use Rattle.ltl.specs.Meaning.{Event}
 use Rattle.network.specs.Scores.{sampleOf}
 use Rattle.rules.specs.RuleFile.{masksInFile}
-use Rattle.rules.specs.declared.reading.ReadAnswer.the-variants as read-said
-use Rattle.rules.specs.declared.writing.WriteAnswer.the-variants as write-said
+use Rattle.rules.specs.declared.ReadAnswer.the-variants as read-said
+use Rattle.rules.specs.declared.WriteAnswer.the-variants as write-said
 use Rattle.rules.specs.Read.{Reads}
 use Rattle.rules.specs.Write.{Writes}
 use Rattle.central.specs.declared.CentralAnswer.the-variants as central-said

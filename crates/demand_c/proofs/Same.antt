@@ -15,8 +15,8 @@ use Rattle.loading.specs.Load.{LoadsRule}
 use Rattle.sampling.specs.Sample.{Samples}
 use Rattle.stepping.specs.Step.{StepsSlot}
 use Rattle.closing.specs.Close.{Closes}
-use Rattle.rules.specs.declared.reading.ReadAnswer.the-variants as read-said
-use Rattle.rules.specs.declared.writing.WriteAnswer.the-variants as write-said
+use Rattle.rules.specs.declared.ReadAnswer.the-variants as read-said
+use Rattle.rules.specs.declared.WriteAnswer.the-variants as write-said
 use Rattle.rules.specs.Read.{readSays, Reads}
 use Rattle.rules.specs.Write.{writeSays, Writes}
 use Rattle.central.specs.declared.CentralAnswer.the-variants as central-said

@@ -20,7 +20,7 @@ pub extern "C" fn vydrulka_read(
 ) -> u32
     ensures { λ r. ⌜ ReadExported (now (file .entry)) (now (masks .entry)) (now (formula .entry)) (now (masks .exit)) (now (formula .exit)) (now (boards .entry)) (now (propositions .entry)) (now (nodes .entry)) (now (boards .exit)) (now (propositions .exit)) (now (nodes .exit)) r ⌝ }
 {
-    let answer = rules::read(file, masks, formula);
+    let answer = reading::read(file, masks, formula);
     match answer {
         ReadAnswer::Refused(why) => why.number(),
         ReadAnswer::Rule(c) => {
@@ -42,7 +42,7 @@ pub extern "C" fn vydrulka_write(
 ) -> u32
     ensures { λ r. ⌜ WriteExported (now (masks .entry)) propositions (now (formula .entry)) (now (file .entry)) (now (file .exit)) (now (written .entry)) (now (written .exit)) r ⌝ }
 {
-    let answer = rules::write(masks, propositions, formula, file);
+    let answer = writing::write(masks, propositions, formula, file);
     match answer {
         WriteAnswer::Refused(why) => why.number(),
         WriteAnswer::Written(n) => {

@@ -26,10 +26,11 @@ use Rattle.limits.specs.Limits.{boardsMost, propositionsMost, holderCodes, rule
 use Rattle.masks.specs.Masks.{masksRule}
 use Rattle.ltl.specs.Decode.{decoded, isRule, someFormula}
 use Rattle.ltl.proofs.Decoding.{RuleText, rule-is, decoded-of, wider}
-use Rattle.rules.specs.declared.reading.Counts.{Counts}
-use Rattle.rules.specs.declared.reading.ReadAnswer.the-variants.{Rule}
+use Rattle.rules.specs.declared.RuleCounts.{RuleCounts}
+use Rattle.rules.specs.declared.ReadAnswer.the-variants.{Rule}
 use Rattle.lists.proofs.Listed.{listed-length}
-use Rattle.rules.proofs.Outcomes.{sized, counted, placed, ReadPassed, read-passed}
+use Rattle.rules.proofs.Passed.{lengths-passed, counts-passed, offsets-passed}
+use Rattle.rules.proofs.ReadOutcomes.{ReadPassed, read-passed}
 use Rattle.rules.specs.RuleFile.{version, fileFormulaAt, countsOk, versionInFile, boardsInFile, propositionsInFile, nodesInFile, maskInFile, masksInFile, formulaInFile}
 use Rattle.rules.specs.Read.{offsetsOk, readSays, Reads}
 use Rattle.rules.specs.Read as read
@@ -132,7 +133,7 @@ module _ (file : List ℕ) (passed : ReadPassed file boardsMost ruleNodesMost) w
   told = rule-is (propositionsInFile file) (formulaInFile file) (passed .formula)
 
   coded : (f : Formula) → Within (propositionsInFile file) 0 f → Coded f
-  coded f = let c = counted (boardsInFile file) (propositionsInFile file) (nodesInFile file) (passed .counts) in wider (propositionsInFile file) 0 propositionsMost holderCodes (c .propositions-few) (omega arith) f
+  coded f = let c = counts-passed (boardsInFile file) (propositionsInFile file) (nodesInFile file) (passed .counts) in wider (propositionsInFile file) 0 propositionsMost holderCodes (c .propositions-few) (omega arith) f
 
   same : ruleIn file ≡ told .formula
   same = ap someFormula (ap decoded (told .bytes) ∙ decoded-of (told .formula) (coded (told .formula) (told .within)))
@@ -143,9 +144,9 @@ module _ (file : List ℕ) (passed : ReadPassed file boardsMost ruleNodesMost) w
 
   pub read-ruled : RuleGiven (masksInFile file) (formulaInFile file) (ruleIn file)
   read-ruled =
-      let z = sized file boardsMost ruleNodesMost (passed .lengths) in
-      let c = counted (boardsInFile file) (propositionsInFile file) (nodesInFile file) (passed .counts) in
-      let o = placed file (passed .offsets) in
+      let z = lengths-passed file boardsMost ruleNodesMost (passed .lengths) in
+      let c = counts-passed (boardsInFile file) (propositionsInFile file) (nodesInFile file) (passed .counts) in
+      let o = offsets-passed file (passed .offsets) in
       let d = length-drop (fileFormulaAt (boardsInFile file)) file in
       let l = listed-length (maskInFile file) (boardsInFile file) in
       record {
@@ -159,14 +160,14 @@ module _ (file : List ℕ) (passed : ReadPassed file boardsMost ruleNodesMost) w
       }
 
 -- ---- a rule was read into outputs of their lengths: all that the call needs of it
-pub record RuleRead (file masks′ formula′ : List ℕ) (c : Counts) : Type 0 where
+pub record RuleRead (file masks′ formula′ : List ℕ) (c : RuleCounts) : Type 0 where
   pub passed : ReadPassed file boardsMost ruleNodesMost
   pub boards-few : c .boards ≤ boardsMost
   pub nodes-few : c .nodes ≤ ruleNodesMost
   pub masks-are : take (c .boards) masks′ ≡ masksInFile file
   pub formula-is : take (c .nodes) formula′ ≡ formulaInFile file
 
-module _ {file masks formula masks′ formula′ : List ℕ} {c : Counts} (m : length masks ≡ boardsMost) (f : length formula ≡ ruleNodesMost) (r : Reads file masks formula masks′ formula′ (Rule c)) where
+module _ {file masks formula masks′ formula′ : List ℕ} {c : RuleCounts} (m : length masks ≡ boardsMost) (f : length formula ≡ ruleNodesMost) (r : Reads file masks formula masks′ formula′ (Rule c)) where
   passed : ReadPassed file boardsMost ruleNodesMost
   passed = read-passed file boardsMost ruleNodesMost (ap (λ (s : Said). s .number) (sym (r .says ∙ ap₂ (readSays file) m f)))
 
@@ -196,9 +197,9 @@ module _ {file masks formula masks′ formula′ : List ℕ} {c : Counts} (m : l
 
   pub read-whole : RuleRead file masks′ formula′ c
   read-whole =
-      let n = counted (boardsInFile file) (propositionsInFile file) (nodesInFile file) (passed .counts) in
-      let z = sized file boardsMost ruleNodesMost (passed .lengths) in
-      let o = placed file (passed .offsets) in
+      let n = counts-passed (boardsInFile file) (propositionsInFile file) (nodesInFile file) (passed .counts) in
+      let z = lengths-passed file boardsMost ruleNodesMost (passed .lengths) in
+      let o = offsets-passed file (passed .offsets) in
       let d = length-drop (fileFormulaAt (boardsInFile file)) file in
       let b = boards-are in
       let k = nodes-are in
@@ -210,7 +211,7 @@ module _ {file masks formula masks′ formula′ : List ℕ} {c : Counts} (m : l
         formula-is = output-front (formulaInFile file) formula formula′ (c .nodes) ruleNodesMost (r .leaves-formula) (omega arith);
       }
 
-module _ {file masks′ formula′ : List ℕ} {c : Counts} {state : List ℕ} (long : length state ≡ stateLength) (r : RuleRead file masks′ formula′ c) where
+module _ {file masks′ formula′ : List ℕ} {c : RuleCounts} {state : List ℕ} (long : length state ≡ stateLength) (r : RuleRead file masks′ formula′ c) where
   pub read-begins : BeginAsk (take (c .boards) masks′) (take (c .nodes) formula′) state
   read-begins = record { rule = ruleIn file; ruled = rw (r .masks-are, r .formula-is) (read-ruled file (r .passed)); long = long }
 

@@ -84,7 +84,7 @@ pub fn load(file: &[u8], state: &mut [u8]) -> Outcome
     }
     let mut masks = [0u64; BOARDS_MOST];
     let mut formula = [0u8; RULE_NODES_MOST];
-    let answer = rules::read(file, &mut masks, &mut formula);
+    let answer = reading::read(file, &mut masks, &mut formula);
     match answer {
         ReadAnswer::Refused(why) => Outcome::Refused(why),
         ReadAnswer::Rule(c) => {

@@ -168,7 +168,7 @@ fn watch(piece: &mut [u8], masks: &mut [u64], held: &mut [u8], output: &mut [u8]
     };
     let end = all.end;
     let length = came::file_in(&piece[0..end]);
-    let answer = rules::read(&piece[0..length], masks, &mut held[0..RULE_ROOM]);
+    let answer = reading::read(&piece[0..length], masks, &mut held[0..RULE_ROOM]);
     match answer {
         ReadAnswer::Refused(refusal) => output::refused(refusal),
         ReadAnswer::Rule(counts) => {

@@ -33,7 +33,7 @@ pub fn read(
 fn answer_read(file: &[u8], masks: &mut [u64], formula: &mut [u8]) {
     lent::fill_masks(masks);
     lent::fill_bytes(formula);
-    let read = rules::read(file, masks, formula);
+    let read = reading::read(file, masks, formula);
     match read {
         ReadAnswer::Refused(refusal) => answer::refused(refusal),
         ReadAnswer::Rule(counts) => {
@@ -75,7 +75,7 @@ pub fn write(
 
 fn answer_write(masks: &[u64], propositions: u64, formula: &[u8], file: &mut [u8]) {
     lent::fill_bytes(file);
-    let written = rules::write(masks, propositions, formula, file);
+    let written = writing::write(masks, propositions, formula, file);
     match written {
         WriteAnswer::Refused(refusal) => answer::refused(refusal),
         WriteAnswer::Written(length) => {

@@ -7,10 +7,10 @@ use native.Mathlib.Omega.{arith}
 use lib.ListN.{getD}
 use Rattle.answers.specs.Said.{Said}
 use Rattle.answers.proofs.Answers.{number-injective, number-some}
-use Rattle.rules.specs.declared.reading.ReadAnswer.{ReadAnswer}
-use Rattle.rules.specs.declared.reading.ReadAnswer.the-variants as read-answer
-use Rattle.rules.specs.declared.writing.WriteAnswer.{WriteAnswer}
-use Rattle.rules.specs.declared.writing.WriteAnswer.the-variants as write-answer
+use Rattle.rules.specs.declared.ReadAnswer.{ReadAnswer}
+use Rattle.rules.specs.declared.ReadAnswer.the-variants as read-answer
+use Rattle.rules.specs.declared.WriteAnswer.{WriteAnswer}
+use Rattle.rules.specs.declared.WriteAnswer.the-variants as write-answer
 use Rattle.rules.specs.Read.{saidRead, Reads}
 use Rattle.rules.specs.Write.{saidWrite, Writes}
 

@@ -12,7 +12,7 @@ use lib.Seq.{take-suc}
 use Rattle.limits.specs.Limits.{boardsMost, propositionsMost, ruleNodesMost}
 use Rattle.lists.specs.Runs.{tail, tailAs, padded}
 use Rattle.lists.specs.Listed.{listed}
-use Rattle.lists.proofs.Listed.{listed-length, listed-same, listed-front}
+use Rattle.lists.proofs.Listed.{listed-length, listed-same}
 use Rattle.le.specs.Le.{le, leAt}
 use Rattle.le.proofs.Laws.{Bytes, le-length, leAt-le, le-leAt}
 use Rattle.lists.proofs.Stretches.{tail-put, tail-clear, drop-replicate, take-two}
@@ -41,7 +41,7 @@ maskBytes-more ms i h =
     ∙ maskBytes-append (take i ms) (getD ms i 0 ∷ [])
     ∙ ap (λ (u : List ℕ). maskBytes (take i ms) ++ u) (append-nil (le 8 (getD ms i 0)))
 
--- ---- the fileHeader
+-- ---- the header
 pub header-length : (b p n : ℕ) → length (fileHeader b p n) ≡ masksAt
 unfolding le
 header-length b p n = refl
@@ -52,9 +52,6 @@ module _ (file found : List ℕ) (b : ℕ) (e : found ≡ listed (maskInFile fil
   found-length h =
       let z : List ℕ = replicate boardsMost 0 in
       omega (arith, ap length e, length-append (listed (maskInFile file) b) (drop b z), listed-length (maskInFile file) b, length-drop b z, length-replicate {A = ℕ} boardsMost 0)
-
-  pub found-front : take b found ≡ listed (maskInFile file) b
-  found-front = ap (take b) e ∙ listed-front (maskInFile file) b _
 
   pub found-padded : found ≡ padded boardsMost (listed (maskInFile file) b)
   found-padded =
@@ -67,7 +64,7 @@ fileOf-length masks p formula =
     let h = fileHeader (length masks) p (length formula) in
     omega (arith, length-append h (maskBytes masks ++ formula), length-append (maskBytes masks) formula, maskBytes-length masks, header-length (length masks) p (length formula))
 
--- what `write` leaves: the fileHeader, then the masks, the formula and zeros, each put into what is behind the last
+-- what `write` leaves: the header, then the masks, the formula and zeros, each put into what is behind the last
 pub file-put : (masks : List ℕ) (p : ℕ) (formula file s x y z : List ℕ) → length file ≡ fileMost
     → s ≡ fileHeader (length masks) p (length formula) ++ drop masksAt file
     → x ≡ maskBytes masks ++ drop (8 * length masks) (tail masksAt s)

@@ -18,20 +18,22 @@ use Rattle.lists.proofs.Tests.{both-true}
 use Rattle.masks.specs.Masks.{masksRule}
 use Rattle.le.specs.Le.{leAt}
 use Rattle.le.proofs.Laws.{Bytes}
-use Rattle.rules.specs.declared.reading.Counts.{Counts}
-use Rattle.rules.specs.declared.reading.ReadAnswer.{ReadAnswer}
-use Rattle.rules.specs.declared.reading.ReadAnswer.the-variants.{Rule}
-use Rattle.rules.specs.declared.writing.WriteAnswer.{WriteAnswer}
-use Rattle.rules.specs.declared.writing.WriteAnswer.the-variants.{Written}
+use Rattle.rules.specs.declared.RuleCounts.{RuleCounts}
+use Rattle.rules.specs.declared.ReadAnswer.{ReadAnswer}
+use Rattle.rules.specs.declared.ReadAnswer.the-variants.{Rule}
+use Rattle.rules.specs.declared.WriteAnswer.{WriteAnswer}
+use Rattle.rules.specs.declared.WriteAnswer.the-variants.{Written}
 use Rattle.rules.specs.RuleFile.{version, masksAt, fileFormulaAt, fileMost, fileHeader, maskBytes, fileOf, countsOk, totalOf, boardsInFile, propositionsInFile, nodesInFile, maskInFile, masksInFile, formulaInFile}
 use Rattle.rules.specs.Read.{readLengthsOk, offsetsOk, saidRead, Reads}
 use Rattle.rules.specs.Write.{saidWrite, Writes}
 use Rattle.rules.proofs.Files.{Fields, maskBytes-length, header-length, fileOf-length, header-fields, masks-written, header-is, masks-rewritten}
-use Rattle.rules.proofs.Outcomes.{sized, Counted, counted, placed, ReadPassed, read-passed, read-rule, write-passed, write-written}
+use Rattle.rules.proofs.Passed.{lengths-passed, CountsPassed, counts-passed, offsets-passed}
+use Rattle.rules.proofs.ReadOutcomes.{ReadPassed, read-passed, read-rule}
+use Rattle.rules.proofs.WriteOutcomes.{write-passed, write-written}
 use Rattle.rules.proofs.Determined.{reads-determined, writes-determined}
 
 -- ---- the file of a rule is read as the rule
-module _ (masks : List ℕ) (p : ℕ) (formula : List ℕ) (words : (i : ℕ) → getD masks i 0 < 2 ^ 64) (counts : Counted (length masks) p (length formula)) where
+module _ (masks : List ℕ) (p : ℕ) (formula : List ℕ) (words : (i : ℕ) → getD masks i 0 < 2 ^ 64) (counts : CountsPassed (length masks) p (length formula)) where
   file-fields : Fields (fileOf masks p formula) (length masks) p (length formula)
   unfolding fileOf
   file-fields = header-fields (length masks) p (length formula) (maskBytes masks ++ formula) (counts .boards-few) (counts .propositions-few) (counts .nodes-few)
@@ -79,14 +81,14 @@ written-read masks p formula file file′ n words w m f m′ f′ answer em ef r
     let q = write-passed masks p formula (length file) (sym (ap (λ (s : Said). s .number) (w .says))) in
     let F = fileOf masks p formula in
     let d = writes-determined masks p formula file file′ (padded fileMost F) (Written n) _ w
-    (write-written masks p formula file (q .space) (q .counts) (q .rule) (q .text) (padded fileMost F) refl) in
+    (write-written masks p formula file q (totalOf (length masks) (length formula)) (padded fileMost F) refl refl) in
     let total : n ≡ totalOf (length masks) (length formula) = ap (λ (a : WriteAnswer). getD (saidWrite a .values) 0 0) (d .0) in
     let whole : take n file′ ≡ F = ap₂ take total (d .1) ∙ take-at F (replicate (fileMost - length F) 0) _ (fileOf-length masks p formula) in
-    let c = counted _ _ _ (q .counts) in
+    let c = counts-passed _ _ _ (q .counts) in
     let o = file-passed masks p formula words c (q .rule) (q .text) (q .counts) in
     let k = file-fields masks p formula words c in
-    let ok : readLengthsOk F (length m) (length f) ≡ true = ap₂ (readLengthsOk F) em ef ∙ o .lengths in
-    let built = read-rule F m f ok (o .version) (o .counts) (o .offsets) (o .masks) (o .formula)
+    let passed : ReadPassed F (length m) (length f) = rw (em, ef) o in
+    let built = read-rule F m f passed
     (record { boards = length masks; propositions = p; nodes = length formula }) (padded boardsMost masks) (padded ruleNodesMost formula)
     (sym (k .boards-is)) (sym (k .propositions-is)) (sym (k .nodes-is))
     (sym (ap (padded boardsMost) (file-masks masks p formula words c))) (sym (ap (padded ruleNodesMost) (file-formula masks p formula words c))) in
@@ -96,13 +98,13 @@ written-read masks p formula file file′ n words w m f m′ f′ answer em ef r
 module _ (file m f : List ℕ) (bytes : Bytes file) (o : ReadPassed file (length m) (length f)) where
   formula-length : length (formulaInFile file) ≡ nodesInFile file
   formula-length =
-      let s = sized file (length m) (length f) (o .lengths) in
-      let t = placed file (o .offsets) in
+      let s = lengths-passed file (length m) (length f) (o .lengths) in
+      let t = offsets-passed file (o .offsets) in
       omega (arith, length-drop (fileFormulaAt (boardsInFile file)) file)
 
   read-fields : Fields file (boardsInFile file) (propositionsInFile file) (nodesInFile file)
   read-fields =
-      let t = placed file (o .offsets) in
+      let t = offsets-passed file (o .offsets) in
       record {
         version-is = eqb-true _ _ (o .version);
         boards-is = refl;
@@ -116,8 +118,8 @@ module _ (file m f : List ℕ) (bytes : Bytes file) (o : ReadPassed file (length
   read-file : fileOf (masksInFile file) (propositionsInFile file) (formulaInFile file) ≡ file
   unfolding fileOf
   read-file =
-      let s = sized file (length m) (length f) (o .lengths) in
-      let t = placed file (o .offsets) in
+      let s = lengths-passed file (length m) (length f) (o .lengths) in
+      let t = offsets-passed file (o .offsets) in
       let b = boardsInFile file in
       let h = ap₂ (λ (i j : ℕ). fileHeader i (propositionsInFile file) j) (listed-length (maskInFile file) b) formula-length
       ∙ header-is file bytes (s .headed) b (propositionsInFile file) (nodesInFile file) read-fields in
@@ -127,11 +129,11 @@ module _ (file m f : List ℕ) (bytes : Bytes file) (o : ReadPassed file (length
 
   read-total : totalOf (length (masksInFile file)) (length (formulaInFile file)) ≡ length file
   read-total =
-      let s = sized file (length m) (length f) (o .lengths) in
-      let t = placed file (o .offsets) in
+      let s = lengths-passed file (length m) (length f) (o .lengths) in
+      let t = offsets-passed file (o .offsets) in
       omega (arith, listed-length (maskInFile file) (boardsInFile file), formula-length)
 
-pub read-written : (file m f m′ f′ : List ℕ) (c : Counts) → Bytes file → Reads file m f m′ f′ (Rule c)
+pub read-written : (file m f m′ f′ : List ℕ) (c : RuleCounts) → Bytes file → Reads file m f m′ f′ (Rule c)
     → (out out′ : List ℕ) (answer : WriteAnswer) → length out ≡ fileMost
     → Writes (take (c .boards) m′) (c .propositions) (take (c .nodes) f′) out out′ answer
     → (answer ≡ Written (length file)) × (take (length file) out′ ≡ file)
@@ -143,8 +145,7 @@ read-written file m f m′ f′ c bytes r out out′ answer room w =
     let fl = formula-length file m f bytes o in
     let ml = listed-length (maskInFile file) (boardsInFile file) in
     let d = reads-determined file m f m′ f′ (padded boardsMost ms) (padded ruleNodesMost fs) (Rule c) _ r
-    (read-rule file m f (o .lengths) (o .version) (o .counts) (o .offsets) (o .masks) (o .formula)
-    (record { boards = boardsInFile file; propositions = p; nodes = nodesInFile file }) (padded boardsMost ms) (padded ruleNodesMost fs) refl refl refl refl refl) in
+    (read-rule file m f o (record { boards = boardsInFile file; propositions = p; nodes = nodesInFile file }) (padded boardsMost ms) (padded ruleNodesMost fs) refl refl refl refl refl) in
     let v = ap (λ (a : ReadAnswer). saidRead a .values) (d .0) in
     let eb : c .boards ≡ boardsInFile file = ap (λ (l : List ℕ). getD l 0 0) v in
     let ep : c .propositions ≡ p = ap (λ (l : List ℕ). getD l 1 0) v in
@@ -158,7 +159,7 @@ read-written file m f m′ f′ c bytes r out out′ answer room w =
     let F = fileOf ms p fs in
     let whole = read-file file m f bytes o in
     let e = writes-determined ms p fs out out′ (padded fileMost F) answer _ w₃
-    (write-written ms p fs out (eq-eqb _ _ room) counts (o .masks) (o .formula) (padded fileMost F) refl) in (
+    (write-written ms p fs out (record { space = eq-eqb _ _ room; counts = counts; rule = o .masks; text = o .formula }) (totalOf (length ms) (length fs)) (padded fileMost F) refl refl) in (
       e .0 ∙ ap Written (read-total file m f bytes o),
       ap (take (length file)) (e .1 ∙ ap (padded fileMost) whole) ∙ take-at file (replicate (fileMost - length file) 0) (length file) refl,
     )

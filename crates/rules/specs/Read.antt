@@ -11,8 +11,8 @@ use Rattle.lists.specs.Runs.{padded}
 use Rattle.answers.specs.Said.{Said, accepted, refused, left, numberOf, check, inOrder}
 use Rattle.ltl.specs.Decode.{isRule}
 use Rattle.masks.specs.Masks.{masksRule}
-use Rattle.rules.specs.declared.reading.ReadAnswer.{ReadAnswer}
-use Rattle.rules.specs.declared.reading.ReadAnswer.the-variants.{Refused, Rule}
+use Rattle.rules.specs.declared.ReadAnswer.{ReadAnswer}
+use Rattle.rules.specs.declared.ReadAnswer.the-variants.{Refused, Rule}
 use Rattle.rules.specs.RuleFile.{version, masksAt, fileFormulaAt, totalOf, countsOk, versionInFile, boardsInFile, propositionsInFile, nodesInFile, masksOffsetInFile, formulaOffsetInFile, totalInFile, masksInFile, formulaInFile}
 
 -- 1: a lent output is of another length than sixteen masks and 1,024 bytes; the file is under 16 bytes or differs from its total

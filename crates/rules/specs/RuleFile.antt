@@ -13,7 +13,7 @@ use Rattle.le.specs.Le.{le, leAt}
 abbrev pub version : ℕ
 version = 1
 
--- the fileHeader's length, where the masks begin
+-- the header's length, where the masks begin
 abbrev pub masksAt : ℕ
 masksAt = 16
 

@@ -8,8 +8,8 @@ use Rattle.lists.specs.Runs.{padded}
 use Rattle.answers.specs.Said.{Said, accepted, refused, left, numberOf, check, inOrder}
 use Rattle.ltl.specs.Decode.{isRule}
 use Rattle.masks.specs.Masks.{masksRule}
-use Rattle.rules.specs.declared.writing.WriteAnswer.{WriteAnswer}
-use Rattle.rules.specs.declared.writing.WriteAnswer.the-variants.{Refused, Written}
+use Rattle.rules.specs.declared.WriteAnswer.{WriteAnswer}
+use Rattle.rules.specs.declared.WriteAnswer.the-variants.{Refused, Written}
 use Rattle.rules.specs.RuleFile.{fileMost, totalOf, countsOk, fileOf}
 
 unfoldable pub writeSays : List ℕ → ℕ → List ℕ → ℕ → Said
