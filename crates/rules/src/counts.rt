@@ -13,6 +13,9 @@ pub const RULE_NODES_MOST: usize = 1024;
 // The header's length: where the masks begin.
 pub const MASKS_AT: usize = 16;
 
+// Where the file's own length stands in the header.
+pub const TOTAL_AT: usize = 12;
+
 // The length of the longest file.
 pub const FILE_MOST: usize = 1168;
 

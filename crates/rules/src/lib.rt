@@ -3,6 +3,9 @@ mod counts;
 mod reading;
 mod writing;
 
+pub use counts::FILE_MOST;
+pub use counts::MASKS_AT;
+pub use counts::TOTAL_AT;
 pub use reading::Counts;
 pub use reading::ReadAnswer;
 pub use reading::read;
