@@ -10,28 +10,28 @@ use borrow.Author.Tests.{lt-ltb, le-ltb, eq-eqb, ne-eqb, ltb-false}
 use Rattle.lists.specs.Tests.{pick}
 use Rattle.lists.proofs.Tests.{pick-elim}
 use Rattle.le.specs.Le.{leAt}
-use Rattle.rules.specs.RuleFile.{totalInFile}
+use Rattle.rules.specs.RuleFile.{masksAt, fileMost, totalInFile}
 use Rattle.programs.specs.declared.came.Next.{Next}
 use Rattle.programs.specs.declared.came.Next.the-variants.{End, Leftover, Event}
 use Rattle.programs.specs.Came.{toldLength, fileLength, nextIn}
 
 -- ---- the length that the header tells
-pub told-short : (s : List ℕ) → length s < 16 → 0 ≡ toldLength s
+pub told-short : (s : List ℕ) → length s < masksAt → 0 ≡ toldLength s
 unfolding toldLength pick
-told-short s h = rw (lt-ltb (length s) 16 h)
+told-short s h = rw (lt-ltb (length s) masksAt h)
 
-module _ (s : List ℕ) (t : ℕ) (whole : 16 ≤ length s) (is : t ≡ totalInFile s) where
-  pub told-under : t < 16 → 0 ≡ toldLength s
+module _ (s : List ℕ) (t : ℕ) (whole : masksAt ≤ length s) (is : t ≡ totalInFile s) where
+  pub told-under : t < masksAt → 0 ≡ toldLength s
   unfolding toldLength pick
-  told-under h = rw (le-ltb (length s) 16 whole, sym is, lt-ltb t 16 h)
+  told-under h = rw (le-ltb (length s) masksAt whole, sym is, lt-ltb t masksAt h)
 
-  pub told-over : 16 ≤ t → 1168 < t → 0 ≡ toldLength s
+  pub told-over : masksAt ≤ t → fileMost < t → 0 ≡ toldLength s
   unfolding toldLength pick
-  told-over h k = rw (le-ltb (length s) 16 whole, sym is, le-ltb t 16 h, lt-ltb 1168 t k)
+  told-over h k = rw (le-ltb (length s) masksAt whole, sym is, le-ltb t masksAt h, lt-ltb fileMost t k)
 
-  pub told-is : 16 ≤ t → t ≤ 1168 → t ≡ toldLength s
+  pub told-is : masksAt ≤ t → t ≤ fileMost → t ≡ toldLength s
   unfolding toldLength pick
-  told-is h k = rw (le-ltb (length s) 16 whole, sym is, le-ltb t 16 h, le-ltb 1168 t k)
+  told-is h k = rw (le-ltb (length s) masksAt whole, sym is, le-ltb t masksAt h, le-ltb fileMost t k)
 
 -- ---- the file in front
 pub file-cut : (s : List ℕ) (t : ℕ) → t ≡ toldLength s → length s < t → 0 ≡ fileLength s

@@ -1,5 +1,5 @@
 -- Where bytes in hand stand in the piece, and that none is lost: what an answer of the input says where it holds bytes (`read-within`,
--- `came-brings`, `came-behind`, `taken-takes`), the front of a piece that more is read behind (`front-kept`, `front-less`, `front-leads`) or that is moved
+-- `came-brings`, `came-behind`, `taken-takes`, `file-found`, `next-takes`), the front of a piece that more is read behind (`front-kept`, `front-less`, `front-leads`) or that is moved
 -- there (`slid-front`), and the bytes behind an event (`event-room`, `event-takes`). Assumes nothing.
 use mathlib.Core.Path.{_≡_, refl, sym, ap, subst, _∙_}
 use mathlib.Core.List.{List, [], _++_}
@@ -11,20 +11,23 @@ use Rattle.lists.specs.Runs.{tailAs}
 use Rattle.lists.proofs.Stretches.{take-two}
 use Rattle.programs.specs.declared.came.Next.the-variants.{Event}
 use Rattle.programs.specs.declared.input.Hand.{Hand}
-use Rattle.programs.specs.declared.input.Read.{Read}
-use Rattle.programs.specs.declared.input.Read.the-variants.{More}
+use Rattle.programs.specs.declared.input.Brought.{Brought}
+use Rattle.programs.specs.declared.input.Brought.the-variants.{More}
 use Rattle.programs.specs.declared.input.Came.{Came}
 use Rattle.programs.specs.declared.input.Came.the-variants.{Bytes, Failed}
 use Rattle.programs.specs.declared.input.Taking.{Taking}
 use Rattle.programs.specs.declared.input.Taken.{Taken}
 use Rattle.programs.specs.declared.input.Taken.the-variants as taken
+use Rattle.programs.specs.declared.turns.NextEvent.{NextEvent}
+use Rattle.programs.specs.declared.turns.NextEvent.the-variants as next
 use Rattle.programs.specs.Came.{nextIn}
 use Rattle.programs.specs.Hand.{ReadsWithin, Brings, CameBehind, Takes, TakenBehind}
+use Rattle.programs.specs.Turns.{FileFound, FileInFront, EventBehind}
 use Rattle.programs.proofs.Coming.{event-whole}
 
 -- ---- answers that hold bytes
-pub read-within : (end piece more : ℕ) (r : Read) → r ≡ More more → ReadsWithin end piece r → (0 < more) × (end + more ≤ piece)
-read-within end piece more r is w = subst (λ (x : Read). ReadsWithin end piece x) is w
+pub read-within : (end piece more : ℕ) (r : Brought) → r ≡ More more → ReadsWithin end piece r → (0 < more) × (end + more ≤ piece)
+read-within end piece more r is w = subst (λ (x : Brought). ReadsWithin end piece x) is w
 
 pub came-brings : (before piece : List ℕ) (hand : Hand) (x : Came) → x ≡ Bytes hand → CameBehind before piece x → Brings before piece hand
 came-brings before piece hand x is w = subst (λ (y : Came). CameBehind before piece y) is w
@@ -36,6 +39,12 @@ came-behind before piece Failed w = tt
 
 pub taken-takes : (before piece : List ℕ) (taking : Taking) (x : Taken) → x ≡ taken.Event taking → TakenBehind before piece x → Takes before piece taking
 taken-takes before piece taking x is w = subst (λ (y : Taken). TakenBehind before piece y) is w
+
+pub file-found : (piece : List ℕ) (hand : Hand) (x : Came) → x ≡ Bytes hand → FileInFront piece x → FileFound piece hand
+file-found piece hand x is w = subst (λ (y : Came). FileInFront piece y) is w
+
+pub next-takes : (before piece : List ℕ) (taking : Taking) (x : NextEvent) → x ≡ next.Event taking → EventBehind before piece x → Takes before piece taking
+next-takes before piece taking x is w = subst (λ (y : NextEvent). EventBehind before piece y) is w
 
 -- ---- the front of a piece
 -- what is read behind it leaves it as it was

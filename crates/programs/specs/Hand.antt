@@ -7,8 +7,8 @@ use Rattle.programs.specs.declared.came.Next.{Next}
 use Rattle.programs.specs.declared.came.Next.the-variants as next
 use Rattle.programs.specs.declared.input.Hand.{Hand}
 use Rattle.programs.specs.declared.input.Taking.{Taking}
-use Rattle.programs.specs.declared.input.Read.{Read}
-use Rattle.programs.specs.declared.input.Read.the-variants as read
+use Rattle.programs.specs.declared.input.Brought.{Brought}
+use Rattle.programs.specs.declared.input.Brought.the-variants as brought
 use Rattle.programs.specs.declared.input.Came.{Came}
 use Rattle.programs.specs.declared.input.Came.the-variants as came
 use Rattle.programs.specs.declared.input.Taken.{Taken}
@@ -28,10 +28,10 @@ abbrev pub Leads : List ℕ → List ℕ → Type 0
 Leads before s = take (length before) s ≡ before
 
 -- a read from `end` on has brought some bytes, and none past the piece
-abbrev pub ReadsWithin : ℕ → ℕ → Read → Type 0
-ReadsWithin end piece (read.More more) = (0 < more) × (end + more ≤ piece)
-ReadsWithin end piece read.End = Unit {0}
-ReadsWithin end piece read.Failed = Unit {0}
+abbrev pub ReadsWithin : ℕ → ℕ → Brought → Type 0
+ReadsWithin end piece (brought.More more) = (0 < more) × (end + more ≤ piece)
+ReadsWithin end piece brought.End = Unit {0}
+ReadsWithin end piece brought.Failed = Unit {0}
 
 -- what came stands within the piece, and begins with what was in hand before
 pub record Brings (before piece : List ℕ) (hand : Hand) : Type 0 where

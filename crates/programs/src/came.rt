@@ -2,15 +2,13 @@
 ghost use mathlib.Core.Path.{_≡_};
 ghost use Prim.Native.Nat.{_≤_};
 ghost use lib.ListN.{length};
+ghost use Rattle.rules.specs.RuleFile.{fileMost};
 ghost use Rattle.programs.specs.Came.{toldLength, fileLength, nextIn};
+use rules::FILE_MOST;
+use rules::MASKS_AT;
+use rules::TOTAL_AT;
 
-// The length of a rule file's header, in which the file's own length stands at TOTAL_AT.
-pub const HEADER: usize = 16;
-
-const TOTAL_AT: usize = 12;
-
-pub const FILE_MOST: usize = 1168;
-
+// The length of an event.
 pub const EVENT: usize = 8;
 
 // What stands in front of the bytes in hand: nothing, too few bytes for an event, or an event.
@@ -22,13 +20,13 @@ pub enum Next {
 
 // The file's length by its header: 0 where the total cannot be, or the header is not whole.
 pub fn told(bytes: &[u8]) -> usize
-    ensures { λ r. ⌜ (r ≡ toldLength (now (bytes .entry))) × (r ≤ 1168) ⌝ }
+    ensures { λ r. ⌜ (r ≡ toldLength (now (bytes .entry))) × (r ≤ fileMost) ⌝ }
 {
-    if bytes.len() < HEADER {
+    if bytes.len() < MASKS_AT {
         return 0;
     }
     let total = le::u32_at(bytes, TOTAL_AT) as usize;
-    if total < HEADER {
+    if total < MASKS_AT {
         return 0;
     }
     if FILE_MOST < total {

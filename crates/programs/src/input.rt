@@ -8,8 +8,8 @@ ghost use lib.ListN.{length, take};
 ghost use Rattle.programs.specs.Hand.{InHand, bytesOf, ReadsWithin, CameBehind, TakenBehind};
 use crate::came;
 use crate::came::EVENT;
-use crate::came::HEADER;
 use crate::came::Next;
+use rules::MASKS_AT;
 
 // The length of a piece.
 pub const PIECE: usize = 4096;
@@ -29,7 +29,7 @@ impl Hand {
 }
 
 // What one read brought.
-pub enum Read {
+pub enum Brought {
     More(usize),
     End,
     Failed,
@@ -56,19 +56,19 @@ pub enum Taken {
 }
 
 // One read into the piece, from `end` on; what stands before stays.
-fn read_at(piece: &mut [u8], end: usize) -> Read
+fn read_at(piece: &mut [u8], end: usize) -> Brought
     requires { ⌜ end ≤ length (now piece) ⌝ }
     ensures { λ r. ⌜ ReadsWithin end (length (now (piece .entry))) r × (take end (now (piece .exit)) ≡ take end (now (piece .entry))) ⌝ }
 {
     let got = libc::read(libc::STDIN_FILENO, &mut piece[end..]);
     if got < 0 {
-        return Read::Failed;
+        return Brought::Failed;
     }
     let more = io::count(got, &piece[end..]);
     if more == 0 {
-        return Read::End;
+        return Brought::End;
     }
-    Read::More(more)
+    Brought::More(more)
 }
 
 // Reads behind the first `had` bytes until so many are in hand as are wanted, or the input has ended.
@@ -78,15 +78,15 @@ fn fill(piece: &mut [u8], had: usize, wanted: usize) -> Came
 {
     let mut end = had;
     while end < wanted {
-        let read = read_at(piece, end);
-        match read {
-            Read::Failed => {
+        let brought = read_at(piece, end);
+        match brought {
+            Brought::Failed => {
                 return Came::Failed;
             }
-            Read::End => {
+            Brought::End => {
                 return Came::Bytes(Hand { from: 0, end: end });
             }
-            Read::More(more) => {
+            Brought::More(more) => {
                 end += more;
             }
         }
@@ -99,7 +99,7 @@ pub fn await_file(piece: &mut [u8]) -> Came
     requires { do ⌜ (← ⟦piece.len()⟧) ≡ (← ⟦PIECE⟧) ⌝ }
     ensures { λ r. ⌜ CameBehind [] (now (piece .exit)) r ⌝ }
 {
-    let header = fill(piece, 0, HEADER);
+    let header = fill(piece, 0, MASKS_AT);
     let Came::Bytes(hand) = header else {
         return Came::Failed;
     };

@@ -1,8 +1,10 @@
-// What the programs share: how bytes are taken from standard input, what the bytes that came are, and the lines that are written.
+// What the programs share: how bytes are taken from standard input, what the bytes that came are, the turns that a program makes of them,
+// and the lines that are written.
 pub mod came;
 pub mod input;
 pub mod lines;
 pub mod output;
+pub mod turns;
 
 ghost use mathlib.Core.Path.{_≡_};
 ghost use Rattle.programs.specs.Going.{goesOn};

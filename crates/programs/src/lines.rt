@@ -10,7 +10,7 @@ use answers::Verdict;
 pub const LINE: usize = 71;
 
 // Puts text behind the first `at` bytes of the line: where it ends.
-fn text(line: &mut [u8], at: usize, text: &[u8]) -> usize
+pub fn text(line: &mut [u8], at: usize, text: &[u8]) -> usize
     requires { ⌜ at + length (now text) ≤ length (now line) ⌝ }
     ensures { λ r. ⌜ Adds (now (text .entry)) (now (line .entry)) at (now (line .exit)) r ⌝ }
 {
@@ -19,7 +19,7 @@ fn text(line: &mut [u8], at: usize, text: &[u8]) -> usize
 }
 
 // A number in decimal digits.
-fn number(line: &mut [u8], at: usize, n: u64) -> usize
+pub fn number(line: &mut [u8], at: usize, n: u64) -> usize
     requires { ⌜ at + 20 ≤ length (now line) ⌝ }
     ensures { λ r. ⌜ Adds (decimalOf n) (now (line .entry)) at (now (line .exit)) r × (r ≤ at + 20) ⌝ }
 {
@@ -29,7 +29,7 @@ fn number(line: &mut [u8], at: usize, n: u64) -> usize
 }
 
 // A further field.
-fn field(line: &mut [u8], at: usize, n: u64) -> usize
+pub fn field(line: &mut [u8], at: usize, n: u64) -> usize
     requires { ⌜ at + 21 ≤ length (now line) ⌝ }
     ensures { λ r. ⌜ Adds (fieldOf n) (now (line .entry)) at (now (line .exit)) r × (r ≤ at + 21) ⌝ }
 {

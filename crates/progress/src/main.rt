@@ -10,30 +10,20 @@ ghost use Rattle.progress.specs.Before.{verdictBefore, ProgressedFrom};
 use answers::Refusal;
 use answers::Verdict;
 use central::CentralAnswer;
-use programs::came;
-use programs::input;
+use limits::BOARDS_MOST;
+use limits::CENTRAL_NODES_MOST;
+use limits::RULE_NODES_MOST;
 use programs::input::Came;
 use programs::input::Hand;
 use programs::input::PIECE;
-use programs::input::Taken;
 use programs::output;
+use programs::turns;
+use programs::turns::NextEvent;
+use programs::turns::Turned;
 use rules::ReadAnswer;
-
-const BOARDS_MOST: usize = 16;
-
-// What `read` wants for a formula, and what `central` does.
-const RULE_ROOM: usize = 1024;
-
-const ROOM: usize = 4096;
 
 // Below this number two more ticks can be counted.
 const TICKS_MOST: u64 = 18446744073709551614;
-
-// How many nodes wait for the next event, none where the program ends, and what is in hand behind the event that was taken.
-struct Turned {
-    waiting: usize,
-    hand: Hand,
-}
 
 // The verdict before any event: only a rule that is a constant has one.
 fn verdict_before(first: u8, nodes: usize) -> Verdict
@@ -51,13 +41,8 @@ fn verdict_before(first: u8, nodes: usize) -> Verdict
 
 // Writes a tick's line. Answers how many nodes wait for the next event: none after a verdict, or where the line was not written.
 fn report(ticks: u64, verdict: Verdict, nodes: usize) -> usize {
-    if !output::progress(ticks, verdict, nodes as u64) {
-        return 0;
-    }
-    if !programs::goes_on(verdict) {
-        return 0;
-    }
-    nodes
+    let written = output::progress(ticks, verdict, nodes as u64);
+    turns::waiting(written, verdict, nodes)
 }
 
 // Progresses the formula that the first `nodes` bytes of `held` are. There are always so many, since `read` or `central` put
@@ -86,16 +71,6 @@ fn tick(held: &[u8], nodes: usize, event: u64, output: &mut [u8], ticks: u64) ->
     }
 }
 
-// Nothing waits, and nothing more is taken.
-fn over() -> Turned
-    ensures { λ r. ⌜ (r .waiting ≡ 0) × (r .hand .from ≡ 0) × (r .hand .end ≡ 0) ⌝ }
-{
-    Turned {
-        waiting: 0,
-        hand: Hand::empty(),
-    }
-}
-
 // Takes an event and ticks.
 fn turn(
     piece: &mut [u8],
@@ -108,25 +83,14 @@ fn turn(
     requires { ⌜ InHand (length (now piece)) hand × (8 ≤ length (now piece)) ⌝ }
     ensures { λ r. ⌜ InHand (length (now (piece .entry))) (r .hand) ⌝ }
 {
-    let taken = input::take_event(piece, hand);
-    match taken {
-        Taken::End => over(),
-        Taken::Leftover => {
-            output::refused(Refusal::Length);
-            over()
-        }
-        Taken::Failed => {
-            output::failed_read();
-            over()
-        }
-        Taken::Event(taking) => {
-            let rest = taking.rest;
-            let waiting = tick(held, nodes, taking.event, output, ticks);
-            Turned {
-                waiting: waiting,
-                hand: rest,
-            }
-        }
+    let next = turns::event(piece, hand);
+    let NextEvent::Event(taking) = next else {
+        return Turned::over();
+    };
+    let rest = taking.rest;
+    Turned {
+        waiting: tick(held, nodes, taking.event, output, ticks),
+        hand: rest,
     }
 }
 
@@ -159,31 +123,20 @@ fn run(piece: &mut [u8], behind: Hand, held: &mut [u8], nodes: usize, output: &m
 // which the first tick takes it.
 fn watch(piece: &mut [u8], masks: &mut [u64], held: &mut [u8], output: &mut [u8])
     requires { do ⌜ (← ⟦piece.len()⟧) ≡ (← ⟦PIECE⟧) ⌝ }
-    requires { do ⌜ (← ⟦held.len()⟧) ≡ (← ⟦ROOM⟧) ⌝ }
+    requires { do ⌜ (← ⟦held.len()⟧) ≡ (← ⟦CENTRAL_NODES_MOST⟧) ⌝ }
 {
-    let awaited = input::await_file(piece);
-    let Came::Bytes(all) = awaited else {
-        output::failed_read();
+    let came = turns::file(piece);
+    let Came::Bytes(behind) = came else {
         return;
     };
-    let end = all.end;
-    let length = came::file_in(&piece[0..end]);
-    let answer = reading::read(&piece[0..length], masks, &mut held[0..RULE_ROOM]);
+    let length = behind.from;
+    let answer = reading::read(&piece[0..length], masks, &mut held[0..RULE_NODES_MOST]);
     match answer {
         ReadAnswer::Refused(refusal) => output::refused(refusal),
         ReadAnswer::Rule(counts) => {
             let nodes = counts.nodes as usize;
             let waiting = report(0, verdict_before(held[0], nodes), nodes);
-            run(
-                piece,
-                Hand {
-                    from: length,
-                    end: end,
-                },
-                held,
-                waiting,
-                output,
-            );
+            run(piece, behind, held, waiting, output);
         }
     }
 }
@@ -191,7 +144,7 @@ fn watch(piece: &mut [u8], masks: &mut [u64], held: &mut [u8], output: &mut [u8]
 fn main() {
     let mut piece = [0u8; PIECE];
     let mut masks = [0u64; BOARDS_MOST];
-    let mut held = [0u8; ROOM];
-    let mut output = [0u8; ROOM];
+    let mut held = [0u8; CENTRAL_NODES_MOST];
+    let mut output = [0u8; CENTRAL_NODES_MOST];
     watch(&mut piece, &mut masks, &mut held, &mut output);
 }

@@ -1,54 +1,117 @@
 // Runs the library on the requests of standard input and writes an answer line for each, as tests/PROTOCOL.md says.
 // The stored stream `stdin` and the second program's answers to it, `stdout`, are made by tests/store.
-mod answer;
-mod lent;
-mod lines;
-mod payload;
-mod rule;
-mod watch;
+mod calls;
 
-// Answers the request with this header, whose payload is still to be read: whether it was a good one.
-fn answer_to(
-    header: &[u8; 24],
+use requests::BYTES_MOST;
+use requests::MASKS_MOST;
+use requests::header;
+use requests::header::HEADER_LENGTH;
+use requests::header::NONE;
+use requests::header::Request;
+use requests::lent;
+use requests::line;
+use requests::payload;
+
+// What became of a request: whether it was good, and whether what it was lent afresh is to be kept.
+struct Made {
+    good: bool,
+    keep: bool,
+}
+
+// Answers a request over the parts that are given and lent.
+fn answer_over(
+    call: u32,
+    value: u64,
+    given: &mut [u8],
+    masks: &mut [u64],
+    fresh: &mut [u8],
+    kept: &mut [u8],
+) -> Made {
+    lent::fill_masks(masks);
+    lent::fill_bytes(fresh);
+    if !payload::take(call, masks, given) {
+        return Made {
+            good: false,
+            keep: false,
+        };
+    }
+    let answered = calls::make(call, value, given, masks, fresh, kept);
+    line::write(call, answered, masks, kept, fresh);
+    Made {
+        good: true,
+        keep: answered.number == 0 && header::keeps(call),
+    }
+}
+
+// Copies the bytes that were lent afresh over the front of the kept state. There are always so many in both; the test spares a
+// proof of that.
+fn keep(kept: &mut [u8], fresh: &[u8], length: usize) {
+    if kept.len() < length {
+        return;
+    }
+    if fresh.len() < length {
+        return;
+    }
+    buffers::copy(kept, &fresh[0..length]);
+}
+
+// Answers a request: whether it was a good one, of a call, within the buffers, which are the limits, and not cut short.
+fn answer(
+    request: Request,
     given: &mut [u8],
     masks: &mut [u64],
     fresh: &mut [u8],
     kept: &mut [u8],
 ) -> bool {
-    let a = le::u32_at(header, 4) as usize;
-    let b = le::u32_at(header, 8) as usize;
-    let c = le::u32_at(header, 12) as usize;
-    let v = le::u64_at(header, 16);
-    match le::u32_at(header, 0) {
-        1 => rule::read(given, a, masks, b, fresh, c),
-        2 => rule::write(masks, a, v, given, b, fresh, c),
-        3 => rule::central(given, a, v, fresh, c),
-        4 => watch::load(given, a, fresh, c, kept),
-        5 => watch::sample(kept, b, v),
-        6 => watch::step(kept, b, v),
-        7 => watch::close(kept, b, fresh, c),
-        8 => watch::ask(kept, b),
-        9 => watch::poke(kept, a, b),
-        _ => false,
+    if request.call == NONE {
+        return false;
     }
+    let g = request.given;
+    let m = request.masks;
+    let f = request.fresh;
+    let k = request.kept;
+    if given.len() < g {
+        return false;
+    }
+    if masks.len() < m {
+        return false;
+    }
+    if fresh.len() < f {
+        return false;
+    }
+    if kept.len() < k {
+        return false;
+    }
+    let made = answer_over(
+        request.call,
+        request.value,
+        &mut given[0..g],
+        &mut masks[0..m],
+        &mut fresh[0..f],
+        &mut kept[0..k],
+    );
+    if made.keep {
+        keep(kept, fresh, f);
+    }
+    made.good
 }
 
 fn bad() -> bool {
-    io::write_all(1, b"bad request\n");
+    line::write_bad();
     false
 }
 
 // One request: whether another may follow.
 fn turn(given: &mut [u8], masks: &mut [u64], fresh: &mut [u8], kept: &mut [u8]) -> bool {
-    let mut header = [0u8; 24];
-    let got = io::read_full(0, &mut header);
+    let mut bytes = [0u8; HEADER_LENGTH];
+    let got = io::read_full(libc::STDIN_FILENO, &mut bytes);
     if got == 0 {
         return false;
     }
-    if got != 24 {
+    if got != HEADER_LENGTH {
         return bad();
     }
-    if !answer_to(&header, given, masks, fresh, kept) {
+    if !answer(header::request_in(&bytes), given, masks, fresh, kept) {
         return bad();
     }
     true
@@ -65,11 +128,11 @@ fn run(given: &mut [u8], masks: &mut [u64], fresh: &mut [u8], kept: &mut [u8]) {
     }
 }
 
-// What is given, what is lent afresh, and the state that is kept. The lengths are the limits of a request, a file's apart.
+// What is given, what is lent afresh, and the state that is kept.
 fn main() {
-    let mut given = [0u8; 8192];
-    let mut masks = [0u64; 32];
-    let mut fresh = [0u8; 8192];
-    let mut kept = [0u8; 8192];
+    let mut given = [0u8; BYTES_MOST];
+    let mut masks = [0u64; MASKS_MOST];
+    let mut fresh = [0u8; BYTES_MOST];
+    let mut kept = [0u8; BYTES_MOST];
     run(&mut given, &mut masks, &mut fresh, &mut kept);
 }

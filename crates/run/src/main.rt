@@ -2,71 +2,53 @@
 // for the load and for each close, until a verdict or the input's end. A refusal, of a call or of the input, is a last line
 // `refused N`, and a read that fails a last line `failed read`. Where a line cannot be written the program ends at once.
 ghost use mathlib.Core.Path.{_≡_};
-ghost use mathlib.Core.Bool.{false};
 ghost use Prim.Native.Nat.{_≤_};
 ghost use lib.ListN.{length};
 ghost use Rattle.programs.specs.Hand.{InHand};
 use answers::Outcome;
-use answers::Refusal;
 use asking::AskAnswer;
-use programs::came;
-use programs::input;
 use programs::input::Came;
 use programs::input::Hand;
 use programs::input::PIECE;
-use programs::input::Taken;
 use programs::output;
+use programs::turns;
+use programs::turns::NextEvent;
+use programs::turns::Turned;
+use storing::STATE_LENGTH;
 
 // Two ticks a turn. The state counts ticks in 32 bits, so the last of these ticks is refused at the latest.
 const TURNS: u64 = 2147483648;
 
-// Whether the watch goes on, and what is in hand behind the event that was taken.
-struct Turned {
-    on: bool,
-    hand: Hand,
-}
-
-// Writes the line for a state that was just loaded or closed: whether the watch goes on.
-fn report(state: &[u8]) -> bool {
+// Writes the line for a state that was just loaded or closed. Answers how many nodes wait for the next event: none where the watch
+// is over.
+fn report(state: &[u8]) -> usize {
     let answer = asking::ask(state);
     match answer {
         AskAnswer::Refused(refusal) => {
             output::refused(refusal);
-            false
+            0
         }
         AskAnswer::Told(standing) => {
             let verdict = standing.verdict;
-            if !output::standing(
+            let written = output::standing(
                 standing.ticks as u64,
                 verdict,
                 standing.slots as u64,
                 standing.nodes as u64,
-            ) {
-                return false;
-            }
-            programs::goes_on(verdict)
+            );
+            turns::waiting(written, verdict, standing.nodes)
         }
     }
 }
 
-// Reports the state that an accepted call has left: whether the watch goes on.
-fn report_after(outcome: Outcome, state: &[u8]) -> bool {
+// Reports the state that an accepted call has left; none waits after a refusal.
+fn report_after(outcome: Outcome, state: &[u8]) -> usize {
     match outcome {
         Outcome::Refused(refusal) => {
             output::refused(refusal);
-            false
+            0
         }
         Outcome::Done => report(state),
-    }
-}
-
-// The watch is over: nothing more is taken.
-fn over() -> Turned
-    ensures { λ r. ⌜ (r .on ≡ false) × (r .hand .from ≡ 0) × (r .hand .end ≡ 0) ⌝ }
-{
-    Turned {
-        on: false,
-        hand: Hand::empty(),
     }
 }
 
@@ -75,45 +57,39 @@ fn turn(piece: &mut [u8], hand: Hand, state: &mut [u8], second: &mut [u8]) -> Tu
     requires { ⌜ InHand (length (now piece)) hand × (8 ≤ length (now piece)) ⌝ }
     ensures { λ r. ⌜ InHand (length (now (piece .entry))) (r .hand) ⌝ }
 {
-    let taken = input::take_event(piece, hand);
-    match taken {
-        Taken::End => over(),
-        Taken::Leftover => {
-            output::refused(Refusal::Length);
-            over()
-        }
-        Taken::Failed => {
-            output::failed_read();
-            over()
-        }
-        Taken::Event(taking) => {
-            let rest = taking.rest;
-            let outcome = ticking::tick(state, taking.event, second);
-            let on = report_after(outcome, second);
-            Turned { on: on, hand: rest }
-        }
+    let next = turns::event(piece, hand);
+    let NextEvent::Event(taking) = next else {
+        return Turned::over();
+    };
+    let rest = taking.rest;
+    let outcome = ticking::tick(state, taking.event, second);
+    Turned {
+        waiting: report_after(outcome, second),
+        hand: rest,
     }
 }
 
 // The buffers change places from tick to tick, so that no state is copied.
-fn run(piece: &mut [u8], behind: Hand, state: &mut [u8], second: &mut [u8])
+fn run(piece: &mut [u8], behind: Hand, state: &mut [u8], nodes: usize, second: &mut [u8])
     requires { ⌜ InHand (length (now piece)) behind × (8 ≤ length (now piece)) ⌝ }
 {
     let mut hand = behind;
-    let mut turns = TURNS;
-    while 0 < turns {
+    let mut waiting = nodes;
+    let mut left = TURNS;
+    while 0 < left {
+        if waiting == 0 {
+            return;
+        }
         let first = turn(piece, hand, state, second);
-        if !first.on {
+        if first.waiting == 0 {
             return;
         }
         let between = first.hand;
         let then = turn(piece, between, second, state);
-        if !then.on {
-            return;
-        }
         let rest = then.hand;
         hand = rest;
-        turns -= 1;
+        waiting = then.waiting;
+        left -= 1;
     }
 }
 
@@ -121,30 +97,19 @@ fn run(piece: &mut [u8], behind: Hand, state: &mut [u8], second: &mut [u8])
 fn watch(piece: &mut [u8], state: &mut [u8], second: &mut [u8])
     requires { do ⌜ (← ⟦piece.len()⟧) ≡ (← ⟦PIECE⟧) ⌝ }
 {
-    let awaited = input::await_file(piece);
-    let Came::Bytes(all) = awaited else {
-        output::failed_read();
+    let came = turns::file(piece);
+    let Came::Bytes(behind) = came else {
         return;
     };
-    let end = all.end;
-    let length = came::file_in(&piece[0..end]);
+    let length = behind.from;
     let outcome = loading::load(&piece[0..length], state);
-    if report_after(outcome, state) {
-        run(
-            piece,
-            Hand {
-                from: length,
-                end: end,
-            },
-            state,
-            second,
-        );
-    }
+    let waiting = report_after(outcome, state);
+    run(piece, behind, state, waiting, second);
 }
 
 fn main() {
     let mut piece = [0u8; PIECE];
-    let mut state = [0u8; 4768];
-    let mut second = [0u8; 4768];
+    let mut state = [0u8; STATE_LENGTH];
+    let mut second = [0u8; STATE_LENGTH];
     watch(&mut piece, &mut state, &mut second);
 }

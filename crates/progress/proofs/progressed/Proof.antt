@@ -6,6 +6,10 @@ use borrow.Author.Needs.{needs}
 use Rattle.progress.proofs.progressed.Statement.{statement}
 use Rattle.progress.proofs.progressed.Tie as tie
 
+-- from behind the call back to the start
+abbrev entry : tie.After-central → tie.Start
+entry c = c .before .before .before .before .before .before
+
 pub progressed-spec : {M : Type 1} → statement M
 progressed-spec =
     tie.close
@@ -16,4 +20,8 @@ progressed-spec =
     (λ c. search needs)
     (λ c κs. search needs)
     (λ c. search needs)
-    (λ c. λ h. let e : c .before .before .before .before .before .before .before .before .args .nodes - 0 ≡ c .before .before .before .before .before .before .before .before .args .nodes = omega arith in rw e at (c .before .before .central .ensures)))
+    (λ c. λ h.
+    let made = c .before .before in
+    let n = entry made .args .nodes in
+    let e : n - 0 ≡ n = omega arith in
+    rw e at (made .central .ensures)))

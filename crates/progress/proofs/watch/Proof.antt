@@ -1,19 +1,30 @@
 -- The file stands in front of what came, and what came within the piece. Assumes nothing.
-use mathlib.Core.Path.{_∙_}
-use Prim.Native.Nat.{_≤_}
 use native.Mathlib.Omega.{arith}
-use lib.ListN.{length}
-use Rattle.programs.specs.Hand.{InHand}
-use Rattle.programs.proofs.Standing.{came-brings, front-room}
+use Rattle.programs.specs.Turns.{FileFound}
+use Rattle.programs.proofs.Standing.{file-found}
 use borrow.Author.Needs.{needs}
 use Rattle.progress.proofs.watch.Statement.{statement}
 use Rattle.progress.proofs.watch.Tie as tie
 
-came : (c : tie.After-awaited) → InHand (length (c .before .before .before .before .await-file .last .0)) (c .awaited .given .0 .0)
-came c = came-brings _ _ _ _ (c .awaited .given .1) (c .before .before .before .before .await-file .ensures) .within
+-- ---- from a place back to the one before it
+abbrev entry : tie.After-file → tie.Start
+entry c = c .before .before .before .before .before .before
 
-found : (c : tie.After-file-in) → c .file-in .result ≤ c .before .before .before .before .awaited .given .0 .0 .end
-found c = let w = came (c .before .before .before .before) in front-room (c .before .before .before .before .before .before .before .before .await-file .last .0) (c .before .before .before .before .awaited .given .0 .0 .end) _ (omega arith) (c .file-in .ensures .1)
+abbrev gave : tie.After-came → tie.After-file
+gave c = c .before .before .before .before
+
+abbrev lent : tie.After-read → tie.After-came
+lent c = c .before .before .before .before .before .before
+
+abbrev did-read : tie.After-answer2 → tie.After-read
+did-read c = c .before .before .before .before .before .before
+
+abbrev ruled : tie.After-report → tie.After-answer2
+ruled c = c .before .before .before .before
+
+-- ---- what is known there
+found : (c : tie.After-came) → FileFound (gave c .file .last .0) (c .came .given .0 .0)
+found c = file-found _ _ _ (c .came .given .1) (gave c .file .ensures)
 
 pub watch-spec : {M : Type 1} → statement M
 watch-spec =
@@ -22,18 +33,11 @@ watch-spec =
     (λ c κs. search needs)
     (λ c. search needs)
     (λ c. search needs)
-    (λ c κs. search needs)
     (λ c. search needs)
     (λ c. search needs)
     (λ c. search needs)
     (λ c. search needs)
-    (λ c.
-    let w = came (c .before .before) in omega arith)
-    (λ c κs. search needs)
-    (λ c. search needs)
-    (λ c. search needs)
-    (λ c.
-    let w = came (c .before .before .before .before .before) in let f = found (c .before) in omega arith)
+    (λ c. let w = found (c .before .before) .within in omega arith)
     (λ c. search needs)
     (λ c. search needs)
     (λ c. search needs)
@@ -45,12 +49,16 @@ watch-spec =
     (λ c κs. search needs)
     (λ c κs. search needs)
     (λ c κs.
-    let w = came (c .before .before .before .before .before .before .before .before .before .before .before .before .before .before .before .before .before .before .before .before .before .before) in let f = found (c .before .before .before .before .before .before .before .before .before .before .before .before .before .before .before .before .before .before) in let k = c .before .before .before .before .before .before .before .before .before .before .before .before .before .before .before .before .before .before .before .before .before .before .before .before .before .before .await-file .kept .0 in let p = c .before .before .before .before .before .before .before .before .before .before .before .before .before .before .before .before .before .before .before .before .before .before .before .before .before .before .before .before .before .before .before .before .pre .0 in ((f, omega arith), omega arith))
+    let f = lent (did-read (ruled (c .before .before .before))) in
+    let w = found f .within in
+    let k = gave f .file .kept .0 in
+    let p = entry (gave f) .pre .0 in
+    ((w .0, omega arith), omega arith))
     (λ c. search needs)
     (λ c. search needs)
     (λ c. search needs)
     (λ c. search needs)
-    (λ c. c .before .before .before .before .before .before .run .kept .0 ∙ c .before .before .before .before .before .before .before .before .before .before .before .before .before .before .before .before .before .before .before .before .before .before .before .before .before .before .before .before .before .before .before .before .before .await-file .kept .0)
+    (λ c. search needs)
     (λ c. search needs)
     (λ c. search needs)
     (λ c. search needs)

@@ -7,10 +7,10 @@ use Rattle.run.proofs.run.Statement.{statement}
 use Rattle.run.proofs.run.Tie as tie
 
 abbrev Inv-loop : tie.InvT-loop
-Inv-loop piece₀ state₀ second₀ hand₀ turns₀ piece state second hand turns = (length piece ≡ length piece₀) × (length state ≡ length state₀) × (length second ≡ length second₀) × InHand (length piece₀) hand
+Inv-loop piece₀ state₀ nodes second₀ hand₀ waiting₀ left₀ piece state second hand waiting left = (length piece ≡ length piece₀) × (length state ≡ length state₀) × (length second ≡ length second₀) × InHand (length piece₀) hand
 
 abbrev μ-loop : tie.MeasureT-loop
-μ-loop piece₀ state₀ second₀ hand₀ turns₀ piece state second hand turns = turns
+μ-loop piece₀ state₀ nodes second₀ hand₀ waiting₀ left₀ piece state second hand waiting left = left
 
 pub run-spec : {M : Type 1} → statement M
 run-spec =
@@ -19,7 +19,6 @@ run-spec =
     Inv-loop
     μ-loop
     (λ c. search needs)
-    (λ c κs. search needs)
     (λ c. search needs)
     (λ c. search needs)
     (λ c. search needs)
@@ -29,6 +28,7 @@ run-spec =
     (λ c. search needs)
     (λ c. search needs)
     (λ c. search needs)
+    (λ c κs. search needs)
     (λ c. search needs)
     (λ c. search needs)
     (λ c. search needs)

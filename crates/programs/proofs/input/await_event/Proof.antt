@@ -10,7 +10,19 @@ use borrow.Author.Needs.{needs}
 use Rattle.programs.proofs.input.await_event.Statement.{statement}
 use Rattle.programs.proofs.input.await_event.Tie as tie
 
+-- ---- from a place back to the one before it
+abbrev entry : tie.After-slide → tie.Start
+entry c = c .before .before .before .before .before
+
+abbrev slid : tie.After-fill → tie.After-slide
+slid c = c .before .before .before .before
+
 pub await-event-spec : {M : Type 1} → statement M
 await-event-spec =
     tie.close (tie.spec (λ c. search needs) (λ c. record { within = c .before .before .before .pre .0; leads = take-length _ }) (λ c κs. search needs) (λ c κs. search needs) (λ c. search needs) (λ c.
-    let p = c .before .before .before .before .before .before .before .before .before .before .before .pre in subst (λ (x : List ℕ). CameBehind x (c .before .before .fill .last .0) (c .before .before .fill .result)) (slid-front (c .before .before .before .before .before .before .before .before .before .before .before .args .piece .now) (c .before .before .before .before .before .before .slide .last .0) (c .before .before .before .before .before .before .before .before .before .before .before .args .hand .from) (c .before .before .before .before .before .before .before .before .before .before .before .args .hand .end - c .before .before .before .before .before .before .before .before .before .before .before .args .hand .from) (omega arith) (c .before .before .before .before .before .before .slide .ensures)) (c .before .before .fill .ensures)))
+    let filled = c .before .before in
+    let moved = slid filled in
+    let e = entry moved in
+    let a = e .args in
+    let p = e .pre in
+    subst (λ (x : List ℕ). CameBehind x (filled .fill .last .0) (filled .fill .result)) (slid-front (a .piece .now) (moved .slide .last .0) (a .hand .from) (a .hand .end - a .hand .from) (omega arith) (moved .slide .ensures)) (filled .fill .ensures)))

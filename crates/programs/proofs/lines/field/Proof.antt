@@ -7,7 +7,18 @@ use borrow.Author.Needs.{needs}
 use Rattle.programs.proofs.lines.field.Statement.{statement}
 use Rattle.programs.proofs.lines.field.Tie as tie
 
+-- ---- from a place back to the one before it
+abbrev entry : tie.After-text → tie.Start
+entry c = c .before .before .before .before
+
+abbrev spaced : tie.After-number → tie.After-text
+spaced c = c .before .before .before .before
+
 pub field-spec : {M : Type 1} → statement M
 field-spec =
     tie.close (tie.spec (λ c. search needs) (λ c κs. search needs) (λ c κs. search needs) (λ c. search needs) (λ c.
-    let t = c .before .before .before .before .before .before .text .ensures in let n = c .before .before .number .ensures in let b : c .before .before .before .before .before .before .text .result ≡ c .before .before .before .before .before .before .before .before .before .before .args .at + 1 = t .ends in (adds-then _ _ _ _ _ _ _ _ t (n .0), omega arith)))
+    let number = c .before .before in
+    let space = spaced number in
+    let n = number .number .ensures in
+    let b : space .text .result ≡ entry space .args .at + 1 = space .text .ensures .ends in
+    (adds-then _ _ _ _ _ _ _ _ (space .text .ensures) (n .0), omega arith)))

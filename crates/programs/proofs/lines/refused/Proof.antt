@@ -5,6 +5,13 @@ use borrow.Author.Needs.{needs}
 use Rattle.programs.proofs.lines.refused.Statement.{statement}
 use Rattle.programs.proofs.lines.refused.Tie as tie
 
+-- ---- from behind a text back to the one before it
+abbrev word-put : tie.After-field → tie.After-text
+word-put c = c .before .before .before .before .before
+
+abbrev number-put : tie.After-text2 → tie.After-field
+number-put c = c .before .before .before .before .before
+
 pub refused-spec : {M : Type 1} → statement M
 refused-spec =
     tie.close
@@ -17,4 +24,7 @@ refused-spec =
     (λ c. search needs)
     (λ c κs. search needs)
     (λ c. search needs)
-    (λ c. line-done _ _ _ _ (adds-then _ _ _ _ _ _ _ _ (c .before .before .before .before .before .before .before .before .before .before .before .before .text .ensures) (adds-then _ _ _ _ _ _ _ _ (field-as _ _ _ _ _ _ (c .before .before .before .before .before .before .before .before .number .ensures) (c .before .before .before .before .before .before .before .field .ensures .0)) (c .before .before .text2 .ensures))) (omega arith)))
+    (λ c.
+    let fed = c .before .before in
+    let number = number-put fed in
+    line-done _ _ _ _ (adds-then _ _ _ _ _ _ _ _ (word-put number .text .ensures) (adds-then _ _ _ _ _ _ _ _ (field-as _ _ _ _ _ _ (number .before .number .ensures) (number .field .ensures .0)) (fed .text2 .ensures))) (omega arith)))

@@ -7,4 +7,7 @@ use Rattle.programs.proofs.lines.text.Tie as tie
 pub text-spec : {M : Type 1} → statement M
 text-spec =
     tie.close
-    (tie.spec (λ c. search needs) (λ c. search needs) (λ c. search needs) (λ c κs. search needs) (λ c. search needs) (λ c. search needs) (λ c. text-added (c .before .before .before .before .before .before .args .line .now) (c .before .before .before .before .before .before .args .text .now) (c .before .before .copy .last .0) (c .before .before .before .before .before .before .args .at) (c .before .before .before .before .before .before .pre) (c .before .before .copy .ensures)))
+    (tie.spec (λ c. search needs) (λ c. search needs) (λ c. search needs) (λ c κs. search needs) (λ c. search needs) (λ c. search needs) (λ c.
+    let copied = c .before .before in
+    let e = copied .before .before .before .before in
+    text-added (e .args .line .now) (e .args .text .now) (copied .copy .last .0) (e .args .at) (e .pre) (copied .copy .ensures)))

@@ -1,10 +1,10 @@
--- `replay::lent::fill_bytes` is safe and ends: stores keep the length, below which each turn fills one byte more. Assumes nothing.
+-- `requests::lent::fill_bytes` is safe and ends: stores keep the length, below which each turn fills one byte more. Assumes nothing.
 use mathlib.Core.Path.{_≡_}
 use Prim.Native.Nat.{_-_}
 use lib.ListN.{length}
 use borrow.Author.Needs.{needs}
-use Rattle.replay.proofs.lent.fill_bytes.Statement.{statement}
-use Rattle.replay.proofs.lent.fill_bytes.Tie as tie
+use Rattle.requests.proofs.lent.fill_bytes.Statement.{statement}
+use Rattle.requests.proofs.lent.fill_bytes.Tie as tie
 
 abbrev Inv-loop : tie.InvT-loop
 Inv-loop bytes₀ i₀ bytes i = length bytes ≡ length bytes₀

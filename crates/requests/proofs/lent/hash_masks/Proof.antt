@@ -1,9 +1,9 @@
--- `replay::lent::hash_masks` is safe and ends: each turn takes in one mask more, up to the length. Assumes nothing.
+-- `requests::lent::hash_masks` is safe and ends: each turn takes in one mask more, up to the length. Assumes nothing.
 use Prim.Native.Nat.{_≤_, _-_}
 use lib.ListN.{length}
 use borrow.Author.Needs.{needs}
-use Rattle.replay.proofs.lent.hash_masks.Statement.{statement}
-use Rattle.replay.proofs.lent.hash_masks.Tie as tie
+use Rattle.requests.proofs.lent.hash_masks.Statement.{statement}
+use Rattle.requests.proofs.lent.hash_masks.Tie as tie
 
 abbrev Inv-loop : tie.InvT-loop
 Inv-loop masks hash₀ i₀ hash i = i ≤ length masks

@@ -1,8 +1,8 @@
--- `replay::lent::hash_mask` is safe and ends after eight turns. Assumes nothing.
+-- `requests::lent::hash_mask` is safe and ends after eight turns. Assumes nothing.
 use Prim.Native.Nat.{_≤_, _-_}
 use borrow.Author.Needs.{needs}
-use Rattle.replay.proofs.lent.hash_mask.Statement.{statement}
-use Rattle.replay.proofs.lent.hash_mask.Tie as tie
+use Rattle.requests.proofs.lent.hash_mask.Statement.{statement}
+use Rattle.requests.proofs.lent.hash_mask.Tie as tie
 
 abbrev Inv-loop : tie.InvT-loop
 Inv-loop hash mask all₀ rest₀ i₀ all rest i = i ≤ 8

@@ -1,10 +1,10 @@
--- `replay::lent::fill_masks` is safe and ends: stores keep the length, below which each turn fills one mask more. Assumes nothing.
+-- `requests::lent::fill_masks` is safe and ends: stores keep the length, below which each turn fills one mask more. Assumes nothing.
 use mathlib.Core.Path.{_≡_}
 use Prim.Native.Nat.{_-_}
 use lib.ListN.{length}
 use borrow.Author.Needs.{needs}
-use Rattle.replay.proofs.lent.fill_masks.Statement.{statement}
-use Rattle.replay.proofs.lent.fill_masks.Tie as tie
+use Rattle.requests.proofs.lent.fill_masks.Statement.{statement}
+use Rattle.requests.proofs.lent.fill_masks.Tie as tie
 
 abbrev Inv-loop : tie.InvT-loop
 Inv-loop masks₀ value₀ i₀ masks value i = length masks ≡ length masks₀

