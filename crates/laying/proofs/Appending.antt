@@ -26,14 +26,14 @@ records-both n (s ∷ ss) ts =
     simp (append-assoc, records-both (n + z) ss ts, e)
 
 -- ---- a list cut at a place
-pub record Split (n : ℕ) (l : List ℕ) : Type 0 where
+pub record SplitAt (n : ℕ) (l : List ℕ) : Type 0 where
   pub low : List ℕ
   pub high : List ℕ
   pub both-are : l ≡ low ++ high
   pub low-long : length low ≡ n
   pub high-long : length high + n ≡ length l
 
-pub split : (n : ℕ) (l : List ℕ) → n ≤ length l → Split n l
+pub split : (n : ℕ) (l : List ℕ) → n ≤ length l → SplitAt n l
 split n l h =
     record {
       low = take n l;

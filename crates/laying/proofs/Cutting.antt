@@ -30,7 +30,7 @@ use Rattle.laying.proofs.Places.{inner, behind, owned}
 use Rattle.laying.proofs.Sources.{source-tail}
 use Rattle.laying.proofs.Writing.{lays-whole, lays-one, lays-two, lays-slot}
 use Rattle.laying.proofs.Asking.{looked-stays, looked-cut}
-use Rattle.laying.proofs.Parts.{Operand, operand-laid, not, pair, Top, overOne, overTwo, tops}
+use Rattle.laying.proofs.Parts.{OperandAt, operand-laid, not, pair, Top, overOne, overTwo, tops}
 use Rattle.laying.proofs.Slots.{slot-size, slot-board, held, held-stands, held-laid}
 
 -- the four numbers of what was laid
@@ -100,7 +100,7 @@ module _ {u tags : List ℕ} {at : Place} {p r : List ℕ} where
           let P = tailAs (1 + x .here) (tailAs 1 (set p 0 (getD u 0 0)) q) q2 in
           let R = tailAs (6 * x .slots) r1 r2 in
           let a = operand-laid s o h in
-          let c = operand-laid s (subst (λ (w : ℕ). Operand choose u tags g rest (1 + w)) (sym (a .0)) n) i in
+          let c = operand-laid s (subst (λ (w : ℕ). OperandAt choose u tags g rest (1 + w)) (sym (a .0)) n) i in
           let X = looked (choose f) (at .board) (at .slot) (laid choose hold f) in
           let Y = looked (choose g) (at .board) (at .slot + x .slots) (laid choose hold g) in (
             omega arith,

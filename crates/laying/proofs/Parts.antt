@@ -29,20 +29,20 @@ use Rattle.laying.proofs.Asking.{fits-as, fits-one, fits-left, fits-rig
 
 -- ---- an operand
 -- it stands a bytes on, and so do its tags
-pub record Operand (choose : Formula → Option ℕ) (u tags : List ℕ) (g : Formula) (rest : List ℕ) (a : ℕ) : Type 0 where
+pub record OperandAt (choose : Formula → Option ℕ) (u tags : List ℕ) (g : Formula) (rest : List ℕ) (a : ℕ) : Type 0 where
   pub inside : a ≤ length u
   pub front : Front (tail a u) g rest
   pub tag : Tags choose g boardsMost (getD (tail a tags) 0 0)
   pub tagged : Tagged choose g (tail a tags)
 
 operand : {choose : Formula → Option ℕ} {u tags rest : List ℕ} {g : Formula} (a : ℕ) → a ≤ length u → Front (drop a u) g rest
-    → Tags choose g boardsMost (getD (drop a tags) 0 0) × Tagged choose g (drop a tags) → Operand choose u tags g rest a
+    → Tags choose g boardsMost (getD (drop a tags) 0 0) × Tagged choose g (drop a tags) → OperandAt choose u tags g rest a
 operand {choose} {u} {tags} {rest} {g} a l y m =
     let k : Tags choose g boardsMost (getD (tail a tags) 0 0) × Tagged choose g (tail a tags) = rw (tail-is a tags) m in
     record { inside = l; front = rw (tail-is a u) y; tag = k .0; tagged = k .1 }
 
 -- what is asked of it, and what it then has laid
-module _ {choose : Formula → Option ℕ} {hold : ℕ → ℕ → Laid} {u tags rest : List ℕ} {g : Formula} {a : ℕ} (s : Source choose hold u tags) (o : Operand choose u tags g rest a) {at : Place} where
+module _ {choose : Formula → Option ℕ} {hold : ℕ → ℕ → Laid} {u tags rest : List ℕ} {g : Formula} {a : ℕ} (s : Source choose hold u tags) (o : OperandAt choose u tags g rest a) {at : Place} where
   operand-asks : {p r : ℕ} (q t : List ℕ) → Fits (looked (choose g) (at .board) (at .slot) (laid choose hold g)) at p r → length q ≡ p → length t ≡ r
       → LookAsk (tail a u) (tail a tags) at q t
   operand-asks q t room e f =
@@ -70,8 +70,8 @@ pub data Opens : Kind → Type 0 where
 
 -- such a node in front, with its operands
 pub data Top (choose : Formula → Option ℕ) (u tags rest : List ℕ) : Formula → Kind → Type 0 where
-  overOne : {g : Formula} → Operand choose u tags g rest 1 → Top choose u tags rest (one Not g) (One Not)
-  overTwo : {j : Join} {g h : Formula} → getD u 0 0 ≡ joinCode j → Operand choose u tags g (encode h ++ rest) 1 → Operand choose u tags h rest (1 + size g)
+  overOne : {g : Formula} → OperandAt choose u tags g rest 1 → Top choose u tags rest (one Not g) (One Not)
+  overTwo : {j : Join} {g h : Formula} → getD u 0 0 ≡ joinCode j → OperandAt choose u tags g (encode h ++ rest) 1 → OperandAt choose u tags h rest (1 + size g)
       → Top choose u tags rest (two (Joined j) g h) (Two (Joined j))
 
 pub tops : {choose : Formula → Option ℕ} {u tags rest : List ℕ} {f : Formula} {k : Kind} → Opens k → kindOf (getD u 0 0) ≡ k → Front u f rest → Tagged choose f tags
@@ -106,4 +106,4 @@ module _ {u tags p r : List ℕ} {at : Place} (ask : CutAsk u tags at p r) where
           → LookAsk (tail (1 + x .read) u) (tail (1 + x .read) tags) (behind at x) q s
       go (overTwo {g = f} {h = g} b y z) room =
           let l = operand-laid (ask .source) y h in
-          operand-asks (ask .source) (subst (λ (n : ℕ). Operand (ask .choose) u tags g (ask .rest) (1 + n)) (sym (l .0)) z) q s (fits-right (ask .choose) (ask .hold) j f g room (l .1)) e t
+          operand-asks (ask .source) (subst (λ (n : ℕ). OperandAt (ask .choose) u tags g (ask .rest) (1 + n)) (sym (l .0)) z) q s (fits-right (ask .choose) (ask .hold) j f g room (l .1)) e t
