@@ -28,14 +28,14 @@ use Rattle.central.specs.Central.{centralLengthsOk, answerOf, centralSay
 use Rattle.central.specs.Progressing.{ProgressedTo}
 
 -- ---- what the checks tell
-pub record LengthsPassed (n room : ℕ) : Type 0 where
+pub record CentralPassed (n room : ℕ) : Type 0 where
   pub some : 1 ≤ n
   pub few : n ≤ centralNodesMost
   pub room-is : room ≡ centralNodesMost
 
-pub lengths-passed : (n room : ℕ) → centralLengthsOk n room ≡ true → LengthsPassed n room
+pub central-passed : (n room : ℕ) → centralLengthsOk n room ≡ true → CentralPassed n room
 unfolding centralLengthsOk
-lengths-passed n room e =
+central-passed n room e =
     let a = both-1 _ _ e in
     record { some = leb-true _ _ (both-0 _ _ e); few = leb-true _ _ (both-0 _ _ a); room-is = eqb-true _ _ (both-1 _ _ a) }
 
@@ -93,7 +93,7 @@ module _ (s : List ℕ) (event : Event) (out : List ℕ) where
           let c = counted in
           let w = whole s r in
           let g = progressed event (formulaOf s) in
-          let z = lengths-passed (length s) (length out) l in
+          let z = central-passed (length s) (length out) l in
           let says : centralSays s event (length out) ≡ accepted (answerOf g) =
           order-ok 1 _ _ _ l ∙ order-ok 6 _ _ _ r ∙ order-ok 8 _ _ _ (le-leb (size (unfolded (formulaOf s))) centralNodesMost (omega arith)) ∙ order-done _ in
           let b : out′ ≡ padded (length out) (encode g) = p .bytes (w .formula-is) (w .front) ∙ ap (λ (f : formula.Formula). padded (length out) (encode (progressed event f))) (sym (w .same)) in

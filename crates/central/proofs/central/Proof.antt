@@ -14,7 +14,7 @@ use Rattle.nodes.proofs.Fronts.{front-begins}
 use Rattle.central.specs.Central.{centralLengthsOk}
 use Rattle.central.specs.Progressing.{verdictByte}
 use Rattle.central.proofs.Progresses.{verdict-first, first-of}
-use Rattle.central.proofs.Outcomes.{LengthsPassed, lengths-passed, whole, refused-length, refused-formula, refused-nodes, room, progressed-to}
+use Rattle.central.proofs.Outcomes.{CentralPassed, central-passed, whole, refused-length, refused-formula, refused-nodes, room, progressed-to}
 use Rattle.central.proofs.central.Statement.{statement}
 use Rattle.central.proofs.central.Tie as tie
 
@@ -35,8 +35,8 @@ counted c = c .before .before
 lengths-hold : (c : tie.Else1) → let a = entry c .args in centralLengthsOk (length (a .formula .now)) (length (a .output .now)) ≡ true
 lengths-hold c = sym (c .before .lengths-ok .ensures) ∙ not-false _ (c .if1 .left)
 
-lengths : (c : tie.Else2) → let a = entry (lengthy c) .args in LengthsPassed (length (a .formula .now)) (length (a .output .now))
-lengths c = lengths-passed _ _ (lengths-hold (lengthy c))
+lengths : (c : tie.Else2) → let a = entry (lengthy c) .args in CentralPassed (length (a .formula .now)) (length (a .output .now))
+lengths c = central-passed _ _ (lengths-hold (lengthy c))
 
 rule-holds : (c : tie.Else2) → isRule propositionsMost (entry (lengthy c) .args .formula .now) ≡ true
 rule-holds c = sym (c .before .is-rule .ensures) ∙ not-false _ (c .if2 .left)
