@@ -47,3 +47,14 @@ has_c_compiler() {
 run_c() {
     if [ "$(uname -m)" = x86_64 ]; then "$@"; else "$(kit_tools)/bin/qemu-x86_64" "$@"; fi
 }
+
+# Lines `cites CRATE OTHER`: which crates the files of each crate of crates.txt name, as Rattle.OTHER or at the head of a path
+# OTHER::.., outside of comments. OTHER may also be a module or a type of the crate's own.
+citations() {
+    for crate in $(sed 's/:.*//' crates.txt); do
+        {
+            find "crates/$crate" -name '*.antt' -exec sed -E 's/(^|[ (])--.*//' {} +
+            find "crates/$crate" -name '*.rt' -exec sed -E 's,//.*,,' {} +
+        } | grep -oE 'Rattle·[a-z_]+|[A-Za-z0-9_:]+::' | sed -E "s/Rattle·//; s/::.*//; s/^/cites $crate /" | sort -u
+    done
+}
