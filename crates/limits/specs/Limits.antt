@@ -27,7 +27,3 @@ slotsRoom = 64
 
 abbrev pub nodesRoom : ℕ
 nodesRoom = 4096
-
--- the nodes of a network
-abbrev pub nodesMost : ℕ
-nodesMost = nodesRoom

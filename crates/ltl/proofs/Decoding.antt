@@ -159,7 +159,7 @@ rule-is p l e = go (decoded l) refl e
     go none q r = absurd (no-true r)
     go (some f) q r = record { formula = f; within = over-within p 0 f r; bytes = decoded-is l f q .1 }
 
-pub rule-of : (p : ℕ) (l : List ℕ) → p ≤ 64 → RuleText p l → isRule p l ≡ true
+pub rule-of : (p : ℕ) (l : List ℕ) → p ≤ propositionsMost → RuleText p l → isRule p l ≡ true
 unfolding isFormula
 rule-of p l h t =
     let f = t .formula in

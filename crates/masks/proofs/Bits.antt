@@ -11,6 +11,7 @@ use lib.Bits.{bitOr, or-step, or-shr}
 use lib.Count.{ones, ones-step, trailingZeros, under}
 use lib.ListN.{length, drop, getD, drop-of-length-le}
 use lib.Seq.{drop-cons}
+use Rattle.limits.specs.Limits.{propositionsMost}
 use Rattle.masks.specs.Masks.{bitAt, sumTo, onesOf, sumOnes, unionWith}
 
 -- ---- one bit
@@ -56,9 +57,9 @@ pub ones-is : (m : ℕ) → m < 2 ^ 64 → ones m ≡ onesOf m
 unfolding onesOf
 ones-is m h = ones-bits 64 m h
 
-pub ones-few : (m : ℕ) → onesOf m ≤ 64
+pub ones-few : (m : ℕ) → onesOf m ≤ propositionsMost
 unfolding onesOf
-ones-few m = sum-few 64 (bitAt m) (bit-less m)
+ones-few m = sum-few propositionsMost (bitAt m) (bit-less m)
 
 -- ---- the machine's count of trailing zeros
 pub trailing-is : (k n : ℕ) → 0 < n → n < 2 ^ k
@@ -90,7 +91,7 @@ or-bit a b i =
     ∙ mod-eq-of-lt (omega (arith, bit-less a i, bit-less b i))
 
 -- ---- a one, shifted
-pub one-shifted : (p : ℕ) → p < 64 → (1 * 2 ^ p) % 2 ^ 64 ≡ 2 ^ p
+pub one-shifted : (p : ℕ) → p < propositionsMost → (1 * 2 ^ p) % 2 ^ 64 ≡ 2 ^ p
 one-shifted p h = shl-exact 1 p 64 (omega arith) (omega arith) ∙ one-mul (2 ^ p)
 
 -- ---- one turn of a loop over the masks

@@ -14,6 +14,7 @@ use lib.Bits.{bitOr, and-le-l, and-le-r, or-add-and}
 use borrow.Author.Tests.{lt-ltb, le-ltb, eqb-true}
 use Rattle.lists.proofs.Tests.{both-0, both-1}
 use Rattle.lists.specs.Tests.{pick}
+use Rattle.limits.specs.Limits.{propositionsMost}
 use Rattle.masks.specs.Masks.{bitAt, sumTo, onesOf, sumOnes, unionWith, masksRule}
 use Rattle.masks.proofs.Bits.{bit-less, or-bit}
 
@@ -37,10 +38,10 @@ unfolding sumTo
 sum-zero zero = refl
 sum-zero (suc k) = omega (arith, sum-zero k)
 
-pub ones-owners : (ms : List ℕ) → sumOnes ms ≡ sumTo 64 (owners ms)
+pub ones-owners : (ms : List ℕ) → sumOnes ms ≡ sumTo propositionsMost (owners ms)
 unfolding sumOnes owners onesOf
-ones-owners [] = sym (sum-zero 64)
-ones-owners (m ∷ ms) = ap (λ (x : ℕ). sumTo 64 (bitAt m) + x) (ones-owners ms) ∙ sum-plus 64 (bitAt m) (owners ms)
+ones-owners [] = sym (sum-zero propositionsMost)
+ones-owners (m ∷ ms) = ap (λ (x : ℕ). sumTo propositionsMost (bitAt m) + x) (ones-owners ms) ∙ sum-plus propositionsMost (bitAt m) (owners ms)
 
 -- ---- a bit of the union is set where some mask has it
 max-min : (x y z u : ℕ) → x < 2 → u ≡ min 1 (max x y + z) → y < 2 → u ≡ min 1 (x + (y + z))
@@ -127,14 +128,14 @@ module _ (p : ℕ) (ms : List ℕ) (rule : masksRule p ms ≡ true) where
   pub rule-less : (i : ℕ) → i < length ms → getD ms i 0 < 2 ^ p
   rule-less i l = omega (arith, union-most 0 ms i l, rule-union, pow-pos p)
 
-  pub exact : p ≤ 64 → (i : ℕ) → i < 64 → owners ms i ≡ below p i
-  exact small i l = same-places 64 (owners ms) (below p) at-least enough i l
+  pub exact : p ≤ propositionsMost → (i : ℕ) → i < propositionsMost → owners ms i ≡ below p i
+  exact small i l = same-places propositionsMost (owners ms) (below p) at-least enough i l
     where
-      at-least : (j : ℕ) → j < 64 → below p j ≤ owners ms j
+      at-least : (j : ℕ) → j < propositionsMost → below p j ≤ owners ms j
       at-least j q =
           let z : bitAt 0 j ≡ 0 = ap (λ (x : ℕ). x % 2) (zero-div (2 ^ j)) in
           let b : below p j ≡ min 1 (bitAt 0 j + owners ms j) = sym (low-bits-bit p j) ∙ ap (λ (x : ℕ). bitAt x j) (sym rule-union) ∙ union-bit 0 ms j in
           omega arith
 
-      enough : sumTo 64 (owners ms) ≤ sumTo 64 (below p)
-      enough = omega (arith, ones-owners ms, sum-below p 64, rule-sum)
+      enough : sumTo propositionsMost (owners ms) ≤ sumTo propositionsMost (below p)
+      enough = omega (arith, ones-owners ms, sum-below p propositionsMost, rule-sum)

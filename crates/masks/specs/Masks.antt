@@ -1,10 +1,11 @@
--- Masks: 64-bit numbers whose bits are propositions. Assumes nothing: these are definitions.
+-- Masks: numbers whose bits are propositions. Assumes nothing: these are definitions.
 use Prim.Native.Nat.{ℕ, zero, suc, _+_, _-_, _/_, _%_, _^_}
 use mathlib.Core.Bool.{Bool}
 use mathlib.Core.List.{List, [], _∷_}
 use lib.Dec.{eqb}
 use lib.Bits.{bitOr}
 use Rattle.lists.specs.Tests.{both}
+use Rattle.limits.specs.Limits.{propositionsMost}
 
 -- bit i of m, of value 2 to the i, as a number
 abbrev pub bitAt : ℕ → ℕ → ℕ
@@ -17,7 +18,7 @@ sumTo (suc k) f = sumTo k f + f k
 
 -- the ones of a mask
 unfoldable pub onesOf : ℕ → ℕ
-onesOf m = sumTo 64 (bitAt m)
+onesOf m = sumTo propositionsMost (bitAt m)
 
 -- their ones, summed over boards
 unfoldable pub sumOnes : List ℕ → ℕ

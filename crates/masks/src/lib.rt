@@ -2,11 +2,13 @@
 ghost use mathlib.Core.Path.{_≡_};
 ghost use Prim.Native.Nat.{ℕ, _+_, _-_, _<_, _≤_, _^_};
 ghost use lib.ListN.{length};
+ghost use Rattle.limits.specs.Limits.{boardsMost, propositionsMost};
 ghost use Rattle.masks.specs.Masks.{bitAt, sumOnes, unionWith, masksRule};
+use limits::PROPOSITIONS_MOST;
 
 // The ones of each mask, summed over boards.
 pub fn sum_ones(masks: &[u64]) -> u64
-    requires { ⌜ length (now masks) ≤ 16 ⌝ }
+    requires { ⌜ length (now masks) ≤ boardsMost ⌝ }
     ensures { λ r. ⌜ r ≡ sumOnes (now (masks .entry)) ⌝ }
 {
     let mut sum: u64 = 0;
@@ -33,15 +35,19 @@ fn union(masks: &[u64]) -> u64
 
 // The lowest p bits.
 fn low_bits(p: u64) -> u64
-    requires { ⌜ p ≤ 64 ⌝ }
+    requires { ⌜ p ≤ propositionsMost ⌝ }
     ensures { λ r. ⌜ r ≡ 2 ^ p - 1 ⌝ }
 {
-    if p == 64 { u64::MAX } else { (1u64 << p) - 1 }
+    if p == PROPOSITIONS_MOST as u64 {
+        u64::MAX
+    } else {
+        (1u64 << p) - 1
+    }
 }
 
 // The masks' rule: their ones add up to p and their union is the lowest p bits.
 pub fn follow_rule(masks: &[u64], p: u64) -> bool
-    requires { ⌜ (length (now masks) ≤ 16) × (p ≤ 64) ⌝ }
+    requires { ⌜ (length (now masks) ≤ boardsMost) × (p ≤ propositionsMost) ⌝ }
     ensures { λ r. ⌜ r ≡ masksRule p (now (masks .entry)) ⌝ }
 {
     if sum_ones(masks) == p {
@@ -54,7 +60,7 @@ pub fn follow_rule(masks: &[u64], p: u64) -> bool
 // A mask's lowest proposition.
 pub fn lowest(mask: u64) -> u32
     requires { ⌜ 0 < mask ⌝ }
-    ensures { λ r. ⌜ (r < 64) × (bitAt mask r ≡ 1) × ((j : ℕ) → j < r → bitAt mask j ≡ 0) ⌝ }
+    ensures { λ r. ⌜ (r < propositionsMost) × (bitAt mask r ≡ 1) × ((j : ℕ) → j < r → bitAt mask j ≡ 0) ⌝ }
 {
     u64::trailing_zeros(mask)
 }

@@ -16,6 +16,7 @@ use lib.Dec.{eqb, ltb}
 use lib.Bits.{bitAnd, and-shr, and-step}
 use borrow.Author.Tests.{eqb-true, eqb-false, ne-eqb, lt-ltb, le-ltb}
 use Rattle.lists.specs.Tests.{pick, bit}
+use Rattle.limits.specs.Limits.{propositionsMost}
 use Rattle.lists.proofs.Tests.{no-some, pick-elim}
 use Rattle.kinds.specs.declared.Leaf.{Leaf}
 use Rattle.kinds.specs.declared.Leaf.the-variants.{Const, Prop, Hold}
@@ -152,7 +153,7 @@ bit-and a b i h =
     odd x y l = omega arith
 
 -- ---- masks that follow their rule
-module _ (p : ℕ) (masks : List ℕ) (few : p ≤ 64) (rule : masksRule p masks ≡ true) where
+module _ (p : ℕ) (masks : List ℕ) (few : p ≤ propositionsMost) (rule : masksRule p masks ≡ true) where
   pub masks-own : (e : ℕ) (b i : ℕ) → chosen masks (leaf (Prop i)) ≡ some b → bit (sampleOf masks e b) i ≡ bit e i
   unfolding sampleOf
   masks-own e b i c = bit-and e (getD masks b 0) i (masks-has masks i b c)

@@ -1,5 +1,5 @@
 -- The two layouts by cases: what each way of laying keeps holds of a rule that is laid out (`load-elim`) and of a network that is
--- laid out again (`close-elim`), whose slots are `Standing`. Also a fact of each slot of a row, by its number (`EachSlot`).
+-- laid out again (`close-elim`), whose slots are `SlotStanding`. Also a fact of each slot of a row, by its number (`EachSlot`).
 -- Assumes nothing.
 use mathlib.Core.Path.{_≡_, refl, subst}
 use mathlib.Core.List.{List, [], _∷_, _++_}
@@ -37,7 +37,7 @@ module _ (P : ℕ → Slot → Type 0) where
 
 module _ (choose : Formula → Option ℕ) (Top : ℕ → Formula → Type 0) where
   -- a slot that can be laid out again: clean, its unfolded top as laying asks, and holding slots of higher numbers alone
-  pub record Standing (end n : ℕ) (s : Slot) : Type 0 where
+  pub record SlotStanding (end n : ℕ) (s : Slot) : Type 0 where
     pub clean : Clean choose (s .formula)
     pub top : Top (s .board) (unfolded (s .formula))
     pub holds : HoldsIn (λ m. (n < m) × (m < end)) (s .formula)
@@ -58,7 +58,7 @@ module _ (choose : Formula → Option ℕ) (Top : ℕ → Formula → Type 0) wh
         top (some b) e = tops .stays b (unfolded rule) clean (inr e)
 
     -- ---- closing a network
-    module _ (slots : List Slot) (some-slots : 0 < length slots) (all : (n : ℕ) → n < length slots → Standing (length slots) n (slotAt slots n))
+    module _ (slots : List Slot) (some-slots : 0 < length slots) (all : (n : ℕ) → n < length slots → SlotStanding (length slots) n (slotAt slots n))
         (on-held : (b k m : ℕ) (x : Laid) → m < length slots → P (slotAt slots m .board) (k + 1) (unfolded (slotAt slots m .formula)) x
         → P b k (leaf (Hold m)) (cut (slotAt slots m .board) k x)) where
       -- slot m unfolded and laid out on its board

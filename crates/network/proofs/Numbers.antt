@@ -16,7 +16,7 @@ use Rattle.ltl.specs.Progression.{unfolded}
 use Rattle.network.specs.Layout.{Slot, Laid, laid, cut, rooted, orZero, noHold, load, slotAt, relaid, close}
 use Rattle.network.proofs.Owned.{Free, OwnTop}
 use Rattle.network.proofs.Laying.{Kept, own-tops}
-use Rattle.network.proofs.Layouts.{Standing, load-elim, close-elim}
+use Rattle.network.proofs.Layouts.{SlotStanding, load-elim, close-elim}
 
 -- how often the place holder of slot m stands in a formula, and in all slots
 abbrev pub timesIn : ℕ → Formula → ℕ
@@ -102,7 +102,7 @@ module _ (choose : Formula → Option ℕ) where
       rooted-once m b (unfolded rule) (laid choose noHold (unfolded rule) b 1) (load-elim choose (OwnTop choose) (own-tops choose) Once once-kept rule free)
 
   -- closing a network
-  pub close-once : (slots : List Slot) → 0 < length slots → ((n : ℕ) → n < length slots → Standing choose (OwnTop choose) (length slots) n (slotAt slots n))
+  pub close-once : (slots : List Slot) → 0 < length slots → ((n : ℕ) → n < length slots → SlotStanding choose (OwnTop choose) (length slots) n (slotAt slots n))
       → (m : ℕ) → timesHeld m (close choose slots) ≤ 1
   unfolding close
   close-once slots some-slots all m =

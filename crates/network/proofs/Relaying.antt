@@ -16,7 +16,7 @@ use Rattle.network.proofs.Owned.{Free, Clean, Headed, Plain, unfolded-h
 use Rattle.network.proofs.Values.{Env, value, value-constant, value-free, never}
 use Rattle.network.proofs.Laying.{Choice, HoldsIn, Kept, headed-tops}
 use Rattle.network.proofs.Holding.{holds-map}
-use Rattle.network.proofs.Layouts.{EachSlot, each-both, Standing, load-elim, close-elim}
+use Rattle.network.proofs.Layouts.{EachSlot, each-both, SlotStanding, load-elim, close-elim}
 use Rattle.network.proofs.Origins.{From, from-whole, from-under, from-cut, from-beside, from-hold, Models, Modelled, modelled}
 
 module _ (choose : Formula → Option ℕ) (choice : Choice choose) where
@@ -97,7 +97,7 @@ module _ (choose : Formula → Option ℕ) (choice : Choice choose) where
     pub holds : HoldsIn (λ m. (n < m) × (m < end)) (s .formula)
 
   module _ (slots : List Slot) (some-slots : 0 < length slots) (all : (n : ℕ) → n < length slots → Stepped (length slots) n (slotAt slots n)) where
-    standing : (n : ℕ) → n < length slots → Standing choose (Headed choose) (length slots) n (slotAt slots n)
+    standing : (n : ℕ) → n < length slots → SlotStanding choose (Headed choose) (length slots) n (slotAt slots n)
     standing n l =
         let t = all n l in
         record { clean = t .clean; top = unfolded-headed choose (slotAt slots n .board) (slotAt slots n .formula) (t .headed); holds = t .holds }

@@ -18,7 +18,7 @@ use Rattle.kinds.specs.declared.Unary.{Unary}
 use Rattle.kinds.specs.declared.Binary.{Binary}
 use Rattle.kinds.specs.declared.Kind.{Kind}
 use Rattle.kinds.specs.declared.Kind.the-variants.{Zero, One, Two, NoCode}
-use Rattle.kinds.specs.Kinds.{leafWithin, kindOf, leafCode, unaryCode, binaryCode, leafCoded}
+use Rattle.kinds.specs.Kinds.{leafWithin, kindOf, propCode, leafCode, unaryCode, binaryCode, leafCoded}
 use Rattle.kinds.proofs.Codes.{CodeOf, isZero, isOne, isTwo, isNone, code, kind-leaf, kind-unary, kind-binary}
 use Rattle.ltl.specs.Formula.{Formula, leaf, one, two, encode, Within, Coded}
 use Rattle.ltl.specs.Decode.{decoded, overAlone, isFormula}
@@ -50,7 +50,7 @@ scan-nothing p z (b ∷ r) h = absurd (no-true h)
 scan-leaf : (p z : ℕ) (a : Leaf) (n : ℕ) (l : List ℕ) → leafWithin p z a → leafCoded a → scan p z (leafCode a ∷ l) (suc n) ≡ scan p z l n
 unfolding pick
 scan-leaf p z (Const v) n l w c = scan-cons p z (leafCode (Const v)) n l ∙ rw (kind-leaf (Const v) tt)
-scan-leaf p z (Prop i) n l w c = scan-cons p z (64 + i) n l ∙ rw (kind-leaf (Prop i) c, lt-ltb i p w)
+scan-leaf p z (Prop i) n l w c = scan-cons p z (propCode + i) n l ∙ rw (kind-leaf (Prop i) c, lt-ltb i p w)
 scan-leaf p z (Hold k) n l w c = scan-cons p z (128 + k) n l ∙ rw (kind-leaf (Hold k) c, lt-ltb k z w)
 
 scan-encode : (p z : ℕ) (f : Formula) (n : ℕ) (l : List ℕ) → Within p z f → Coded f → scan p z (encode f ++ l) (suc n) ≡ scan p z l n

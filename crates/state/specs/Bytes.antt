@@ -1,6 +1,6 @@
 -- A network as the bytes of a state with nothing sampled or stepped, and the network that a state holds.
 -- Assumes nothing: these are definitions.
-use Prim.Native.Nat.{ℕ, _+_}
+use Prim.Native.Nat.{ℕ, _+_, _-_}
 use mathlib.Core.List.{List, [], _∷_, _++_}
 use lib.ListN.{length, replicate}
 use Rattle.lists.specs.Runs.{padded}
@@ -9,7 +9,9 @@ use Rattle.le.specs.Le.{le}
 use Rattle.ltl.specs.Decode.{someFormula}
 use Rattle.ltl.specs.Formula.{Formula, size, encode}
 use Rattle.network.specs.Layout.{Slot}
-use Rattle.state.specs.Fields.{stateLength, boardsAt, slotsAt, nodesAt, slotsIn, boardOfIn, formulaIn}
+use Rattle.state.specs.declared.Form.{Form}
+use Rattle.state.specs.Form.{stateLength, boardRow, boardsAt, slotsAt, nodesAt}
+use Rattle.state.specs.Fields.{slotsIn, boardOfIn, formulaIn}
 
 -- the nodes of all slots
 abbrev pub nodesOf : List Slot → ℕ
@@ -17,26 +19,34 @@ nodesOf [] = 0
 nodesOf (s ∷ ss) = size (s .formula) + nodesOf ss
 
 -- ---- the bytes of a network
-abbrev pub stateHeader : ℕ → ℕ → ℕ → ℕ → List ℕ
-stateHeader b s n ticks = le 2 b ++ (le 2 s ++ (le 2 n ++ (le 2 boardsAt ++ (le 2 (slotsAt b) ++ (le 2 (nodesAt b s) ++ le 4 ticks)))))
+abbrev pub stateHeader : Form → ℕ → ℕ → ℕ → ℕ → List ℕ
+stateHeader φ b s n ticks =
+    le 2 b ++ (le 2 s ++ (le 2 n ++ (le 2 boardsAt ++ (le 2 (slotsAt φ b) ++ (le 2 (nodesAt φ b s) ++ le 4 ticks)))))
 
 -- a mask, no sample, not sampled
-abbrev pub boardRecords : List ℕ → List ℕ
-boardRecords [] = []
-boardRecords (m ∷ ms) = le 8 m ++ (replicate 9 0 ++ boardRecords ms)
+abbrev pub boardRecord : Form → ℕ → List ℕ
+boardRecord φ m = le 8 m ++ replicate (boardRow φ - 8) 0
+
+abbrev pub boardRecords : Form → List ℕ → List ℕ
+boardRecords φ [] = []
+boardRecords φ (m ∷ ms) = boardRecord φ m ++ boardRecords φ ms
 
 -- a board, not stepped, a start and a length; each next slot starts where the last one's stretch ends
+abbrev pub slotRecord : ℕ → ℕ → ℕ → List ℕ
+slotRecord board start n = board ∷ 0 ∷ (le 2 start ++ le 2 n)
+
 abbrev pub slotRecords : ℕ → List Slot → List ℕ
 slotRecords start [] = []
-slotRecords start (s ∷ ss) = s .board ∷ 0 ∷ (le 2 start ++ (le 2 (size (s .formula)) ++ slotRecords (start + size (s .formula)) ss))
+slotRecords start (s ∷ ss) = slotRecord (s .board) start (size (s .formula)) ++ slotRecords (start + size (s .formula)) ss
 
 abbrev pub nodeBytes : List Slot → List ℕ
 nodeBytes [] = []
 nodeBytes (s ∷ ss) = encode (s .formula) ++ nodeBytes ss
 
-unfoldable pub stateOf : List ℕ → List Slot → ℕ → List ℕ
-stateOf masks slots ticks =
-    padded stateLength (stateHeader (length masks) (length slots) (nodesOf slots) ticks ++ (boardRecords masks ++ (slotRecords 0 slots ++ nodeBytes slots)))
+unfoldable pub stateOf : Form → List ℕ → List Slot → ℕ → List ℕ
+stateOf φ masks slots ticks =
+    padded (stateLength φ)
+    (stateHeader φ (length masks) (length slots) (nodesOf slots) ticks ++ (boardRecords φ masks ++ (slotRecords 0 slots ++ nodeBytes slots)))
 
 -- ---- the network of a state
 -- the formula of a slot

@@ -10,19 +10,17 @@ use Rattle.answers.specs.Said.{Said, accepted, left, verdictNumber, check, inOr
 use Rattle.answers.specs.declared.Verdict.{Verdict}
 use Rattle.answers.specs.declared.Verdict.the-variants.{False, True, Pending}
 use Rattle.le.specs.Le.{le}
-use Rattle.limits.specs.Limits.{nodesMost}
 use Rattle.ltl.specs.Formula.{Formula, size, encode}
 use Rattle.ltl.specs.Progression.{resolved, filled, verdictOf}
 use Rattle.network.specs.Scores.{chosen}
 use Rattle.network.specs.Layout.{Slot, load, close}
 use Rattle.network.specs.Tick.{holdsOnly}
-use Rattle.state.specs.Fields.{stateLength, boardsIn, slotsIn, nodesIn, ticksIn, nodesAt, boardAt, maskIn, sampleIn, sampledIn, masksIn, slotRecordAt, boardOfIn, steppedIn, startIn, lengthIn, slotBytes}
-use Rattle.state.specs.Clauses.{slotsMost, inMask, eachBelow, isConstantIn, stateOk}
+use Rattle.state.specs.declared.Form.{Form}
+use Rattle.state.specs.Form.{formIn, stateLength, slotsMost, nodesMost}
+use Rattle.state.specs.Fields.{boardsIn, slotsIn, nodesIn, ticksIn, maskIn, sampleIn, sampledIn, masksIn, boardOfIn, steppedIn, lengthIn, slotBytes}
+use Rattle.state.specs.Clauses.{inMask, eachBelow, isConstantIn, stateOk}
+use Rattle.state.specs.Writes.{sampleGiven, slotStepped}
 use Rattle.state.specs.Bytes.{nodesOf, stateOf, formulaAt, networkOf}
-
--- the bytes xs in the place of those at `at`
-abbrev pub putAt : ℕ → List ℕ → List ℕ → List ℕ
-putAt at xs s = take at s ++ (xs ++ drop (at + length xs) s)
 
 -- ---- finished: one slot, not stepped, holding 0 or 1
 unfoldable pub finishedIn : List ℕ → Bool
@@ -49,7 +47,7 @@ sampleSays s board bits =
     (accepted [])
 
 abbrev pub sampleLeaves : List ℕ → ℕ → ℕ → List ℕ
-sampleLeaves s board bits = left (sampleSays s board bits) (putAt (boardAt board + 8) (le 8 bits ++ (1 ∷ [])) s) s
+sampleLeaves s board bits = left (sampleSays s board bits) (sampleGiven s board bits) s
 
 -- ---- step: a slot is stepped
 -- its board has sampled, and every slot that it holds is stepped
@@ -74,10 +72,7 @@ steppedTo s k = resolved (sampleIn s (boardOfIn s k)) (filled (λ m. verdictOf (
 -- it is rewritten inside its own stretch, freed bytes are 0, and its length and mark are set
 abbrev pub stepLeaves : List ℕ → ℕ → List ℕ
 stepLeaves s k =
-    left (stepSays s k)
-    (putAt (nodesAt (boardsIn s) (slotsIn s) + startIn s k) (padded (lengthIn s k) (encode (steppedTo s k)))
-    (putAt (slotRecordAt s k + 4) (le 2 (size (steppedTo s k))) (set s (slotRecordAt s k + 1) 1)))
-    s
+    left (stepSays s k) (slotStepped s k (size (steppedTo s k)) (padded (lengthIn s k) (encode (steppedTo s k)))) s
 
 -- ---- close: the network is laid out again into a second buffer
 -- all boards have sampled and all slots are stepped
@@ -90,22 +85,22 @@ nextIn s = close (chosen (masksIn s)) (networkOf s)
 unfoldable pub closeSays : List ℕ → ℕ → Said
 closeSays s room =
     inOrder
-    (check 1 (eqb room stateLength)
+    (check 1 (eqb room (stateLength (formIn s)))
     ∷ check 9 (stateOk s)
     ∷ check 10 (not (finishedIn s))
     ∷ check 14 (doneIn s)
     ∷ check 15 (ltb (ticksIn s + 1) (2 ^ 32))
-    ∷ check 7 (leb (length (nextIn s)) slotsMost)
-    ∷ check 8 (leb (nodesOf (nextIn s)) nodesMost)
+    ∷ check 7 (leb (length (nextIn s)) (slotsMost (formIn s)))
+    ∷ check 8 (leb (nodesOf (nextIn s)) (nodesMost (formIn s)))
     ∷ [])
     (accepted [])
 
 abbrev pub closeLeaves : List ℕ → List ℕ → List ℕ
-closeLeaves s second = left (closeSays s (length second)) (stateOf (masksIn s) (nextIn s) (ticksIn s + 1)) second
+closeLeaves s second = left (closeSays s (length second)) (stateOf (formIn s) (masksIn s) (nextIn s) (ticksIn s + 1)) second
 
 -- ---- the layout of a rule, as loading begins a watch with it: 7 and 8 by the whole layout, then its state
 abbrev pub firstOf : List ℕ → Formula → List Slot
 firstOf masks rule = load (chosen masks) rule
 
-abbrev pub loadedState : List ℕ → Formula → List ℕ
-loadedState masks rule = stateOf masks (firstOf masks rule) 0
+abbrev pub loadedState : Form → List ℕ → Formula → List ℕ
+loadedState φ masks rule = stateOf φ masks (firstOf masks rule) 0

@@ -10,15 +10,12 @@ use Rattle.lists.specs.Tests.{pick, both, either, inRange, bit}
 use Rattle.kinds.specs.declared.Leaf.the-variants.{Const, Prop, Hold}
 use Rattle.kinds.specs.declared.Unary.the-variants.{Not, Next, Ever}
 use Rattle.kinds.specs.declared.Binary.the-variants.{Joined, Until}
-use Rattle.limits.specs.Limits.{boardsMost, propositionsMost, nodesMost}
+use Rattle.limits.specs.Limits.{boardsMost, propositionsMost}
 use Rattle.ltl.specs.Formula.{Formula, leaf, one, two, over}
 use Rattle.masks.specs.Masks.{sumOnes, masksRule}
 use Rattle.network.specs.Tick.{holdsOnly}
-use Rattle.state.specs.Fields.{stateLength, boardsIn, slotsIn, nodesIn, boardsOffsetIn, slotsOffsetIn, nodesOffsetIn, boardsAt, slotsAt, nodesAt, maskIn, sampleIn, sampledIn, masksIn, boardOfIn, steppedIn, startIn, lengthIn, stretchEnd, slotBytes, formulaIn}
-
--- the most slots
-abbrev pub slotsMost : ℕ
-slotsMost = 64
+use Rattle.state.specs.Form.{formIn, stateLength, slotsMost, nodesMost, boardsAt, slotsAt}
+use Rattle.state.specs.Fields.{boardsIn, slotsIn, nodesIn, boardsOffsetIn, slotsOffsetIn, nodesOffsetIn, maskIn, sampleIn, sampledIn, masksIn, boardOfIn, steppedIn, startIn, lengthIn, stretchEnd, slotBytes, formulaIn, nodesFrom}
 
 -- ---- small tests
 -- a flag
@@ -124,7 +121,7 @@ formulaOk s p k (some f) =
 -- the gap behind a slot in its stretch is zero
 unfoldable pub gapOk : List ℕ → ℕ → Bool
 gapOk s k =
-    allZero (take (stretchEnd s k - (startIn s k + lengthIn s k)) (drop (nodesAt (boardsIn s) (slotsIn s) + (startIn s k + lengthIn s k)) s))
+    allZero (take (stretchEnd s k - (startIn s k + lengthIn s k)) (drop (nodesFrom s + (startIn s k + lengthIn s k)) s))
 
 -- the place holders of slots 0 .. n - 1
 abbrev pub heldOf : Option Formula → List ℕ
@@ -136,16 +133,20 @@ holdersIn s zero = []
 holdersIn s (suc n) = holdersIn s n ++ heldOf (formulaIn s n)
 
 -- ---- clauses of the whole
--- the counts are in range, and the offsets are theirs
+-- the places of boards, slots and nodes are those that the counts give
+unfoldable pub placesOk : List ℕ → Bool
+placesOk s =
+    both (eqb (boardsOffsetIn s) boardsAt)
+    (both (eqb (slotsOffsetIn s) (slotsAt (formIn s) (boardsIn s))) (eqb (nodesOffsetIn s) (nodesFrom s)))
+
+-- the counts are in range, and the places are theirs
 unfoldable pub headerOk : List ℕ → Bool
 headerOk s =
     eachTrue
     (inRange boardsMost (boardsIn s)
-    ∷ inRange slotsMost (slotsIn s)
-    ∷ inRange nodesMost (nodesIn s)
-    ∷ eqb (boardsOffsetIn s) boardsAt
-    ∷ eqb (slotsOffsetIn s) (slotsAt (boardsIn s))
-    ∷ eqb (nodesOffsetIn s) (nodesAt (boardsIn s) (slotsIn s))
+    ∷ inRange (slotsMost (formIn s)) (slotsIn s)
+    ∷ inRange (nodesMost (formIn s)) (nodesIn s)
+    ∷ placesOk s
     ∷ [])
 
 -- masks disjoint, their union the lowest 1 to 64 bits
@@ -154,11 +155,11 @@ masksOk s = both (inRange propositionsMost (sumOnes (masksIn s))) (masksRule (su
 
 -- the bytes behind the nodes are zero
 unfoldable pub restOk : List ℕ → Bool
-restOk s = allZero (drop (nodesAt (boardsIn s) (slotsIn s) + nodesIn s) s)
+restOk s = allZero (drop (nodesFrom s + nodesIn s) s)
 
 abbrev pub clauses : List ℕ → List Bool
 clauses s =
-    eqb (length s) stateLength
+    eqb (length s) (stateLength (formIn s))
     ∷ headerOk s
     ∷ masksOk s
     ∷ eachBelow (boardsIn s) (boardOk s)

@@ -1,5 +1,5 @@
--- The state's fields: a header of 16 bytes, a record of 17 bytes for each board, one of 6 for each slot, the nodes, and zeros to the
--- end. Assumes nothing: these are definitions.
+-- The state's fields: a header of 16 bytes, a record for each board, one for each slot, the nodes, and zeros to the end. Where the
+-- records are is told by the state's form. Assumes nothing: these are definitions.
 use Prim.Native.Nat.{ℕ, _+_, _*_}
 use mathlib.Core.List.{List}
 use mathlib.Core.Option.{Option}
@@ -10,10 +10,7 @@ use Rattle.lists.specs.Listed.{listed}
 use Rattle.le.specs.Le.{leAt}
 use Rattle.ltl.specs.Formula.{Formula}
 use Rattle.ltl.specs.Decode.{decoded}
-
--- the buffer's length
-abbrev pub stateLength : ℕ
-stateLength = 4768
+use Rattle.state.specs.Form.{formIn, boardAt, slotRows, slotsAt, nodesAt}
 
 -- ---- the header
 abbrev pub boardsIn : List ℕ → ℕ
@@ -37,35 +34,22 @@ nodesOffsetIn s = leAt s 10 2
 abbrev pub ticksIn : List ℕ → ℕ
 ticksIn s = leAt s 12 4
 
--- ---- where the parts begin, for b boards and n slots
-abbrev pub boardsAt : ℕ
-boardsAt = 16
-
-abbrev pub slotsAt : ℕ → ℕ
-slotsAt b = boardsAt + 17 * b
-
-abbrev pub nodesAt : ℕ → ℕ → ℕ
-nodesAt b n = slotsAt b + 6 * n
-
 -- ---- a board's record: mask 8, sample 8, sampled 1
-abbrev pub boardAt : ℕ → ℕ
-boardAt i = boardsAt + 17 * i
-
 abbrev pub maskIn : List ℕ → ℕ → ℕ
-maskIn s i = leAt s (boardAt i) 8
+maskIn s i = leAt s (boardAt (formIn s) i) 8
 
 abbrev pub sampleIn : List ℕ → ℕ → ℕ
-sampleIn s i = leAt s (boardAt i + 8) 8
+sampleIn s i = leAt s (boardAt (formIn s) i + 8) 8
 
 abbrev pub sampledIn : List ℕ → ℕ → ℕ
-sampledIn s i = getD s (boardAt i + 16) 0
+sampledIn s i = getD s (boardAt (formIn s) i + 16) 0
 
 abbrev pub masksIn : List ℕ → List ℕ
 masksIn s = listed (maskIn s) (boardsIn s)
 
 -- ---- a slot's record: board 1, stepped 1, start 2, length 2
 abbrev pub slotRecordAt : List ℕ → ℕ → ℕ
-slotRecordAt s k = slotsAt (boardsIn s) + 6 * k
+slotRecordAt s k = slotsAt (formIn s) (boardsIn s) + slotRows k
 
 abbrev pub boardOfIn : List ℕ → ℕ → ℕ
 boardOfIn s k = getD s (slotRecordAt s k) 0
@@ -83,9 +67,13 @@ lengthIn s k = leAt s (slotRecordAt s k + 4) 2
 unfoldable pub stretchEnd : List ℕ → ℕ → ℕ
 stretchEnd s k = pick (ltb (k + 1) (slotsIn s)) (startIn s (k + 1)) (nodesIn s)
 
+-- where the nodes begin
+abbrev pub nodesFrom : List ℕ → ℕ
+nodesFrom s = nodesAt (formIn s) (boardsIn s) (slotsIn s)
+
 -- a slot's nodes, and the formula that they are
 abbrev pub slotBytes : List ℕ → ℕ → List ℕ
-slotBytes s k = take (lengthIn s k) (drop (nodesAt (boardsIn s) (slotsIn s) + startIn s k) s)
+slotBytes s k = take (lengthIn s k) (drop (nodesFrom s + startIn s k) s)
 
 abbrev pub formulaIn : List ℕ → ℕ → Option Formula
 formulaIn s k = decoded (slotBytes s k)

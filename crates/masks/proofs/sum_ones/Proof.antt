@@ -1,10 +1,11 @@
 -- `masks::sum_ones` meets its contract. The invariant: the sum so far, with the ones of the masks from i on, is the sum of all; and
--- it is at most 64 for each mask passed, so that it fits. What is left of the length falls. Assumes nothing.
+-- it is at most the propositions for each mask passed, so that it fits. What is left of the length falls. Assumes nothing.
 use mathlib.Core.Path.{_≡_}
 use Prim.Native.Nat.{_+_, _-_, _*_, _≤_}
 use native.Mathlib.Omega.{arith}
 use lib.ListN.{length, drop, getD}
 use lib.Count.{ones}
+use Rattle.limits.specs.Limits.{propositionsMost}
 use Rattle.masks.specs.Masks.{onesOf, sumOnes}
 use Rattle.masks.proofs.Bits.{ones-is, ones-few, sumOnes-turn, sumOnes-done}
 use borrow.Author.Needs.{needs}
@@ -12,7 +13,7 @@ use Rattle.masks.proofs.sum_ones.Statement.{statement}
 use Rattle.masks.proofs.sum_ones.Tie as tie
 
 abbrev Inv-loop : tie.InvT-loop
-Inv-loop masks sum₀ i₀ sum i = (i ≤ length masks) × (sum + sumOnes (drop i masks) ≡ sumOnes masks) × (sum ≤ 64 * i)
+Inv-loop masks sum₀ i₀ sum i = (i ≤ length masks) × (sum + sumOnes (drop i masks) ≡ sumOnes masks) × (sum ≤ propositionsMost * i)
 
 abbrev μ-loop : tie.MeasureT-loop
 μ-loop masks sum₀ i₀ sum i = length masks - i

@@ -13,6 +13,10 @@ Inv-loop s p h owed₀ i₀ owed i = Owing p h s i owed
 abbrev μ-loop : tie.MeasureT-loop
 μ-loop s p h owed₀ i₀ owed i = length s - i
 
+-- from behind the step on what is owed back to the turn's first test
+abbrev looked : tie.After-after Inv-loop μ-loop → tie.Else1 Inv-loop μ-loop
+looked c = c .before .before .before
+
 pub is-formula-spec : {M : Type 1} → statement M
 is-formula-spec =
     tie.close
@@ -27,8 +31,12 @@ is-formula-spec =
     (λ c κs. omega arith)
     (λ c. search needs)
     (λ c. search needs)
-    (λ c. owing-broken (c .before .before .before .before .before .before .before .loop .inv) (c .before .before .before .before .before .before .loop-test .taken) (c .before .before .before .before .before .if1 .left) (c .before .before .before .of .ensures) (c .before .before .after .ensures) (c .enum-told .given .1))
+    (λ c. let a = c .before .before in let d = looked a in
+    owing-broken (d .before .before .loop .inv) (d .before .loop-test .taken) (d .if1 .left)
+    (a .before .of .ensures) (a .after .ensures) (c .enum-told .given .1))
     (λ c. search needs)
     (λ c. omega arith)
-    (λ c. owing-more (c .before .before .before .before .before .before .before .before .loop .inv) (c .before .before .before .before .before .before .before .loop-test .taken) (c .before .before .before .before .before .before .if1 .left) (c .before .before .before .before .of .ensures) (c .before .before .before .after .ensures) (c .before .next .given .1))
+    (λ c. let a = c .before .before .before in let d = looked a in
+    owing-more (d .before .before .loop .inv) (d .before .loop-test .taken) (d .if1 .left)
+    (a .before .of .ensures) (a .after .ensures) (c .before .next .given .1))
     (λ c. owing-ends (c .before .loop .inv) (c .loop-test .left)))

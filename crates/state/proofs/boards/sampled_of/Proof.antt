@@ -1,0 +1,27 @@
+-- The flag stands behind the sample. Assumes nothing.
+use borrow.Author.Needs.{needs}
+use mathlib.Core.Path.{_≡_, refl, sym, ap, ap₂, _∙_}
+use Prim.Native.Nat.{ℕ, _+_, _*_, _<_, _≤_, _^_}
+use native.Mathlib.Omega.{arith}
+use lib.ListN.{getD}
+use Rattle.state.specs.Form.{formIn, boardAt}
+use Rattle.state.proofs.Places.{board-within, place-is}
+use Rattle.state.proofs.Forms.{board-few}
+use Rattle.state.proofs.boards.sampled_of.Statement.{statement}
+use Rattle.state.proofs.boards.sampled_of.Tie as tie
+
+at : (c : tie.After-board-at) → c .board-at .result ≡ boardAt (formIn (c .before .before .before .args .s .now)) (c .before .before .before .args .i)
+at c = place-is (c .before .before .before .args .s .now) (c .before .before .before .args .i) (c .before .of .ensures) (c .board-at .ensures)
+
+within : (c : tie.After-board-at) → c .board-at .result + 17 ≤ 65536
+within c = let p = c .before .before .before .pre in let e = at c in let w = board-few (formIn (c .before .before .before .args .s .now)) (c .before .before .before .args .i) in omega arith
+
+pub sampled-of-spec : {M : Type 1} → statement M
+sampled-of-spec =
+    tie.close
+    (tie.spec
+    (λ c κs. search needs)
+    (λ c κs. search needs)
+    (λ c. let w = within c in record { fits = omega arith })
+    (λ c. let a = c .before .before .before .before .args in let p = c .before .before .before .before .pre in let e = at (c .before) in let w = board-within (a .s .now) (p .0) (a .i) (p .1) in omega arith)
+    (λ c. ap (λ (n : ℕ). getD (c .before .before .before .before .args .s .now) (n + 16) 0) (at (c .before))))
