@@ -1,12 +1,14 @@
--- A formula's place holders among its bytes are of slots that are there (`holds-formula`, with more bytes behind `holds-append`; for a slot's bytes `bytes-hold`). Assumes nothing.
+-- A formula's place holders among its bytes are of slots that are there (`holds-formula`, with more bytes behind `holds-append`; for a
+-- slot's bytes `bytes-hold`). Assumes nothing.
 use mathlib.Core.Path.{ap}
 use mathlib.Core.Bool.{true, false}
 use mathlib.Core.List.{List, [], _∷_, _++_}
 use Prim.Native.Nat.{ℕ, zero, suc, _+_, _<_, _≤_}
 use native.Mathlib.Omega.{arith}
 use lib.ListN.{getD}
+use Rattle.limits.specs.Limits.{propositionsMost}
 use Rattle.kinds.specs.declared.Leaf.the-variants.{Const, Prop, Hold}
-use Rattle.kinds.specs.Kinds.{unaryCode, binaryCode}
+use Rattle.kinds.specs.Kinds.{unaryCode, binaryCode, propCode, holdCode}
 use Rattle.kinds.proofs.Codes.{unary-low, binary-low}
 use Rattle.ltl.specs.Formula.{Formula, leaf, one, two, encode, Within}
 use Rattle.masks.specs.Masks.{sumOnes}
@@ -15,7 +17,7 @@ use Rattle.state.specs.Bytes.{formulaAt}
 use Rattle.checked.specs.Holds.{Holds}
 use Rattle.checked.proofs.Passing.{SlotPassing}
 
-holds-cons : (n b : ℕ) (l : List ℕ) → b < 128 + n → Holds n l → Holds n (b ∷ l)
+holds-cons : (n b : ℕ) (l : List ℕ) → b < holdCode + n → Holds n l → Holds n (b ∷ l)
 holds-cons n b l h t zero = h
 holds-cons n b l h t (suc i) = t i
 
@@ -27,18 +29,18 @@ holds-append n (b ∷ l) r h t (suc i) = holds-append n l r (λ j. h (suc j)) t 
 holds-none : (n : ℕ) → Holds n []
 holds-none n i = omega arith
 
-pub holds-formula : (p n : ℕ) (f : Formula) → p ≤ 64 → Within p n f → Holds n (encode f)
+pub holds-formula : (p n : ℕ) (f : Formula) → p ≤ propositionsMost → Within p n f → Holds n (encode f)
 holds-formula p n (leaf (Const true)) l w = holds-cons n 1 [] (omega arith) (holds-none n)
 holds-formula p n (leaf (Const false)) l w = holds-cons n 0 [] (omega arith) (holds-none n)
-holds-formula p n (leaf (Prop i)) l w = holds-cons n (64 + i) [] (omega arith) (holds-none n)
-holds-formula p n (leaf (Hold m)) l w = holds-cons n (128 + m) [] (omega arith) (holds-none n)
+holds-formula p n (leaf (Prop i)) l w = holds-cons n (propCode + i) [] (omega arith) (holds-none n)
+holds-formula p n (leaf (Hold m)) l w = holds-cons n (holdCode + m) [] (omega arith) (holds-none n)
 holds-formula p n (one o f) l w = let u = unary-low o in holds-cons n (unaryCode o) (encode f) (omega arith) (holds-formula p n f l w)
 holds-formula p n (two o f g) l w =
     let u = binary-low o in
     holds-cons n (binaryCode o) (encode f ++ encode g) (omega arith)
     (holds-append n (encode f) (encode g) (holds-formula p n f l (w .0)) (holds-formula p n g l (w .1)))
 
-pub bytes-hold : (s : List ℕ) (k : ℕ) → SlotPassing s k → sumOnes (masksIn s) ≤ 64 → Holds (slotsIn s) (slotBytes s k)
+pub bytes-hold : (s : List ℕ) (k : ℕ) → SlotPassing s k → sumOnes (masksIn s) ≤ propositionsMost → Holds (slotsIn s) (slotBytes s k)
 bytes-hold s k q l i =
     let h = holds-formula (sumOnes (masksIn s)) (slotsIn s) (formulaAt s k) l (q .within) i in
     let e = ap (λ (b : List ℕ). getD b i 0) (q .bytes) in

@@ -9,11 +9,12 @@ use lib.ListN.{length}
 use borrow.Author.Tests.{eqb-true, eq-eqb}
 use Rattle.lists.proofs.Tests.{both-0, both-1, both-true}
 use Rattle.masks.specs.Masks.{sumOnes}
-use Rattle.state.specs.Fields.{stateLength, boardsIn, slotsIn, masksIn, startIn, formulaIn}
+use Rattle.state.specs.Form.{formIn, stateLength, Formed}
+use Rattle.state.specs.Fields.{boardsIn, slotsIn, masksIn, startIn, formulaIn}
 use Rattle.state.specs.Clauses.{eachBelow, eachTrue, distinct, boardOk, recordOk, formulaOk, gapOk, holdersIn, headerOk, masksOk, restOk, stateOk}
 
 pub record Checked (s : List ℕ) : Type 0 where
-  pub long : length s ≡ stateLength
+  pub long : Formed s
   pub header : headerOk s ≡ true
   pub masks : masksOk s ≡ true
   pub boards : eachBelow (boardsIn s) (boardOk s) ≡ true
@@ -37,7 +38,7 @@ checked s ok =
     let a8 = both-1 _ _ a7 in
     let a9 = both-1 _ _ a8 in
     record {
-      long = eqb-true (length s) stateLength (both-0 _ _ ok);
+      long = eqb-true (length s) (stateLength (formIn s)) (both-0 _ _ ok);
       header = both-0 _ _ a1;
       masks = both-0 _ _ a2;
       boards = both-0 _ _ a3;
@@ -52,7 +53,7 @@ checked s ok =
 pub checked-of : (s : List ℕ) → Checked s → stateOk s ≡ true
 unfolding stateOk eachTrue
 checked-of s c =
-    both-true _ _ (eq-eqb (length s) stateLength (c .long))
+    both-true _ _ (eq-eqb (length s) (stateLength (formIn s)) (c .long))
     (both-true _ _ (c .header)
     (both-true _ _ (c .masks)
     (both-true _ _ (c .boards)

@@ -9,23 +9,23 @@ use lib.ListN.{length}
 use lib.Dec.{eqb}
 use borrow.Author.Tests.{eqb-true}
 use Rattle.lists.proofs.Tests.{both-1}
-use Rattle.limits.specs.Limits.{nodesMost}
 use Rattle.masks.specs.Masks.{sumOnes}
 use Rattle.network.specs.Scores.{chosen}
 use Rattle.network.specs.Layout.{Slot, slotAt, close}
 use Rattle.network.proofs.Owned.{OwnTop, unfolded-own-top}
-use Rattle.network.proofs.Layouts.{each-slot, Standing}
+use Rattle.network.proofs.Layouts.{each-slot, SlotStanding}
 use Rattle.network.proofs.Numbers.{close-once}
-use Rattle.checking.proofs.Each.{each-at}
+use Rattle.records.proofs.Each.{each-at}
+use Rattle.state.specs.Form.{formIn, slotsMost, nodesMost}
 use Rattle.state.specs.Fields.{slotsIn, ticksIn, masksIn, boardOfIn, steppedIn}
-use Rattle.state.specs.Clauses.{slotsMost, loneOther, stateOk}
+use Rattle.state.specs.Clauses.{loneOther, stateOk}
 use Rattle.state.specs.Bytes.{nodesOf, stateOf, formulaAt, networkOf}
 use Rattle.state.specs.Calls.{doneIn, nextIn}
-use Rattle.state.proofs.Rows.{masks-length, masks-at, network-length, network-at}
+use Rattle.state.proofs.Listed.{masks-length, masks-at, network-length, network-at}
 use Rattle.checked.proofs.Passing.{passing}
 use Rattle.checked.proofs.Held.{slot-holds}
 use Rattle.checked.proofs.Tidy.{tidy-clean, lone-top}
-use Rattle.checked.proofs.Fitting.{Fitting, close-fits}
+use Rattle.checked.proofs.Fitting.{SlotFitting, close-fits}
 use Rattle.checked.proofs.Written.{written-passes}
 
 close-some : (masks : List ℕ) (slots : List Slot) → 1 ≤ length (close (chosen masks) slots)
@@ -41,7 +41,7 @@ module _ (s : List ℕ) (ok : stateOk s ≡ true) (done : doneIn s ≡ true) whe
   all-stepped k l = eqb-true _ _ (each-at (λ k. eqb (steppedIn s k) 1) (slotsIn s) k (both-1 _ _ done) l)
 
   -- a stepped slot can be laid out again
-  slot-standing : (k : ℕ) → k < slotsIn s → Standing (chosen (masksIn s)) (OwnTop (chosen (masksIn s))) (slotsIn s) k (record { board = boardOfIn s k; formula = formulaAt s k })
+  slot-standing : (k : ℕ) → k < slotsIn s → SlotStanding (chosen (masksIn s)) (OwnTop (chosen (masksIn s))) (slotsIn s) k (record { board = boardOfIn s k; formula = formulaAt s k })
   slot-standing k l =
       let c = passing s ok in
       let x = c .slots k l in
@@ -60,7 +60,7 @@ module _ (s : List ℕ) (ok : stateOk s ≡ true) (done : doneIn s ≡ true) whe
   network-some : 0 < length (networkOf s)
   network-some = omega (arith, network-length s, passing s ok .header .some-slots)
 
-  network-standing : (k : ℕ) → k < length (networkOf s) → Standing (chosen (masksIn s)) (OwnTop (chosen (masksIn s))) (length (networkOf s)) k (slotAt (networkOf s) k)
+  network-standing : (k : ℕ) → k < length (networkOf s) → SlotStanding (chosen (masksIn s)) (OwnTop (chosen (masksIn s))) (length (networkOf s)) k (slotAt (networkOf s) k)
   network-standing k l =
       let h : k < slotsIn s = omega (arith, network-length s) in
       rw (network-length s, network-at s k h) (slot-standing k h)
@@ -70,13 +70,13 @@ module _ (s : List ℕ) (ok : stateOk s ≡ true) (done : doneIn s ≡ true) whe
       let h : k < slotsIn s = omega (arith, network-length s) in
       rw (network-at s k h) (omega (arith, masks-length s, passing s ok .slots k h .board-there))
 
-  pub closed-passes : length (nextIn s) ≤ slotsMost → nodesOf (nextIn s) ≤ nodesMost → stateOk (stateOf (masksIn s) (nextIn s) (ticksIn s + 1)) ≡ true
+  pub closed-passes : length (nextIn s) ≤ slotsMost (formIn s) → nodesOf (nextIn s) ≤ nodesMost (formIn s) → stateOk (stateOf (formIn s) (masksIn s) (nextIn s) (ticksIn s + 1)) ≡ true
   closed-passes few-slots few-nodes =
       let c = passing s ok in
       let masks = masksIn s in
       let slots = nextIn s in
       let h = c .header in
-      written-passes p masks (c .masks-rule) (c .some-propositions) (c .few-propositions) (omega (arith, masks-length s, h .some-boards)) (omega (arith, masks-length s, h .few-boards))
+      written-passes (formIn s) p masks (c .masks-rule) (c .some-propositions) (c .few-propositions) (omega (arith, masks-length s, h .some-boards)) (omega (arith, masks-length s, h .few-boards))
       slots (close-some masks (networkOf s)) few-slots few-nodes
-      (each-slot (Fitting p masks (length slots)) slots (close-fits p masks (c .few-propositions) (c .masks-rule) (networkOf s) network-some network-standing network-there))
+      (each-slot (SlotFitting p masks (length slots)) slots (close-fits p masks (c .few-propositions) (c .masks-rule) (networkOf s) network-some network-standing network-there))
       (ticksIn s + 1) (close-once (chosen masks) (networkOf s) network-some network-standing)

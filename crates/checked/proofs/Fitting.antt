@@ -1,6 +1,6 @@
--- A slot as the state check asks for it where nothing is stepped: `Fitting`, for masks that follow their rule. Laying gives such slots:
--- `load-fits` for a rule, `close-fits` for any network whose slots are clean, no lone propositions of other boards, and hold higher
--- numbers alone. Assumes nothing.
+-- A slot as the state check asks for it where nothing is stepped: `SlotFitting`, for masks that follow their rule. Laying gives such
+-- slots: `load-fits` for a rule, `close-fits` for any network whose slots are clean, no lone propositions of other boards, and hold
+-- higher numbers alone. Assumes nothing.
 use mathlib.Core.Path.{_≡_, refl}
 use mathlib.Core.Bool.{true, false}
 use mathlib.Core.List.{List}
@@ -9,6 +9,7 @@ use Prim.Native.Nat.{ℕ, suc, _+_, _<_, _≤_}
 use native.Mathlib.Omega.{arith}
 use lib.ListN.{length, getD, length-append}
 use Rattle.lists.proofs.Tests.{both-true}
+use Rattle.limits.specs.Limits.{propositionsMost}
 use Rattle.kinds.specs.declared.Leaf.the-variants.{Const, Prop, Hold}
 use Rattle.ltl.specs.Formula.{Formula, leaf, one, two, Within}
 use Rattle.ltl.specs.Progression.{unfolded}
@@ -18,14 +19,14 @@ use Rattle.network.specs.Layout.{Slot, Laid, cut, rooted, orZero, noHold, laid,
 use Rattle.network.proofs.Owned.{Free, OwnTop}
 use Rattle.network.proofs.Laying.{HoldsIn, Kept, own-tops}
 use Rattle.network.proofs.Holding.{holds-map}
-use Rattle.network.proofs.Layouts.{EachSlot, each-both, Standing, load-elim, close-elim}
+use Rattle.network.proofs.Layouts.{EachSlot, each-both, SlotStanding, load-elim, close-elim}
 use Rattle.network.proofs.Settling.{free-only}
 use Rattle.network.proofs.Choosing.{chosen-there, masks-has, masks-below}
 use Rattle.state.specs.Clauses.{tidy, unfoldedOwn}
 
 module _ (p : ℕ) (masks : List ℕ) where
   -- slot n of `end`
-  pub record Fitting (end n : ℕ) (s : Slot) : Type 0 where
+  pub record SlotFitting (end n : ℕ) (s : Slot) : Type 0 where
     pub board-there : s .board < length masks
     pub within : Within p end (s .formula)
     pub tidied : tidy (s .formula) ≡ true
@@ -38,14 +39,14 @@ module _ (p : ℕ) (masks : List ℕ) where
     tidied : tidy (x .here) ≡ true
     above : HoldsIn (λ m. k ≤ m) (x .here)
     own : unfoldedOwn (getD masks b 0) (x .here) ≡ true
-    slots : EachSlot (Fitting end) k (x .slots)
+    slots : EachSlot (SlotFitting end) k (x .slots)
 
   -- for every end that has room for its slots
   abbrev PartFits : ℕ → ℕ → Formula → Laid → Type 0
   PartFits b k f x = (end : ℕ) → k + length (x .slots) ≤ end → PartFitting b k end x
 
   -- the slot that a part becomes
-  slot-fits : (b n k end : ℕ) (x : Laid) → b < length masks → n < k → PartFitting b k end x → Fitting end n (record { board = b; formula = x .here })
+  slot-fits : (b n k end : ℕ) (x : Laid) → b < length masks → n < k → PartFitting b k end x → SlotFitting end n (record { board = b; formula = x .here })
   slot-fits b n k end x l m r =
       record {
         board-there = l;
@@ -61,10 +62,10 @@ module _ (p : ℕ) (masks : List ℕ) where
       let r = h end (omega arith) in
       record { within = omega arith; tidied = refl; above = omega arith; own = refl; slots = (slot-fits c k (k + 1) end x l (omega arith) r, r .slots) }
 
-  rooted-fits : (b : ℕ) (f : Formula) (x : Laid) → b < length masks → PartFits b 1 f x → EachSlot (Fitting (length (rooted b x))) 0 (rooted b x)
+  rooted-fits : (b : ℕ) (f : Formula) (x : Laid) → b < length masks → PartFits b 1 f x → EachSlot (SlotFitting (length (rooted b x))) 0 (rooted b x)
   rooted-fits b f x l h = let r = h (suc (length (x .slots))) (omega arith) in (slot-fits b 0 1 (suc (length (x .slots))) x l (omega arith) r, r .slots)
 
-  module _ (few : p ≤ 64) (rule : masksRule p masks ≡ true) where
+  module _ (few : p ≤ propositionsMost) (rule : masksRule p masks ≡ true) where
     abbrev choose : Formula → Option ℕ
     choose = chosen masks
 
@@ -94,13 +95,13 @@ module _ (p : ℕ) (masks : List ℕ) where
                 tidied = both-true _ _ (r .tidied) (s .tidied);
                 above = (r .above, holds-map (λ m. k + length (x .slots) ≤ m) (λ m. k ≤ m) (λ m q. omega arith) (y .here) (s .above));
                 own = both-true _ _ (r .own) (s .own);
-                slots = each-both (Fitting end) k (k + length (x .slots)) (x .slots) (y .slots) refl (r .slots) (s .slots);
+                slots = each-both (SlotFitting end) k (k + length (x .slots)) (x .slots) (y .slots) refl (r .slots) (s .slots);
               });
           on-cut = λ b c k f x e h. cut-fits b c k f f x (chosen-there masks f c e) h;
         }
 
     -- ---- loading a rule
-    pub load-fits : (formula : Formula) → Free choose formula → 0 < length masks → EachSlot (Fitting (length (load choose formula))) 0 (load choose formula)
+    pub load-fits : (formula : Formula) → Free choose formula → 0 < length masks → EachSlot (SlotFitting (length (load choose formula))) 0 (load choose formula)
     unfolding load
     load-fits formula free some-boards =
         let f = unfolded formula in
@@ -113,9 +114,9 @@ module _ (p : ℕ) (masks : List ℕ) where
 
     -- ---- closing a network
     pub close-fits : (slots : List Slot) → 0 < length slots
-        → ((n : ℕ) → n < length slots → Standing choose (OwnTop choose) (length slots) n (slotAt slots n))
+        → ((n : ℕ) → n < length slots → SlotStanding choose (OwnTop choose) (length slots) n (slotAt slots n))
         → ((n : ℕ) → n < length slots → slotAt slots n .board < length masks)
-        → EachSlot (Fitting (length (close choose slots))) 0 (close choose slots)
+        → EachSlot (SlotFitting (length (close choose slots))) 0 (close choose slots)
     unfolding close
     close-fits slots some-slots all boards =
         let s = slotAt slots 0 in

@@ -1,63 +1,68 @@
--- What a state that passes its check is, as facts on numbers and formulas: `checked`. Others use it and its records: `Passing` of the
--- whole state, `HeaderPassing` of its counts and offsets, `BoardPassing` of a board, `SlotPassing` of a slot, whose formula is
--- `formulaAt s k`. Assumes nothing.
+-- What a state that passes its check is, as facts on numbers and formulas: `passing`. Others use it and its records: `Passing` of the
+-- whole state, `HeaderPassing` of its counts, `BoardPassing` of a board, `SlotPassing` of a slot, whose formula is `formulaAt s k`.
+-- `passing-sized` has the counts in range, `passing-stretched` each slot in its stretch. Assumes nothing.
 use mathlib.Core.Path.{_≡_, refl, sym, ap, _∙_}
 use mathlib.Core.Bool.{Bool, true, false, not}
 use mathlib.Core.List.{List}
 use mathlib.Core.Option.{Option, none, some}
 use Prim.Native.Nat.{ℕ, _+_, _<_, _≤_}
 use native.Mathlib.Omega.{arith}
-use lib.ListN.{length, drop, length-take, length-drop}
-use lib.Dec.{ltb, leb, eqb}
+use lib.ListN.{length}
+use lib.Dec.{ltb, eqb}
 use borrow.Author.Tests.{ltb-true, leb-true, eqb-true, ne-eqb, eq-eqb, not-true}
-use Rattle.ltl.specs.Decode.{someFormula}
-use Rattle.lists.specs.Tests.{pick, both, inRange}
+use Rattle.limits.specs.Limits.{boardsMost, propositionsMost}
+use Rattle.lists.specs.Tests.{pick, both}
 use Rattle.lists.proofs.Tests.{no-true, both-0, both-1, either-elim}
+use Rattle.ltl.specs.Decode.{someFormula}
 use Rattle.ltl.specs.Formula.{Formula, size, encode, Within, Coded}
 use Rattle.ltl.proofs.Decoding.{length-encode, decoded-is, over-within}
 use Rattle.masks.specs.Masks.{sumOnes, masksRule}
 use Rattle.network.specs.Tick.{holdsOnly}
-use Rattle.checking.specs.Header.{InStretch}
-use Rattle.checking.proofs.Each.{each-at, range-most}
-use Rattle.checking.proofs.Stretched.{in-stretch}
-use Rattle.state.specs.Fields.{stateLength, boardsIn, slotsIn, nodesIn, boardsOffsetIn, slotsOffsetIn, nodesOffsetIn, boardsAt, slotsAt, nodesAt, maskIn, sampleIn, sampledIn, masksIn, boardOfIn, steppedIn, startIn, lengthIn, stretchEnd, slotBytes, formulaIn}
-use Rattle.state.specs.Clauses.{inMask, eachTrue, tidy, unfoldedOwn, loneOther, distinct, isConstantIn, boardOk, recordOk, steppedOk, formulaOk, gapOk, holdersIn, headerOk, masksOk, restOk, stateOk}
+use Rattle.state.specs.declared.Counts.{Counts}
+use Rattle.state.specs.Form.{formIn, slotsMost, nodesMost, slotsAt, Formed}
+use Rattle.state.specs.Fields.{boardsIn, slotsIn, nodesIn, nodesFrom, maskIn, sampleIn, sampledIn, masksIn, boardOfIn, steppedIn, startIn, lengthIn, stretchEnd, slotBytes, formulaIn}
+use Rattle.state.specs.Clauses.{inMask, tidy, unfoldedOwn, loneOther, distinct, isConstantIn, boardOk, recordOk, steppedOk, formulaOk, gapOk, holdersIn, headerOk, masksOk, restOk, stateOk}
 use Rattle.state.specs.Bytes.{formulaAt}
+use Rattle.state.specs.Counted.{Sized, InStretch}
+use Rattle.state.proofs.Places.{bytes-length}
+use Rattle.records.proofs.Each.{one-true, each-at, range-most, range-some}
+use Rattle.records.proofs.Stretched.{in-stretch}
 use Rattle.checked.proofs.Checked.{checked}
 
 -- ---- the header and the masks
 pub record HeaderPassing (s : List ℕ) : Type 0 where
   pub some-boards : 1 ≤ boardsIn s
-  pub few-boards : boardsIn s ≤ 16
+  pub few-boards : boardsIn s ≤ boardsMost
   pub some-slots : 1 ≤ slotsIn s
-  pub few-slots : slotsIn s ≤ 64
+  pub few-slots : slotsIn s ≤ slotsMost (formIn s)
   pub some-nodes : 1 ≤ nodesIn s
-  pub few-nodes : nodesIn s ≤ 4096
-  pub boards-offset : boardsOffsetIn s ≡ boardsAt
-  pub slots-offset : slotsOffsetIn s ≡ slotsAt (boardsIn s)
-  pub nodes-offset : nodesOffsetIn s ≡ nodesAt (boardsIn s) (slotsIn s)
-
-range-some : (most n : ℕ) → inRange most n ≡ true → 1 ≤ n
-range-some most n e = leb-true 1 n (both-0 (leb 1 n) (leb n most) e)
+  pub few-nodes : nodesIn s ≤ nodesMost (formIn s)
 
 header-passing : (s : List ℕ) → headerOk s ≡ true → HeaderPassing s
-unfolding headerOk eachTrue
+unfolding headerOk
 header-passing s ok =
-    let a1 = both-1 _ _ ok in
-    let a2 = both-1 _ _ a1 in
-    let a3 = both-1 _ _ a2 in
-    let a4 = both-1 _ _ a3 in
-    let a5 = both-1 _ _ a4 in
     record {
-      some-boards = range-some 16 (boardsIn s) (both-0 _ _ ok);
-      few-boards = range-most 16 (boardsIn s) (both-0 _ _ ok);
-      some-slots = range-some 64 (slotsIn s) (both-0 _ _ a1);
-      few-slots = range-most 64 (slotsIn s) (both-0 _ _ a1);
-      some-nodes = range-some 4096 (nodesIn s) (both-0 _ _ a2);
-      few-nodes = range-most 4096 (nodesIn s) (both-0 _ _ a2);
-      boards-offset = eqb-true _ _ (both-0 _ _ a3);
-      slots-offset = eqb-true _ _ (both-0 _ _ a4);
-      nodes-offset = eqb-true _ _ (both-0 _ _ a5);
+      some-boards = range-some boardsMost (boardsIn s) (one-true _ 0 ok);
+      few-boards = range-most boardsMost (boardsIn s) (one-true _ 0 ok);
+      some-slots = range-some (slotsMost (formIn s)) (slotsIn s) (one-true _ 1 ok);
+      few-slots = range-most (slotsMost (formIn s)) (slotsIn s) (one-true _ 1 ok);
+      some-nodes = range-some (nodesMost (formIn s)) (nodesIn s) (one-true _ 2 ok);
+      few-nodes = range-most (nodesMost (formIn s)) (nodesIn s) (one-true _ 2 ok);
+    }
+
+-- the counts that the header has
+abbrev pub countsIn : List ℕ → Counts
+countsIn s =
+    record { boards = boardsIn s; slots = slotsIn s; nodes = nodesIn s; records = slotsAt (formIn s) (boardsIn s); stretches = nodesFrom s }
+
+header-fits : (s : List ℕ) → Formed s → HeaderPassing s → Sized s (countsIn s)
+header-fits s long h =
+    record {
+      header = record { boards-are = refl; slots-are = refl; nodes-are = refl; records-at = refl; stretches-at = refl };
+      long = long;
+      few-boards = h .few-boards;
+      few-slots = h .few-slots;
+      few-nodes = h .few-nodes;
     }
 
 -- ---- a board
@@ -103,10 +108,10 @@ pub record SlotPassing (s : List ℕ) (k : ℕ) : Type 0 where
 
 -- the whole
 pub record Passing (s : List ℕ) : Type 0 where
-  pub long : length s ≡ stateLength
+  pub long : Formed s
   pub header : HeaderPassing s
   pub some-propositions : 1 ≤ sumOnes (masksIn s)
-  pub few-propositions : sumOnes (masksIn s) ≤ 64
+  pub few-propositions : sumOnes (masksIn s) ≤ propositionsMost
   pub masks-rule : masksRule (sumOnes (masksIn s)) (masksIn s) ≡ true
   pub boards : (i : ℕ) → i < boardsIn s → BoardPassing s i
   pub starts : startIn s 0 ≡ 0
@@ -131,17 +136,7 @@ module _ (s : List ℕ) (k : ℕ) where
   unfolding pick
   when-stepped m e = ap marked (sym (eq-eqb (steppedIn s k) 1 e)) ∙ m
 
-  module _ (long : length s ≡ stateLength) (header : HeaderPassing s) (stretch : InStretch s k) where
-    bytes-length : length (slotBytes s k) ≡ lengthIn s k
-    bytes-length =
-        let at = nodesAt (boardsIn s) (slotsIn s) + startIn s k in
-        let b = header .few-boards in
-        let n = header .few-slots in
-        let m = header .few-nodes in
-        let u = stretch .used in
-        let e = stretch .ends in
-        length-take (lengthIn s k) (drop at s) ∙ omega (arith, length-drop at s)
-
+  module _ (sized : Sized s (countsIn s)) (stretch : InStretch s k) where
     slot-passing : recordOk s k ≡ true → formulaOk s (sumOnes (masksIn s)) k (formulaIn s k) ≡ true → gapOk s k ≡ true → SlotPassing s k
     unfolding recordOk
     slot-passing r f g =
@@ -165,7 +160,7 @@ module _ (s : List ℕ) (k : ℕ) where
           gap = g;
           reads = reads;
           bytes = text .1;
-          length-is = sym bytes-length ∙ ap length (text .1) ∙ length-encode (formulaAt s k);
+          length-is = sym (bytes-length s (countsIn s) sized k stretch) ∙ ap length (text .1) ∙ length-encode (formulaAt s k);
           coded = text .0;
           within = over-within p (slotsIn s) (formulaAt s k) (both-0 _ _ shape);
           tidied = both-0 _ _ shape1;
@@ -186,16 +181,22 @@ passing s ok =
     record {
       long = c .long;
       header = h;
-      some-propositions = range-some 64 p (both-0 _ _ m);
-      few-propositions = range-most 64 p (both-0 _ _ m);
+      some-propositions = range-some propositionsMost p (both-0 _ _ m);
+      few-propositions = range-most propositionsMost p (both-0 _ _ m);
       masks-rule = both-1 _ _ m;
       boards = λ i l. board-passing s i (each-at (boardOk s) (boardsIn s) i (c .boards) l);
       starts = c .starts;
       slots = λ k l.
-          slot-passing s k (c .long) h (in-stretch s (c .records) k l)
+          slot-passing s k (header-fits s (c .long) h) (in-stretch s (c .records) k l)
           (each-at (recordOk s) (slotsIn s) k (c .records) l)
           (each-at (λ k. formulaOk s p k (formulaIn s k)) (slotsIn s) k (c .formulas) l)
           (each-at (gapOk s) (slotsIn s) k (c .gaps) l);
       held-once = c .holders;
       rest = c .rest;
     }
+
+pub passing-sized : (s : List ℕ) → stateOk s ≡ true → Sized s (countsIn s)
+passing-sized s ok = let c = passing s ok in header-fits s (c .long) (c .header)
+
+pub passing-stretched : (s : List ℕ) → stateOk s ≡ true → (k : ℕ) → k < slotsIn s → InStretch s k
+passing-stretched s ok k l = let x = passing s ok .slots k l in record { used = x .used; ends = x .ends }

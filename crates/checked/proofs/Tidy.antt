@@ -8,6 +8,7 @@ use lib.ListN.{getD}
 use borrow.Author.Tests.{not-false}
 use Rattle.lists.specs.Tests.{bit}
 use Rattle.lists.proofs.Tests.{no-true, both-0, both-1, both-true}
+use Rattle.limits.specs.Limits.{propositionsMost}
 use Rattle.kinds.specs.declared.Leaf.the-variants.{Const, Prop, Hold}
 use Rattle.kinds.specs.declared.Unary.the-variants.{Not, Next, Ever}
 use Rattle.kinds.specs.declared.Binary.the-variants.{Joined, Until}
@@ -43,7 +44,7 @@ module _ (test : ℕ → Bool) where
   tidy-only (two Until f g) e h = both-true _ _ (none-only f (both-0 _ _ e)) (none-only g (both-1 _ _ e))
 
 -- ---- with masks that follow their rule
-module _ (p : ℕ) (masks : List ℕ) (few : p ≤ 64) (rule : masksRule p masks ≡ true) where
+module _ (p : ℕ) (masks : List ℕ) (few : p ≤ propositionsMost) (rule : masksRule p masks ≡ true) where
   none-free : (end : ℕ) (f : Formula) → Within p end f → holdsOnly (λ m. false) f ≡ true → Free (chosen masks) f
   unfolding holdsOnly
   none-free end (leaf (Const v)) w e = tt

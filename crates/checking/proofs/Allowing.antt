@@ -19,7 +19,7 @@ use Rattle.state.specs.Clauses.{tidy, unfoldedOwn, loneOther}
 use Rattle.slot_sets.specs.SlotSets.{hasSlot}
 use Rattle.slot_sets.proofs.Bits.{bit-all}
 use Rattle.scanning.specs.declared.Allowed.{Allowed}
-use Rattle.checking.proofs.Each.{both-false, both-last}
+use Rattle.records.proofs.Each.{both-false, both-last}
 use Rattle.scanning.proofs.Passes.{leafStands, stands}
 
 -- ---- tests regrouped

@@ -29,7 +29,7 @@ use Rattle.scanning.specs.declared.Held.{Held}
 use Rattle.scanning.specs.declared.Held.the-variants.{Slots, Wrong}
 use Rattle.scanning.specs.OnePass.{Fitted, at, pass, noted}
 use Rattle.checking.specs.Slotted.{holdableIn, Holdable, sampledFor, ownStepped, allowedIn, heldIn, formulasOk}
-use Rattle.checking.proofs.Each.{each-none, each-more, each-false, both-false}
+use Rattle.records.proofs.Each.{each-none, each-more, each-false, both-false}
 use Rattle.scanning.proofs.Passes.{stands, thereafter, noted-append}
 use Rattle.scanning.proofs.Owing.{checkedText, wrong-slots, pass-is}
 use Rattle.checking.proofs.Allowing.{holds-all, holds-same, own-unfolded, own-stepped, stands-so}

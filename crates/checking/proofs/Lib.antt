@@ -1,7 +1,4 @@
 -- Laws of the clauses.
-pub mod Each
-pub mod Stretched
-pub mod Tested
 pub mod Allowing
 pub mod Noting
 pub mod Records

@@ -15,8 +15,9 @@ use Rattle.lists.proofs.Listed.{listed-front}
 use Rattle.masks.specs.Masks.{sumOnes, masksRule}
 use Rattle.state.specs.Fields.{boardsIn, maskIn, masksIn}
 use Rattle.state.specs.Clauses.{masksOk}
-use Rattle.checking.specs.Header.{propositionsIn}
-use Rattle.checking.proofs.Each.{both-false, range-most}
+use Rattle.limits.specs.Limits.{propositionsMost}
+use Rattle.checking.specs.Masked.{propositionsIn}
+use Rattle.records.proofs.Each.{both-false, range-most}
 
 -- ---- in front of an array
 pub masks-front : (s found rest : List ℕ) (b : ℕ) → b ≡ boardsIn s → found ≡ listed (maskIn s) b ++ rest → take b found ≡ masksIn s
@@ -24,19 +25,19 @@ masks-front s found rest b q e = ap (take b) e ∙ listed-front (maskIn s) b res
 
 -- ---- the number of propositions
 module _ (s : List ℕ) where
-  pub ones-many : 64 < sumOnes (masksIn s) → propositionsIn s ≡ 0
+  pub ones-many : propositionsMost < sumOnes (masksIn s) → propositionsIn s ≡ 0
   unfolding propositionsIn masksOk pick both
-  ones-many h = rw (lt-leb (sumOnes (masksIn s)) 64 h, both-false (leb 1 (sumOnes (masksIn s))))
+  ones-many h = rw (lt-leb (sumOnes (masksIn s)) propositionsMost h, both-false (leb 1 (sumOnes (masksIn s))))
 
   pub rule-broken : masksRule (sumOnes (masksIn s)) (masksIn s) ≡ false → propositionsIn s ≡ 0
   unfolding propositionsIn masksOk pick
-  rule-broken e = rw (e, both-false (inRange 64 (sumOnes (masksIn s))))
+  rule-broken e = rw (e, both-false (inRange propositionsMost (sumOnes (masksIn s))))
 
-  pub rule-kept : sumOnes (masksIn s) ≤ 64 → masksRule (sumOnes (masksIn s)) (masksIn s) ≡ true → sumOnes (masksIn s) ≡ propositionsIn s
+  pub rule-kept : sumOnes (masksIn s) ≤ propositionsMost → masksRule (sumOnes (masksIn s)) (masksIn s) ≡ true → sumOnes (masksIn s) ≡ propositionsIn s
   unfolding propositionsIn masksOk pick both
   rule-kept h e =
       elim (decLt 0 (sumOnes (masksIn s))) [
-        | yes l ↦ rw (le-leb 1 (sumOnes (masksIn s)) l, le-leb (sumOnes (masksIn s)) 64 h, e)
+        | yes l ↦ rw (le-leb 1 (sumOnes (masksIn s)) l, le-leb (sumOnes (masksIn s)) propositionsMost h, e)
         | no l ↦ (let z : sumOnes (masksIn s) ≡ 0 = omega arith in z ∙ sym (zero-picked (masksOk s) z))
       ]
     where
@@ -49,18 +50,18 @@ module _ (s : List ℕ) where
   propositions-none h = go (masksOk s) refl h
     where
       go : (b : Bool) → masksOk s ≡ b → pick b (sumOnes (masksIn s)) 0 < 1 → b ≡ false
-      go true e l = let z = leb-true 1 (sumOnes (masksIn s)) (both-0 (leb 1 (sumOnes (masksIn s))) (leb (sumOnes (masksIn s)) 64) (both-0 _ _ e)) in absurd (omega arith)
+      go true e l = let z = leb-true 1 (sumOnes (masksIn s)) (both-0 (leb 1 (sumOnes (masksIn s))) (leb (sumOnes (masksIn s)) propositionsMost) (both-0 _ _ e)) in absurd (omega arith)
       go false e l = refl
 
-  pub record Ruled (p : ℕ) : Type 0 where
+  pub record MasksRuled (p : ℕ) : Type 0 where
     pub holds : masksOk s ≡ true
     pub sum : p ≡ sumOnes (masksIn s)
-    pub few : p ≤ 64
+    pub few : p ≤ propositionsMost
 
-  pub propositions-some : (p : ℕ) → p ≡ propositionsIn s → 1 ≤ p → Ruled p
+  pub propositions-some : (p : ℕ) → p ≡ propositionsIn s → 1 ≤ p → MasksRuled p
   unfolding propositionsIn pick masksOk
   propositions-some p q h = go (masksOk s) refl q
     where
-      go : (b : Bool) → masksOk s ≡ b → p ≡ pick b (sumOnes (masksIn s)) 0 → Ruled p
-      go true e r = let z = range-most 64 (sumOnes (masksIn s)) (both-0 _ _ e) in record { holds = e; sum = r; few = omega arith }
+      go : (b : Bool) → masksOk s ≡ b → p ≡ pick b (sumOnes (masksIn s)) 0 → MasksRuled p
+      go true e r = let z = range-most propositionsMost (sumOnes (masksIn s)) (both-0 _ _ e) in record { holds = e; sum = r; few = omega arith }
       go false e r = absurd (omega arith)

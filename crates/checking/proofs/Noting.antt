@@ -16,7 +16,7 @@ use Rattle.state.specs.Clauses.{among, distinct}
 use Rattle.scanning.specs.declared.Held.{Held}
 use Rattle.scanning.specs.declared.Held.the-variants.{Slots, Wrong}
 use Rattle.scanning.specs.OnePass.{noted}
-use Rattle.checking.proofs.Each.{both-false, both-last}
+use Rattle.records.proofs.Each.{both-false, both-last}
 
 -- ---- the slots below a number that pass a test, one more at a time
 abbrev pub Below : (ℕ → Bool) → ℕ → SlotSet → Type 0

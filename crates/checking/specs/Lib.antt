@@ -1,3 +1,3 @@
 -- What the contracts of `checking` cite.
-pub mod Header
+pub mod Masked
 pub mod Slotted

@@ -1,7 +1,7 @@
 -- The slots before k pass and their place holders are noted (`SeenBefore`); the slots left fall. Assumes nothing.
 use mathlib.Core.Path.{sym, _∙_}
 use Prim.Native.Nat.{_-_, _≤_}
-use Rattle.checking.proofs.Records.{placed}
+use Rattle.checking.proofs.Records.{slot-there}
 use Rattle.checking.proofs.Forming.{SeenBefore, seen-none, seen-more, seen-wrong, seen-all}
 use native.Mathlib.Omega.{arith}
 use borrow.Author.Needs.{needs}
@@ -27,7 +27,7 @@ formulas-ok-spec =
     (λ c κs. search needs)
     (λ c κs. search needs)
     (λ c. (omega arith, rw (c .no-slots .ensures) seen-none))
-    (λ c κs. let h = found (c .before) in let a = h .before .before .pre in (placed _ _ _ _ _ (a .0) (a .1) (c .loop-test .taken), a .2, h .holdable .ensures))
+    (λ c κs. let h = found (c .before) in let a = h .before .before .pre in (slot-there _ _ _ (a .0) (a .1) (c .loop-test .taken), a .2, h .holdable .ensures))
     (λ c. search needs)
     (λ c. search needs)
     (λ c. seen-wrong (c .before .before .before .before .loop .inv .1) _ (c .before .before .before .loop-test .taken) (sym (c .before .before .formula-held .ensures) ∙ c .enum-told .given .1))

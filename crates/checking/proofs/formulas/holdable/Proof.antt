@@ -5,8 +5,12 @@ use Prim.Native.Nat.{_-_, _≤_}
 use Rattle.state.specs.Fields.{slotsIn}
 use Rattle.checking.specs.Slotted.{holdableIn}
 use Rattle.checking.proofs.Noting.{Below, below-none, below-no, below-yes}
-use Rattle.checking.proofs.Records.{placed}
+use Rattle.checking.proofs.Records.{slot-there}
 use native.Mathlib.Omega.{arith}
+use Prim.Native.Nat.{_<_}
+use Rattle.limits.specs.Limits.{holderCodes}
+use Rattle.state.specs.Form.{formIn}
+use Rattle.state.proofs.Forms.{slots-coded}
 use borrow.Author.Needs.{needs}
 use Rattle.checking.proofs.formulas.holdable.Statement.{statement}
 use Rattle.checking.proofs.formulas.holdable.Tie as tie
@@ -21,6 +25,14 @@ abbrev μ-loop : tie.MeasureT-loop
 abbrev entry : tie.At-loop Inv-loop μ-loop → tie.Start Inv-loop μ-loop
 entry c = c .before .before .before
 
+-- a slot that is there has a place holder's code
+few : (c : tie.In-loop Inv-loop μ-loop) → c .before .loop .k < holderCodes
+few c =
+    let z = entry (c .before) .pre .0 .few-slots in
+    let f = slots-coded (formIn (entry (c .before) .args .s .now)) in
+    let l = c .loop-test .taken in
+    omega arith
+
 pub holdable-spec : {M : Type 1} → statement M
 holdable-spec =
     tie.close
@@ -29,9 +41,9 @@ holdable-spec =
     μ-loop
     (λ c κs. search needs)
     (λ c. (omega arith, rw (c .no-slots .ensures) (below-none _)))
-    (λ c κs. let a = entry (c .before) .pre in placed _ _ _ _ _ (a .0) (a .1) (c .loop-test .taken))
-    (λ c. let a = entry (c .before .before .before) .pre .0 in omega arith)
-    (λ c κs. let a = entry (c .before .before .before) .pre .0 in omega arith)
+    (λ c κs. let a = entry (c .before) .pre in slot-there _ _ _ (a .0) (a .1) (c .loop-test .taken))
+    (λ c. let z = few (c .before .before) in omega arith)
+    (λ c κs. let z = few (c .before .before) in omega arith)
     (λ c. search needs)
     (λ c. omega arith)
     (λ c. let i = c .before .before .before .loop .inv in let e = c .before .is-holdable .ensures in

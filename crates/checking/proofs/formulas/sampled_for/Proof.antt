@@ -1,36 +1,26 @@
 -- The test of the definition; a slot's board is there. Assumes nothing.
+use mathlib.Core.Path.{ap, _∙_}
+use Prim.Native.Nat.{ℕ}
+use lib.Dec.{eqb}
 use borrow.Author.Tests.{eq-eqb, ne-eqb}
+use borrow.Author.Needs.{needs}
 use Rattle.lists.specs.Tests.{either}
+use Rattle.state.specs.Fields.{sampledIn}
 use Rattle.checking.specs.Slotted.{sampledFor}
 use Rattle.checking.proofs.Records.{board-few}
-use native.Mathlib.Omega.{arith}
-use borrow.Author.Needs.{needs}
 use Rattle.checking.proofs.formulas.sampled_for.Statement.{statement}
 use Rattle.checking.proofs.formulas.sampled_for.Tie as tie
 
-returns : tie.Need-returns
-unfolding sampledFor either
-returns c = rw (← c .before .before .before .pre .sized .header .boards-are, ne-eqb _ _ (c .if1 .taken))
-
-returns-2 : tie.Need-returns-2
-unfolding sampledFor either
-returns-2 c = rw (← c .before .before .before .before .before .pre .sized .header .boards-are, eq-eqb _ _ (c .before .before .if1 .left))
-
 pub sampled-for-spec : {M : Type 1} → statement M
+unfolding sampledFor either
 sampled-for-spec =
     tie.close
     (tie.spec
+    (λ c κs. search needs)
+    (λ c. rw (← c .before .mark-of .ensures, ne-eqb _ _ (c .if1 .taken)))
+    (λ c κs. search needs)
     (λ c. search needs)
-    (λ c. search needs)
-    (λ c. search needs)
-    (λ c. search needs)
-    (λ c. search needs)
-    (λ c. search needs)
-    returns
-    (λ c. search needs)
-    (λ c. let b = board-few _ _ _ _ _ (c .before .before .before .before .pre) in omega arith)
-    (λ c. let b = board-few _ _ _ _ _ (c .before .before .before .before .pre) in omega arith)
-    (λ c. let b = board-few _ _ _ _ _ (c .before .before .before .before .pre) in omega arith)
-    (λ c. let b = board-few _ _ _ _ _ (c .before .before .before .before .pre) in omega arith)
-    (λ c. let b = board-few _ _ _ _ _ (c .before .before .before .before .before .pre) in omega arith)
-    returns-2)
+    (λ c κs. let p = c .before .before .before .before .pre in (p .sized .long, board-few p (c .board-of .ensures)))
+    (λ c. let t = c .before .before in let m = t .before in
+    rw (← m .mark-of .ensures, eq-eqb _ _ (t .if1 .left))
+    (ap (λ (n : ℕ). eqb n 1) (c .sampled-of .ensures ∙ ap (sampledIn (m .before .before .args .s .now)) (c .before .board-of .ensures)))))

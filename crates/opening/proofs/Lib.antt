@@ -1,0 +1,2 @@
+-- What is known of a state that was opened.
+pub mod Opened

@@ -1,0 +1,2 @@
+-- What the contracts of `opening` cite.
+pub mod Opening

@@ -1,0 +1,1 @@
+-- The contracts of `records` cite definitions of `state` alone.
