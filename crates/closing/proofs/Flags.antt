@@ -5,7 +5,7 @@ use Prim.Native.Nat.{ℕ, _+_, _<_, _≤_}
 use lib.Dec.{eqb}
 use borrow.Author.Tests.{eq-eqb, ne-eqb}
 use Rattle.state.specs.Clauses.{eachBelow}
-use Rattle.checking.proofs.Each.{Through, through-on, through-off, through-all}
+use Rattle.records.proofs.Each.{Through, through-on, through-off, through-all}
 
 -- the flag that is read is 1
 abbrev pub isSet : (ℕ → ℕ) → ℕ → Bool

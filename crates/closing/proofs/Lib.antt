@@ -1,5 +1,4 @@
 -- Laws of the call: what its functions ask of each other, its outcomes, and that its promise leaves no choice.
 pub mod Flags
-pub mod Advancing
 pub mod Outcomes
 pub mod Determined

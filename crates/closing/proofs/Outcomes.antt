@@ -18,7 +18,10 @@ use Rattle.answers.proofs.Answers.{left-refused, order-ok, order-refused}
 use Rattle.state.specs.Fields.{ticksIn}
 use Rattle.state.specs.Clauses.{stateOk}
 use Rattle.state.specs.Calls.{finishedIn, doneIn, closeSays}
-use Rattle.closing.specs.Close.{Closes, allSampled, allStepped, nextState, advanceSays, Advances}
+use Rattle.state.specs.Form.{formIn, stateLength}
+use Rattle.advancing.specs.Advance.{nextState, advanceSays, Advances}
+use Rattle.closing.specs.Close.{Closes}
+use Rattle.closing.specs.Done.{allSampled, allStepped}
 
 first-false : (a b : Bool) → a ≡ false → both a b ≡ false
 unfolding both
@@ -33,13 +36,13 @@ module _ (s second : List ℕ) where
   refusal : (why : Refusal) → closeSays s (length second) ≡ refused (numberOf why) → Closes s second second (Refused why)
   refusal why e = record { says = sym e; leaves = sym (ap (λ (x : Said). left x (nextState s) second) e ∙ left-refused why (nextState s) second) }
 
-  pub refused-length : (length second ≡ 4768 → ⊥) → Closes s second second (Refused Length)
+  pub refused-length : (length second ≡ stateLength (formIn s) → ⊥) → Closes s second second (Refused Length)
   unfolding closeSays
-  refused-length h = refusal Length (order-refused 1 _ _ _ (ne-eqb (length second) 4768 h))
+  refused-length h = refusal Length (order-refused 1 _ _ _ (ne-eqb (length second) (stateLength (formIn s)) h))
 
-  module _ (long : length second ≡ 4768) where
-    long-ok : eqb (length second) 4768 ≡ true
-    long-ok = eq-eqb (length second) 4768 long
+  module _ (long : length second ≡ stateLength (formIn s)) where
+    long-ok : eqb (length second) (stateLength (formIn s)) ≡ true
+    long-ok = eq-eqb (length second) (stateLength (formIn s)) long
 
     pub refused-state : stateOk s ≡ false → Closes s second second (Refused State)
     unfolding closeSays
@@ -51,13 +54,13 @@ module _ (s second : List ℕ) where
       refused-finished e = refusal Finished (order-ok 1 _ _ _ long-ok ∙ order-ok 9 _ _ _ ok ∙ order-refused 10 _ _ _ (ap not e))
 
 -- what the checks have told up to the boards'
-pub record Going (s second : List ℕ) : Type 0 where
-  pub long : length second ≡ 4768
+pub record CloseGoing (s second : List ℕ) : Type 0 where
+  pub long : length second ≡ stateLength (formIn s)
   pub passes : stateOk s ≡ true
   pub going : finishedIn s ≡ false
 
-module _ {s second : List ℕ} (g : Going s second) where
-  going-says : (cs : List Check) (t : Said) → inOrder (check 1 (eqb (length second) 4768) ∷ check 9 (stateOk s) ∷ check 10 (not (finishedIn s)) ∷ cs) t ≡ inOrder cs t
+module _ {s second : List ℕ} (g : CloseGoing s second) where
+  going-says : (cs : List Check) (t : Said) → inOrder (check 1 (eqb (length second) (stateLength (formIn s))) ∷ check 9 (stateOk s) ∷ check 10 (not (finishedIn s)) ∷ cs) t ≡ inOrder cs t
   going-says cs t = order-ok 1 _ _ _ (long-ok s second (g .long)) ∙ order-ok 9 _ _ _ (g .passes) ∙ order-ok 10 _ _ _ (ap not (g .going))
 
   unready : doneIn s ≡ false → Closes s second second (Refused Unready)

@@ -1,2 +1,3 @@
 -- What the contracts of `closing` cite.
 pub mod Close
+pub mod Done

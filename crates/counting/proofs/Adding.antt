@@ -5,8 +5,8 @@ use mathlib.Core.List.{List}
 use Prim.Native.Nat.{ℕ, _+_, _-_, _<_, _≤_}
 use native.Mathlib.Omega.{arith}
 use lib.ListN.{length, getD, drop, drop-of-length-le}
-use Rattle.limits.specs.Limits.{nodesMost}
-use Rattle.state.specs.Clauses.{slotsMost}
+use Rattle.kinds.specs.Kinds.{holdCode}
+use Rattle.limits.specs.Limits.{nodesRoom, slotsRoom}
 use Rattle.counting.specs.declared.Totals.{Totals}
 use Rattle.counting.specs.Totals.{capped}
 use Rattle.counting.specs.Held.{heldAt, heldOver, entryIn}
@@ -17,13 +17,13 @@ use Rattle.counting.proofs.Held.{held-low, held-high, over-next}
 module _ (slots nodes : List ℕ) (b : ℕ) (t : Totals) where
   -- what was counted before, and what the byte adds
   abbrev pub After : Totals → Type 0
-  After r = (r .slots ≡ capped slotsMost (t .slots + heldAt (entryIn slots) b)) × (r .nodes ≡ capped nodesMost (t .nodes + heldAt (entryIn nodes) b))
+  After r = (r .slots ≡ capped slotsRoom (t .slots + heldAt (entryIn slots) b)) × (r .nodes ≡ capped nodesRoom (t .nodes + heldAt (entryIn nodes) b))
 
-  pub after-low : b < 128 → t .slots ≤ 65 → t .nodes ≤ 4097 → After t
+  pub after-low : b < holdCode → t .slots ≤ slotsRoom + 1 → t .nodes ≤ nodesRoom + 1 → After t
   after-low h ls ln = let x = held-low (entryIn slots) b h in let y = held-low (entryIn nodes) b h in (omega arith, omega arith)
 
-  pub after-high : 128 ≤ b → (r : Totals) → r .slots ≡ capped slotsMost (t .slots + getD slots (b - 128) 0)
-      → r .nodes ≡ capped nodesMost (t .nodes + getD nodes (b - 128) 0) → After r
+  pub after-high : holdCode ≤ b → (r : Totals) → r .slots ≡ capped slotsRoom (t .slots + getD slots (b - holdCode) 0)
+      → r .nodes ≡ capped nodesRoom (t .nodes + getD nodes (b - holdCode) 0) → After r
   after-high h r es en = let x = held-high (entryIn slots) b h in let y = held-high (entryIn nodes) b h in (omega arith, omega arith)
 
 -- ---- the pass over the bytes
@@ -32,10 +32,10 @@ over-end entry p i h = ap (heldOver entry) (drop-of-length-le p h)
 
 -- the bytes before place i are added
 pub record Added (slots nodes p : List ℕ) (i : ℕ) (t : Totals) : Type 0 where
-  pub few-slots : t .slots ≤ 65
-  pub few-nodes : t .nodes ≤ 4097
-  pub slots-are : capped slotsMost (t .slots + heldOver (entryIn slots) (drop i p)) ≡ capped slotsMost (heldOver (entryIn slots) p)
-  pub nodes-are : capped nodesMost (t .nodes + heldOver (entryIn nodes) (drop i p)) ≡ capped nodesMost (heldOver (entryIn nodes) p)
+  pub few-slots : t .slots ≤ slotsRoom + 1
+  pub few-nodes : t .nodes ≤ nodesRoom + 1
+  pub slots-are : capped slotsRoom (t .slots + heldOver (entryIn slots) (drop i p)) ≡ capped slotsRoom (heldOver (entryIn slots) p)
+  pub nodes-are : capped nodesRoom (t .nodes + heldOver (entryIn nodes) (drop i p)) ≡ capped nodesRoom (heldOver (entryIn nodes) p)
 
 pub added-none : {slots nodes p : List ℕ} → Added slots nodes p 0 (record { slots = 0; nodes = 0 })
 added-none = record { few-slots = omega arith; few-nodes = omega arith; slots-are = omega arith; nodes-are = omega arith }

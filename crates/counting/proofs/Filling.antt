@@ -1,5 +1,5 @@
 -- The tables filled from the last slot down: none yet (`filled-none`), one slot more (`filled-more`), and all (`filled-all`). A state has
--- at most 64 slots (`known-few`). Assumes nothing.
+-- no more slots than there is room for (`known-few`). Assumes nothing.
 use mathlib.Core.Path.{_≡_, sym, ap, _∙_}
 use mathlib.Core.Bool.{true}
 use mathlib.Core.List.{List}
@@ -9,19 +9,23 @@ use native.Mathlib.Nat.{eq-or-lt-of-le}
 use native.Mathlib.Omega.{arith}
 use lib.ListN.{length, getD, set, length-set}
 use lib.Seq.{getD-set-same, getD-set-other}
-use Rattle.limits.specs.Limits.{nodesMost}
+use Rattle.limits.specs.Limits.{nodesRoom, slotsRoom}
 use Rattle.ltl.specs.Formula.{encode}
 use Rattle.ltl.specs.Progression.{unfolded}
 use Rattle.network.specs.Scores.{chosen}
 use Rattle.network.proofs.Holding.{holds-map}
+use Rattle.state.specs.declared.Counts.{Counts}
+use Rattle.state.specs.Form.{formIn}
+use Rattle.state.proofs.Forms.{slots-few}
+use Rattle.opening.proofs.Opened.{opened-sized}
 use Rattle.state.specs.Fields.{slotsIn, masksIn, boardOfIn}
-use Rattle.state.specs.Clauses.{slotsMost, stateOk}
+use Rattle.state.specs.Clauses.{stateOk}
 use Rattle.state.specs.Bytes.{formulaAt}
 use Rattle.state.specs.Calls.{nextIn}
 use Rattle.laying.proofs.Counting.{held}
 use Rattle.checked.proofs.Passing.{passing}
 use Rattle.counting.specs.declared.Totals.{Totals}
-use Rattle.counting.specs.Known.{Known}
+use Rattle.counting.specs.OpenedWith.{OpenedWith}
 use Rattle.counting.specs.Totals.{capped, Totalled}
 use Rattle.counting.specs.Held.{heldOver, entryIn}
 use Rattle.counting.specs.Tables.{Tables, CountedOn}
@@ -29,8 +33,8 @@ use Rattle.counting.proofs.Held.{clean-held}
 use Rattle.counting.proofs.Summing.{unfolded-held, held-capped}
 use Rattle.counting.proofs.Networks.{slotsOfSlot, nodesOfSlot, slot-clean, slot-higher, slots-at, nodes-at, next-slots, next-nodes}
 
-pub known-few : {s : List ℕ} {boards slots nodes : ℕ} {owner : List ℕ} → Known s boards slots nodes owner → slots ≤ 64
-known-few {s} known = let h = passing s (known .passes) .header .few-slots in let e = known .header .slots-are in omega arith
+pub known-few : {s : List ℕ} {c : Counts} {owner : List ℕ} → OpenedWith s c owner → c .slots ≤ slotsRoom
+known-few {s} known = let h = opened-sized (known .opened) .few-slots in let f = slots-few (formIn s) in omega arith
 
 -- the entries from k on are capped counts, of the first n slots
 abbrev pub From : (most n k : ℕ) → (ℕ → ℕ) → List ℕ → Type 0
@@ -48,8 +52,8 @@ from-more most n k count entries j x l short from e m a b =
 -- the tables have what the slots from k on count
 pub record Filled (s : List ℕ) (k : ℕ) (slots nodes : List ℕ) : Type 0 where
   pub tables : Tables slots nodes
-  pub slots-are : From slotsMost (slotsIn s) k (slotsOfSlot s) slots
-  pub nodes-are : From nodesMost (slotsIn s) k (nodesOfSlot s) nodes
+  pub slots-are : From slotsRoom (slotsIn s) k (slotsOfSlot s) slots
+  pub nodes-are : From nodesRoom (slotsIn s) k (nodesOfSlot s) nodes
 
 pub filled-none : {s : List ℕ} {k : ℕ} {slots nodes : List ℕ} → k ≡ slotsIn s → Tables slots nodes → Filled s k slots nodes
 filled-none e t = record { tables = t; slots-are = λ m a b. absurd (omega arith); nodes-are = λ m a b. absurd (omega arith) }
@@ -71,22 +75,23 @@ module _ {s : List ℕ} {k : ℕ} {slots nodes : List ℕ} (ok : stateOk s ≡ t
       → Filled s j (set slots j (r .slots)) (set nodes j (r .nodes))
   filled-more {j} l a {r} counted =
       let few = passing s ok .header .few-slots in
+      let room = slots-few (formIn s) in
       let ls = filled .tables .slots-long in
       let ln = filled .tables .nodes-long in
-      let hs = held-is s ok slotsMost j k (slotsOfSlot s) slots l a (filled .slots-are) in
-      let hn = held-is s ok nodesMost j k (nodesOfSlot s) nodes l a (filled .nodes-are) in
+      let hs = held-is s ok slotsRoom j k (slotsOfSlot s) slots l a (filled .slots-are) in
+      let hn = held-is s ok nodesRoom j k (nodesOfSlot s) nodes l a (filled .nodes-are) in
       let ns = slots-at s ok j l in
       let nn = nodes-at s ok j l in
       record {
         tables = record { slots-long = length-set slots j (r .slots) ∙ ls; nodes-long = length-set nodes j (r .nodes) ∙ ln };
-        slots-are = from-more slotsMost (slotsIn s) k (slotsOfSlot s) slots j (r .slots) a (omega arith) (filled .slots-are) (let e = counted .slots-are in omega arith);
-        nodes-are = from-more nodesMost (slotsIn s) k (nodesOfSlot s) nodes j (r .nodes) a (omega arith) (filled .nodes-are) (let e = counted .nodes-are in omega arith);
+        slots-are = from-more slotsRoom (slotsIn s) k (slotsOfSlot s) slots j (r .slots) a (omega arith) (filled .slots-are) (let e = counted .slots-are in omega arith);
+        nodes-are = from-more nodesRoom (slotsIn s) k (nodesOfSlot s) nodes j (r .nodes) a (omega arith) (filled .nodes-are) (let e = counted .nodes-are in omega arith);
       }
 
   pub filled-all : k ≤ 0 → Totalled (nextIn s) (record { slots = getD slots 0 0; nodes = getD nodes 0 0 })
   filled-all l =
       let some = passing s ok .header .some-slots in
       record {
-        slots-are = filled .slots-are 0 (omega arith) (omega arith) ∙ ap (capped slotsMost) (sym (next-slots s ok));
-        nodes-are = filled .nodes-are 0 (omega arith) (omega arith) ∙ ap (capped nodesMost) (sym (next-nodes s ok));
+        slots-are = filled .slots-are 0 (omega arith) (omega arith) ∙ ap (capped slotsRoom) (sym (next-slots s ok));
+        nodes-are = filled .nodes-are 0 (omega arith) (omega arith) ∙ ap (capped nodesRoom) (sym (next-nodes s ok));
       }

@@ -15,20 +15,20 @@ use Rattle.lists.specs.Tests.{pick}
 use Rattle.kinds.specs.declared.Leaf.the-variants.{Const, Prop, Hold}
 use Rattle.kinds.specs.declared.Unary.the-variants.{Not, Next, Ever}
 use Rattle.kinds.specs.declared.Binary.the-variants.{Joined, Until}
-use Rattle.kinds.specs.Kinds.{unaryCode, binaryCode}
+use Rattle.kinds.specs.Kinds.{unaryCode, binaryCode, propCode, holdCode}
 use Rattle.ltl.specs.Formula.{Formula, leaf, one, two, encode, Coded}
 use Rattle.network.proofs.Owned.{Free, Clean}
 use Rattle.laying.proofs.Counting.{held}
 use Rattle.counting.specs.Held.{heldAt, heldOver}
 
 module _ (entry : ℕ → ℕ) where
-  pub held-low : (b : ℕ) → b < 128 → heldAt entry b ≡ 0
+  pub held-low : (b : ℕ) → b < holdCode → heldAt entry b ≡ 0
   unfolding heldAt pick
-  held-low b h = rw (lt-ltb b 128 h)
+  held-low b h = rw (lt-ltb b holdCode h)
 
-  pub held-high : (b : ℕ) → 128 ≤ b → heldAt entry b ≡ entry (b - 128)
+  pub held-high : (b : ℕ) → holdCode ≤ b → heldAt entry b ≡ entry (b - holdCode)
   unfolding heldAt pick
-  held-high b h = rw (le-ltb b 128 h)
+  held-high b h = rw (le-ltb b holdCode h)
 
   pub over-append : (p q : List ℕ) → heldOver entry (p ++ q) ≡ heldOver entry p + heldOver entry q
   over-append [] q = omega arith
@@ -43,7 +43,7 @@ module _ (entry : ℕ → ℕ) where
     free-over : (f : Formula) → Coded f → Free choose f → heldOver entry (encode f) ≡ 0
     free-over (leaf (Const true)) w x = omega (arith, held-low 1 (omega arith))
     free-over (leaf (Const false)) w x = omega (arith, held-low 0 (omega arith))
-    free-over (leaf (Prop i)) w x = omega (arith, held-low (64 + i) (omega arith))
+    free-over (leaf (Prop i)) w x = omega (arith, held-low (propCode + i) (omega arith))
     free-over (leaf (Hold m)) w x = absurd x
     free-over (one o f) w x = omega (arith, held-low (unaryCode o) (unary-low o), free-over f w x)
     free-over (two o f g) w x =
@@ -53,8 +53,8 @@ module _ (entry : ℕ → ℕ) where
     clean-held (leaf (Const v)) w x = free-over (leaf (Const v)) w x
     clean-held (leaf (Prop i)) w x = free-over (leaf (Prop i)) w x
     clean-held (leaf (Hold m)) w x =
-        let e : 128 + m - 128 ≡ m = omega arith in
-        let q = held-high (128 + m) (omega arith) ∙ ap entry e in
+        let e : holdCode + m - holdCode ≡ m = omega arith in
+        let q = held-high (holdCode + m) (omega arith) ∙ ap entry e in
         omega arith
     clean-held (one Not f) w x = omega (arith, held-low (unaryCode Not) (unary-low Not), clean-held f w x)
     clean-held (one Next f) w x = free-over (one Next f) w x

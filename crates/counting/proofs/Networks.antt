@@ -20,7 +20,7 @@ use Rattle.state.specs.Fields.{slotsIn, masksIn, boardOfIn}
 use Rattle.state.specs.Clauses.{stateOk}
 use Rattle.state.specs.Bytes.{nodesOf, formulaAt, networkOf}
 use Rattle.state.specs.Calls.{nextIn}
-use Rattle.state.proofs.Rows.{network-length, network-at}
+use Rattle.state.proofs.Listed.{network-length, network-at}
 use Rattle.cutting.specs.Cuts.{cutsOn}
 use Rattle.laying.proofs.Counting.{held}
 use Rattle.checked.proofs.Passing.{passing}

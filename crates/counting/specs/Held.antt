@@ -3,11 +3,12 @@ use Prim.Native.Nat.{ℕ, _+_, _-_}
 use mathlib.Core.List.{List, [], _∷_}
 use lib.ListN.{getD}
 use lib.Dec.{ltb}
+use Rattle.kinds.specs.Kinds.{holdCode}
 use Rattle.lists.specs.Tests.{pick}
 
 -- what a byte adds: a place holder its slot's entry, any other node nothing
 unfoldable pub heldAt : (ℕ → ℕ) → ℕ → ℕ
-heldAt entry b = pick (ltb b 128) 0 (entry (b - 128))
+heldAt entry b = pick (ltb b holdCode) 0 (entry (b - holdCode))
 
 -- what some bytes add together
 abbrev pub heldOver : (ℕ → ℕ) → List ℕ → ℕ

@@ -1,5 +1,5 @@
 -- What the contracts of `counting` cite.
-pub mod Known
+pub mod OpenedWith
 pub mod Totals
 pub mod Held
 pub mod Tables

@@ -3,9 +3,8 @@ use mathlib.Core.Path.{_≡_}
 use Prim.Native.Nat.{ℕ, _+_, min}
 use mathlib.Core.List.{List}
 use lib.ListN.{length}
-use Rattle.limits.specs.Limits.{nodesMost}
+use Rattle.limits.specs.Limits.{nodesRoom, slotsRoom}
 use Rattle.network.specs.Layout.{Slot}
-use Rattle.state.specs.Clauses.{slotsMost}
 use Rattle.state.specs.Bytes.{nodesOf}
 use Rattle.counting.specs.declared.Totals.{Totals}
 
@@ -15,5 +14,5 @@ capped most n = min n (most + 1)
 
 -- the counts are the network's
 pub record Totalled (network : List Slot) (r : Totals) : Type 0 where
-  pub slots-are : r .slots ≡ capped slotsMost (length network)
-  pub nodes-are : r .nodes ≡ capped nodesMost (nodesOf network)
+  pub slots-are : r .slots ≡ capped slotsRoom (length network)
+  pub nodes-are : r .nodes ≡ capped nodesRoom (nodesOf network)

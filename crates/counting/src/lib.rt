@@ -2,23 +2,21 @@
 // numbers alone, so the last one is counted first: each counts its own cuts and nodes, and what the slots count that it holds.
 ghost use mathlib.Core.Path.{_≡_};
 ghost use Prim.Native.Nat.{_+_, _<_, _≤_, _^_};
-ghost use Rattle.limits.specs.Limits.{nodesMost};
+ghost use Rattle.kinds.specs.Kinds.{holdCode};
+ghost use Rattle.limits.specs.Limits.{nodesRoom, slotsRoom};
 ghost use Rattle.state.specs.Fields.{masksIn, boardOfIn};
-ghost use Rattle.state.specs.Clauses.{slotsMost};
 ghost use Rattle.state.specs.Bytes.{formulaAt};
 ghost use Rattle.state.specs.Calls.{nextIn};
 ghost use Rattle.checked.specs.Holds.{Holds};
-ghost use Rattle.counting.specs.Known.{Known};
+ghost use Rattle.counting.specs.OpenedWith.{OpenedWith};
 ghost use Rattle.counting.specs.Totals.{capped, Totalled};
 ghost use Rattle.counting.specs.Held.{heldAt, entryIn};
 ghost use Rattle.counting.specs.Tables.{Tables, HeldBy, FormulaAsk, CountedOn, CountsOn};
-use checking::Counts;
-use checking::Span;
 use kinds::Kind;
 use limits::NODES_ROOM;
-
-// The most slots.
-const SLOTS_MOST: usize = 64;
+use limits::SLOTS_ROOM;
+use state::Counts;
+use state::Span;
 
 // How many slots and nodes there are; what is over a limit counts as one more than it.
 pub struct Totals {
@@ -28,7 +26,7 @@ pub struct Totals {
 
 // A count, or one more than the most where it is over.
 fn cap(n: usize, most: usize) -> usize
-    requires { ⌜ most ≤ nodesMost ⌝ }
+    requires { ⌜ most ≤ nodesRoom ⌝ }
     ensures { λ r. ⌜ r ≡ capped most n ⌝ }
 {
     if n <= most { n } else { most + 1 }
@@ -37,18 +35,18 @@ fn cap(n: usize, most: usize) -> usize
 // Two counts in one.
 fn together(a: Totals, b: Totals) -> Totals
     requires { ⌜ (a .slots + b .slots < 2 ^ 64) × (a .nodes + b .nodes < 2 ^ 64) ⌝ }
-    ensures { λ r. ⌜ (r .slots ≡ capped slotsMost (a .slots + b .slots)) × (r .nodes ≡ capped nodesMost (a .nodes + b .nodes)) ⌝ }
+    ensures { λ r. ⌜ (r .slots ≡ capped slotsRoom (a .slots + b .slots)) × (r .nodes ≡ capped nodesRoom (a .nodes + b .nodes)) ⌝ }
 {
     Totals {
-        slots: cap(a.slots + b.slots, SLOTS_MOST),
+        slots: cap(a.slots + b.slots, SLOTS_ROOM),
         nodes: cap(a.nodes + b.nodes, NODES_ROOM),
     }
 }
 
 // One node further: a place holder adds what its slot counts.
 fn after(b: u8, t: Totals, slots: &[u8], nodes: &[u16]) -> Totals
-    requires { ⌜ Tables (now slots) (now nodes) × (b < 128 + slotsMost) × (t .slots ≤ slotsMost + 1) × (t .nodes ≤ nodesMost + 1) ⌝ }
-    ensures { λ r. ⌜ (r .slots ≡ capped slotsMost (t .slots + heldAt (entryIn (now (slots .entry))) b)) × (r .nodes ≡ capped nodesMost (t .nodes + heldAt (entryIn (now (nodes .entry))) b)) ⌝ }
+    requires { ⌜ Tables (now slots) (now nodes) × (b < holdCode + slotsRoom) × (t .slots ≤ slotsRoom + 1) × (t .nodes ≤ nodesRoom + 1) ⌝ }
+    ensures { λ r. ⌜ (r .slots ≡ capped slotsRoom (t .slots + heldAt (entryIn (now (slots .entry))) b)) × (r .nodes ≡ capped nodesRoom (t .nodes + heldAt (entryIn (now (nodes .entry))) b)) ⌝ }
 {
     if b < Kind::HOLD {
         return t;
@@ -67,7 +65,7 @@ fn after(b: u8, t: Totals, slots: &[u8], nodes: &[u16]) -> Totals
 
 // What the slots count that the place holders among the bytes p stand for.
 fn held_by(p: &[u8], slots: &[u8], nodes: &[u16]) -> Totals
-    requires { ⌜ Tables (now slots) (now nodes) × Holds slotsMost (now p) ⌝ }
+    requires { ⌜ Tables (now slots) (now nodes) × Holds slotsRoom (now p) ⌝ }
     ensures { λ r. ⌜ HeldBy (now (slots .entry)) (now (nodes .entry)) (now (p .entry)) r ⌝ }
 {
     let mut t = Totals { slots: 0, nodes: 0 };
@@ -105,17 +103,17 @@ fn count_slot(
     slots: &[u8],
     nodes: &[u16],
 ) -> Totals
-    requires { ⌜ Known (now state) (c .boards) (c .slots) (c .nodes) (now owner) × (k < c .slots) × Tables (now slots) (now nodes) ⌝ }
+    requires { ⌜ OpenedWith (now state) c (now owner) × (k < c .slots) × Tables (now slots) (now nodes) ⌝ }
     ensures { λ r. ⌜ CountedOn (masksIn (now (state .entry))) (now (slots .entry)) (now (nodes .entry)) (formulaAt (now (state .entry)) k) (boardOfIn (now (state .entry)) k) r ⌝ }
 {
-    let Span { from, to } = checking::span_of(state, c, k);
-    let board = state[16 + 17 * c.boards + 6 * k];
+    let Span { from, to } = state::span_of(state, c, k);
+    let board = state::board_of(state, c, k);
     count_formula(&state[from..to], board, owner, slots, nodes)
 }
 
 // Counts every slot into the tables, the last one first; what the first slot counts is the whole.
 fn count_down(state: &[u8], c: Counts, owner: &[u8], slots: &mut [u8], nodes: &mut [u16]) -> Totals
-    requires { ⌜ Known (now state) (c .boards) (c .slots) (c .nodes) (now owner) × Tables (now slots) (now nodes) ⌝ }
+    requires { ⌜ OpenedWith (now state) c (now owner) × Tables (now slots) (now nodes) ⌝ }
     ensures { λ r. ⌜ Totalled (nextIn (now (state .entry))) r ⌝ }
 {
     let mut k = c.slots;
@@ -135,10 +133,10 @@ fn count_down(state: &[u8], c: Counts, owner: &[u8], slots: &mut [u8], nodes: &m
 
 // The slots and nodes of the network that the state closes to.
 pub fn count_next(state: &[u8], c: Counts, owner: &[u8]) -> Totals
-    requires { ⌜ Known (now state) (c .boards) (c .slots) (c .nodes) (now owner) ⌝ }
+    requires { ⌜ OpenedWith (now state) c (now owner) ⌝ }
     ensures { λ r. ⌜ Totalled (nextIn (now (state .entry))) r ⌝ }
 {
-    let mut slots = [0u8; SLOTS_MOST];
-    let mut nodes = [0u16; SLOTS_MOST];
+    let mut slots = [0u8; SLOTS_ROOM];
+    let mut nodes = [0u16; SLOTS_ROOM];
     count_down(state, c, owner, &mut slots, &mut nodes)
 }

@@ -8,6 +8,7 @@ use mathlib.Core.Option.{Option, none, some}
 use Prim.Native.Nat.{ℕ, _+_, _-_, _*_}
 use native.Mathlib.Omega.{arith}
 use lib.ListN.{length, getD, length-append}
+use Rattle.state.specs.Form.{slotRow, slotRows}
 use Rattle.lists.specs.Tests.{pick}
 use Rattle.lists.proofs.Tests.{no-true}
 use Rattle.kinds.specs.declared.Unary.the-variants.{Not}
@@ -89,13 +90,13 @@ module _ (choose : Formula → Option ℕ) (hold : ℕ → ℕ → Laid) {at : P
         let l = length-append (X .slots) (Y (length (X .slots)) .slots) in
         record { here = omega arith; nodes = omega arith; records = omega arith; slots = omega arith; numbers = omega arith }
 
-    pub fits-right : {q s q′ s′ : List ℕ} {x : Lain} → Lays X (inner at) q s q′ s′ x → Fits (Y (x .slots)) (behind at x) (p - (1 + x .here)) (r - 6 * x .slots)
+    pub fits-right : {q s q′ s′ : List ℕ} {x : Lain} → Lays X (inner at) q s q′ s′ x → Fits (Y (x .slots)) (behind at x) (p - (1 + x .here)) (r - slotRows (x .slots))
     unfolding laid
     fits-right {x = x} y =
         let n = nodes-both (X .slots) (Y (length (X .slots)) .slots) in
         let l = length-append (X .slots) (Y (length (X .slots)) .slots) in
-        subst (λ (n : ℕ). Fits (Y n) (behind at x) (p - (1 + x .here)) (r - 6 * x .slots)) (sym (y .slots-are))
+        subst (λ (n : ℕ). Fits (Y n) (behind at x) (p - (1 + x .here)) (r - slotRows (x .slots))) (sym (y .slots-are))
         (record { here = omega arith; nodes = omega arith; records = omega arith; slots = omega arith; numbers = omega arith })
 
-pub fits-slot : {X : Laid} {at : Place} {p r : ℕ} (board n : ℕ) → n ≡ size (X .here) → Fits (cut board (at .slot) X) at p r → Fits X (owned at board n) (p - at .gap) (r - 6)
+pub fits-slot : {X : Laid} {at : Place} {p r : ℕ} (board n : ℕ) → n ≡ size (X .here) → Fits (cut board (at .slot) X) at p r → Fits X (owned at board n) (p - at .gap) (r - slotRow)
 fits-slot board n e h = record { here = omega arith; nodes = omega arith; records = omega arith; slots = omega arith; numbers = omega arith }

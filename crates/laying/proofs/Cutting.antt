@@ -7,6 +7,7 @@ use mathlib.Core.Option.{Option}
 use Prim.Native.Nat.{ℕ, _+_, _*_}
 use native.Mathlib.Omega.{arith}
 use lib.ListN.{length, getD, drop, set}
+use Rattle.state.specs.Form.{slotRow, slotRows}
 use Rattle.lists.specs.Runs.{tail, tailAs}
 use Rattle.kinds.specs.declared.Leaf.{Leaf}
 use Rattle.kinds.specs.declared.Leaf.the-variants.{Const, Prop, Hold}
@@ -86,19 +87,19 @@ module _ {u tags : List ℕ} {at : Place} {p r : List ℕ} where
           (omega arith, lays-one Not (looked (choose g) (at .board) (at .slot) (laid choose hold g)) at p r q r′ y (l .1) z (e .1))
 
   -- ---- two operands
-  pub pair-cuts : {q r1 q2 r2 : List ℕ} {x y : Lain} (z : Lain) (j : IsJoin u)
+  pair-lays : {q r1 q2 r2 : List ℕ} {x y : Lain} (z : Lain) (j : IsJoin u)
       → Looks (tail 1 u) (tail 1 tags) (inner at) (tail 1 (set p 0 (getD u 0 0))) r q r1 x
-      → Looks (tail (1 + x .read) u) (tail (1 + x .read) tags) (behind at x) (tail (1 + x .here) (tailAs 1 (set p 0 (getD u 0 0)) q)) (tail (6 * x .slots) r1) q2 r2 y
+      → Looks (tail (1 + x .read) u) (tail (1 + x .read) tags) (behind at x) (tail (1 + x .here) (tailAs 1 (set p 0 (getD u 0 0)) q)) (tail (slotRows (x .slots)) r1) q2 r2 y
       → Numbers z (1 + x .read + y .read) (1 + x .here + y .here) (x .slots + y .slots) (x .nodes + y .nodes)
-      → Cuts u tags at p r (tailAs (1 + x .here) (tailAs 1 (set p 0 (getD u 0 0)) q) q2) (tailAs (6 * x .slots) r1 r2) z
+      → Cuts u tags at p r (tailAs (1 + x .here) (tailAs 1 (set p 0 (getD u 0 0)) q) q2) (tailAs (slotRows (x .slots)) r1 r2) z
   unfolding laid
-  pair-cuts {q} {r1} {q2} {r2} {x} {y} z j h i e choose hold f rest s front m = go (tops pair (j .kind) front m)
+  pair-lays {q} {r1} {q2} {r2} {x} {y} z j h i e choose hold f rest s front m = go (tops pair (j .kind) front m)
     where
       go : {g : Formula} → Top choose u tags rest g (Two (Joined (j .by)))
-          → (z .read ≡ size g) × Lays (laid choose hold g (at .board) (at .slot)) at p r (tailAs (1 + x .here) (tailAs 1 (set p 0 (getD u 0 0)) q) q2) (tailAs (6 * x .slots) r1 r2) z
+          → (z .read ≡ size g) × Lays (laid choose hold g (at .board) (at .slot)) at p r (tailAs (1 + x .here) (tailAs 1 (set p 0 (getD u 0 0)) q) q2) (tailAs (slotRows (x .slots)) r1 r2) z
       go (overTwo {g = f} {h = g} b o n) =
           let P = tailAs (1 + x .here) (tailAs 1 (set p 0 (getD u 0 0)) q) q2 in
-          let R = tailAs (6 * x .slots) r1 r2 in
+          let R = tailAs (slotRows (x .slots)) r1 r2 in
           let a = operand-laid s o h in
           let c = operand-laid s (subst (λ (w : ℕ). OperandAt choose u tags g rest (1 + w)) (sym (a .0)) n) i in
           let X = looked (choose f) (at .board) (at .slot) (laid choose hold f) in
@@ -107,6 +108,20 @@ module _ {u tags : List ℕ} {at : Place} {p r : List ℕ} where
             subst (λ (w : ℕ). Lays (beside (Joined (j .by)) X (looked (choose g) (at .board) (at .slot + w) (laid choose hold g))) at p r P R z) (a .1 .slots-are)
                 (lays-two (Joined (j .by)) X Y (getD u 0 0) b at p r q r1 x (a .1) q2 r2 y (c .1) z (e .1)),
           )
+
+  -- n is the length of the left one's records, as the code has found it
+  pub pair-cuts : {q r1 q2 r2 : List ℕ} {n : ℕ} {x y : Lain} (z : Lain) (j : IsJoin u) → n ≡ slotRows (x .slots)
+      → Looks (tail 1 u) (tail 1 tags) (inner at) (tail 1 (set p 0 (getD u 0 0))) r q r1 x
+      → Looks (tail (1 + x .read) u) (tail (1 + x .read) tags) (behind at x) (tail (1 + x .here) (tailAs 1 (set p 0 (getD u 0 0)) q)) (tail n r1) q2 r2 y
+      → Numbers z (1 + x .read + y .read) (1 + x .here + y .here) (x .slots + y .slots) (x .nodes + y .nodes)
+      → Cuts u tags at p r (tailAs (1 + x .here) (tailAs 1 (set p 0 (getD u 0 0)) q) q2) (tailAs n r1 r2) z
+  pair-cuts {q} {r1} {q2} {r2} {n} {x} {y} z j rows h =
+      subst
+      (λ (k : ℕ). Looks (tail (1 + x .read) u) (tail (1 + x .read) tags) (behind at x) (tail (1 + x .here) (tailAs 1 (set p 0 (getD u 0 0)) q)) (tail k r1) q2 r2 y
+      → Numbers z (1 + x .read + y .read) (1 + x .here + y .here) (x .slots + y .slots) (x .nodes + y .nodes)
+      → Cuts u tags at p r (tailAs (1 + x .here) (tailAs 1 (set p 0 (getD u 0 0)) q) q2) (tailAs k r1 r2) z)
+      (sym rows)
+      (pair-lays z j h)
 
   -- ---- a part that is looked at
   pub stay-looks : {p′ r′ : List ℕ} {y : Lain} → staysOn (boardIn (getD tags 0 0)) (at .board) ≡ true → Cuts u tags at p r p′ r′ y → Looks u tags at p r p′ r′ y
@@ -121,16 +136,16 @@ module _ {u tags : List ℕ} {at : Place} {p r : List ℕ} where
       (l .0, subst (λ (x : Laid). Lays x at p r p′ r′ y) (sym (c .laid-is)) (l .1))
 
   -- ---- a slot of its own
-  pub slot-lays : {q r1 r2 : List ℕ} {x : Lain} {n c : ℕ} (z : Lain) → Has (getD tags 0 0) n c → r1 ≡ (c ∷ 0 ∷ (le 2 (at .node) ++ le 2 n)) ++ drop 6 r
-      → Cuts u tags (owned at c n) (tail (at .gap) (set p 0 (leafCode (Hold (at .slot))))) (tail 6 r1) q r2 x
+  pub slot-lays : {q r1 r2 : List ℕ} {x : Lain} {n c : ℕ} (z : Lain) → Has (getD tags 0 0) n c → r1 ≡ (c ∷ 0 ∷ (le 2 (at .node) ++ le 2 n)) ++ drop slotRow r
+      → Cuts u tags (owned at c n) (tail (at .gap) (set p 0 (leafCode (Hold (at .slot))))) (tail slotRow r1) q r2 x
       → Numbers z (x .read) 1 (1 + x .slots) (n + x .nodes)
-      → LaysSlot u tags at p r (tailAs (at .gap) (set p 0 (leafCode (Hold (at .slot)))) q) (tailAs 6 r1 r2) z
+      → LaysSlot u tags at p r (tailAs (at .gap) (set p 0 (leafCode (Hold (at .slot)))) q) (tailAs slotRow r1 r2) z
   slot-lays {q} {r1} {r2} {x} {n} {c} z has row h e choose hold f rest board s o =
       let l = h choose hold f rest s (o .front) (o .tagged) in
       let P = tailAs (at .gap) (set p 0 (leafCode (Hold (at .slot)))) q in
       let size-is : n ≡ size (laid choose hold f c (at .slot + 1) .here) = slot-size has s o (at .slot + 1) ∙ ap (λ (i : ℕ). size (laid choose hold f i (at .slot + 1) .here)) (slot-board has o) in (
         e .0 ∙ l .0,
-        subst (λ (i : ℕ). Lays (cut i (at .slot) (laid choose hold f i (at .slot + 1))) at p r P (tailAs 6 r1 r2) z) (sym (slot-board has o))
+        subst (λ (i : ℕ). Lays (cut i (at .slot) (laid choose hold f i (at .slot + 1))) at p r P (tailAs slotRow r1 r2) z) (sym (slot-board has o))
             (lays-slot (laid choose hold f c (at .slot + 1)) c at p r q r1 r2 n x size-is row (l .1) z (e .1)),
       )
 

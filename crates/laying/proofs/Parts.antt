@@ -6,6 +6,7 @@ use mathlib.Core.Option.{Option}
 use Prim.Native.Nat.{ℕ, _+_, _-_, _*_, _≤_}
 use native.Mathlib.Omega.{arith}
 use lib.ListN.{length, getD, drop}
+use Rattle.state.specs.Form.{slotRows}
 use Rattle.lists.specs.Runs.{tail}
 use Rattle.lists.proofs.Parts.{tail-is}
 use Rattle.kinds.specs.declared.Unary.the-variants.{Not}
@@ -98,7 +99,7 @@ module _ {u tags p r : List ℕ} {at : Place} (ask : CutAsk u tags at p r) where
 
   -- the right one, the left one being laid
   pub right-asks : {j : Join} {p1 p′ r′ : List ℕ} {x : Lain} → kindOf (getD u 0 0) ≡ Two (Joined j) → Looks (tail 1 u) (tail 1 tags) (inner at) p1 r p′ r′ x
-      → (q s : List ℕ) → length q ≡ length p - (1 + x .here) → length s ≡ length r - 6 * x .slots
+      → (q s : List ℕ) → length q ≡ length p - (1 + x .here) → length s ≡ length r - slotRows (x .slots)
       → LookAsk (tail (1 + x .read) u) (tail (1 + x .read) tags) (behind at x) q s
   right-asks {j} {x = x} kind h q s e t = go (tops pair kind (ask .front) (ask .tagged)) (ask .fits)
     where

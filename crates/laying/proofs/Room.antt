@@ -1,12 +1,13 @@
 -- The numbers that the code of the cycle needs: what is there at the entry (`entry`, `hold-entry`, `slot-begun`), that what was laid
 -- takes no more than there was (`cut-done`), and both for a node that is put in front of its operands (`begun`, `first-done`,
 -- `right-begun`, `both-done`). Assumes nothing.
-use mathlib.Core.Path.{_≡_, refl, ap, _∙_}
+use mathlib.Core.Path.{_≡_, refl, ap, ap₂, _∙_}
 use mathlib.Core.List.{List}
 use mathlib.Core.Option.{Option}
 use Prim.Native.Nat.{ℕ, _+_, _-_, _*_, _<_, _≤_}
 use native.Mathlib.Omega.{arith}
 use lib.ListN.{length, getD, set, length-set}
+use Rattle.state.specs.Form.{slotRow, slotRows}
 use Rattle.lists.specs.Runs.{tail, tailAs}
 use Rattle.lists.proofs.Parts.{tail-length, handed-length}
 use Rattle.kinds.specs.declared.Leaf.the-variants.{Hold}
@@ -50,7 +51,7 @@ pub record Done (u : List ℕ) (at : Place) (p r : ℕ) (x : Lain) : Type 0 wher
   pub reads : x .read ≤ length u
   pub here : x .here ≤ at .gap
   pub nodes : at .gap + x .nodes ≤ p
-  pub records : 6 * x .slots ≤ r
+  pub records : slotRows (x .slots) ≤ r
   pub slots : at .slot + x .slots ≤ slotsRoom
   pub numbers : at .node + x .nodes ≤ nodesRoom
 
@@ -87,7 +88,7 @@ pub record FirstDone (u tags : List ℕ) (at : Place) (p r : List ℕ) (b : ℕ)
   pub tags-there : 1 + x .read ≤ length tags
   pub here : 1 + x .here ≤ at .gap
   pub nodes : at .gap + x .nodes ≤ length p
-  pub records : 6 * x .slots ≤ length r
+  pub records : slotRows (x .slots) ≤ length r
   pub slots : at .slot + x .slots ≤ slotsRoom
   pub numbers : at .node + x .nodes ≤ nodesRoom
   pub kept : length (tailAs 1 (set p 0 b) q) ≡ length p
@@ -100,22 +101,23 @@ first-done {p = p} {q = q} {b = b} n h e =
     let k = handed-length 1 (set p 0 b) q (omega arith) e in
     record { reads = omega arith; tags-there = omega arith; here = omega arith; nodes = omega arith; records = d .records; slots = d .slots; numbers = d .numbers; kept = omega arith }
 
--- the right one is looked at, in what the left one has left
-pub record RightBegun (u tags : List ℕ) (at : Place) (p r : List ℕ) (x : Lain) : Type 0 where
-  pub records : 6 * x .slots ≤ length r
+-- the right one is looked at, in what the left one has left; n is the length of the left one's records
+pub record RightBegun (u tags : List ℕ) (at : Place) (p r : List ℕ) (n : ℕ) (x : Lain) : Type 0 where
+  pub records : n ≤ length r
   pub fewer : 1 + length (tail (1 + x .read) u) ≤ length u
-  pub asks : LookAsk (tail (1 + x .read) u) (tail (1 + x .read) tags) (behind at x) (tail (1 + x .here) p) (tail (6 * x .slots) r)
+  pub asks : LookAsk (tail (1 + x .read) u) (tail (1 + x .read) tags) (behind at x) (tail (1 + x .here) p) (tail n r)
 
-pub right-begun : {u tags p r q r1 : List ℕ} {at : Place} {b : ℕ} {j : Join} {x : Lain} → CutAsk u tags at p r → kindOf (getD u 0 0) ≡ Two (Joined j)
+pub right-begun : {u tags p r q r1 : List ℕ} {at : Place} {b n : ℕ} {j : Join} {x : Lain} → CutAsk u tags at p r → kindOf (getD u 0 0) ≡ Two (Joined j)
     → Looks (tail 1 u) (tail 1 tags) (inner at) (tail 1 (set p 0 b)) r q r1 x → FirstDone u tags at p r b q x → length r1 ≡ length r
-    → RightBegun u tags at (tailAs 1 (set p 0 b) q) r1 x
-right-begun {u} {p = p} {q = q} {r1 = r1} {b = b} {x = x} ask kind h d e =
+    → n ≡ slotRows (x .slots) → RightBegun u tags at (tailAs 1 (set p 0 b) q) r1 n x
+right-begun {u} {p = p} {r = r} {q = q} {r1 = r1} {b = b} {n = n} {x = x} ask kind h d e rows =
     let P = tailAs 1 (set p 0 b) q in
     let l = tail-length (1 + x .read) u in
+    let left : length (tail n r1) ≡ length r - slotRows (x .slots) = tail-length n r1 ∙ ap₂ _-_ e rows in
     record {
       records = omega arith;
       fewer = omega arith;
-      asks = right-asks ask kind h (tail (1 + x .here) P) (tail (6 * x .slots) r1) (tail-length (1 + x .here) P ∙ ap (_- (1 + x .here)) (d .kept)) (tail-length (6 * x .slots) r1 ∙ ap (_- 6 * x .slots) e);
+      asks = right-asks ask kind h (tail (1 + x .here) P) (tail n r1) (tail-length (1 + x .here) P ∙ ap (_- (1 + x .here)) (d .kept)) left;
     }
 
 -- both were laid
@@ -127,16 +129,16 @@ pub record BothDone (u p r p′ r′ : List ℕ) (x y : Lain) : Type 0 where
   pub kept : length p′ ≡ length p
   pub records-kept : length r′ ≡ length r
 
-pub both-done : {u tags p r q r1 q2 r2 : List ℕ} {at : Place} {b : ℕ} {x y : Lain} → FirstDone u tags at p r b q x → length r1 ≡ length r → RightBegun u tags at (tailAs 1 (set p 0 b) q) r1 x
-    → Looks (tail (1 + x .read) u) (tail (1 + x .read) tags) (behind at x) (tail (1 + x .here) (tailAs 1 (set p 0 b) q)) (tail (6 * x .slots) r1) q2 r2 y
-    → length q2 ≡ length (tail (1 + x .here) (tailAs 1 (set p 0 b) q)) → length r2 ≡ length (tail (6 * x .slots) r1)
-    → BothDone u p r (tailAs (1 + x .here) (tailAs 1 (set p 0 b) q) q2) (tailAs (6 * x .slots) r1 r2) x y
-both-done {u} {p = p} {q = q} {r1 = r1} {q2 = q2} {r2 = r2} {b = b} {x = x} d e n h k l =
+pub both-done : {u tags p r q r1 q2 r2 : List ℕ} {at : Place} {b n : ℕ} {x y : Lain} → FirstDone u tags at p r b q x → length r1 ≡ length r → RightBegun u tags at (tailAs 1 (set p 0 b) q) r1 n x
+    → Looks (tail (1 + x .read) u) (tail (1 + x .read) tags) (behind at x) (tail (1 + x .here) (tailAs 1 (set p 0 b) q)) (tail n r1) q2 r2 y
+    → length q2 ≡ length (tail (1 + x .here) (tailAs 1 (set p 0 b) q)) → length r2 ≡ length (tail n r1)
+    → BothDone u p r (tailAs (1 + x .here) (tailAs 1 (set p 0 b) q) q2) (tailAs n r1 r2) x y
+both-done {u} {p = p} {q = q} {r1 = r1} {q2 = q2} {r2 = r2} {b = b} {n = n} {x = x} d e right h k l =
     let P = tailAs 1 (set p 0 b) q in
-    let z = look-done (n .asks) h in
+    let z = look-done (right .asks) h in
     let i = tail-length (1 + x .read) u in
     let v = handed-length (1 + x .here) P q2 (omega arith) k in
-    let w = handed-length (6 * x .slots) r1 r2 (omega arith) l in
+    let w = handed-length n r1 r2 (omega arith) l in
     record { reads = omega arith; here = omega arith; slots = omega arith; nodes = omega arith; kept = omega arith; records-kept = omega arith }
 
 -- ---- a place holder
@@ -161,9 +163,9 @@ pub record SlotBegun (u tags : List ℕ) (at : Place) (p r : List ℕ) (n c : �
   pub length-few : n ≤ nodesRoom
   pub slot-few : at .slot < slotsRoom
   pub node-few : at .node + n ≤ nodesRoom
-  pub row : 6 ≤ length r
+  pub row : slotRow ≤ length r
   pub put-length : length (set p 0 (leafCode (Hold (at .slot)))) ≡ length p
-  pub asks : (t : List ℕ) → length t ≡ length r → CutAsk u tags (owned at c n) (tail (at .gap) (set p 0 (leafCode (Hold (at .slot))))) (tail 6 t)
+  pub asks : (t : List ℕ) → length t ≡ length r → CutAsk u tags (owned at c n) (tail (at .gap) (set p 0 (leafCode (Hold (at .slot))))) (tail slotRow t)
   pub kept : (q : List ℕ) → length q ≡ length (tail (at .gap) (set p 0 (leafCode (Hold (at .slot))))) → length (tailAs (at .gap) (set p 0 (leafCode (Hold (at .slot)))) q) ≡ length p
 
 pub slot-begun : {u tags p r : List ℕ} {at : Place} {n c : ℕ} → SlotAsk u tags at p r → Has (getD tags 0 0) n c → SlotBegun u tags at p r n c
@@ -181,6 +183,6 @@ slot-begun {p = p} {at = at} ask has =
       node-few = omega arith;
       row = omega arith;
       put-length = l;
-      asks = λ t e. slot-asks has ask (tail (at .gap) P) (tail 6 t) (tail-length (at .gap) P ∙ ap (_- at .gap) l) (tail-length 6 t ∙ ap (_- 6) e);
+      asks = λ t e. slot-asks has ask (tail (at .gap) P) (tail slotRow t) (tail-length (at .gap) P ∙ ap (_- at .gap) l) (tail-length slotRow t ∙ ap (_- slotRow) e);
       kept = λ q e. handed-length (at .gap) P q (omega arith) e ∙ l;
     }

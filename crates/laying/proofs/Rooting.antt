@@ -6,6 +6,7 @@ use Prim.Native.Nat.{ℕ, _+_, _-_, _*_, _<_, _≤_}
 use native.Mathlib.Omega.{arith}
 use lib.ListN.{length, getD, take, drop, length-drop, take-append-drop}
 use lib.Seq.{length-take-le, drop-drop}
+use Rattle.state.specs.Form.{slotRow, slotRows}
 use Rattle.lists.specs.Runs.{tail, tailAs}
 use Rattle.lists.proofs.Parts.{tail-length, handed-length}
 use Rattle.le.specs.Le.{le}
@@ -25,9 +26,9 @@ use Rattle.laying.proofs.Writing.{slot-records}
 -- the numbers that the code needs, and what it asks behind the record, of a slot of n nodes on board c
 pub record RootBegun (u tags p r : List ℕ) (n c : ℕ) : Type 0 where
   pub length-few : n ≤ nodesRoom
-  pub row : 6 ≤ length r
-  pub asks : (t : List ℕ) → length t ≡ length r → CutAsk u tags (first c n) p (tail 6 t)
-  pub kept : (t q : List ℕ) → length t ≡ length r → length q ≡ length (tail 6 t) → length (tailAs 6 t q) ≡ length r
+  pub row : slotRow ≤ length r
+  pub asks : (t : List ℕ) → length t ≡ length r → CutAsk u tags (first c n) p (tail slotRow t)
+  pub kept : (t q : List ℕ) → length t ≡ length r → length q ≡ length (tail slotRow t) → length (tailAs slotRow t q) ≡ length r
 
 -- there is a tag
 pub root-tagged : {u tags p r : List ℕ} → RootAsk u tags p r → 0 < length tags
@@ -41,7 +42,7 @@ module _ {u tags p r : List ℕ} {n c : ℕ} (ask : RootAsk u tags p r) (has : H
   abbrev laid-root : Laid
   laid-root = laid (ask .choose) (ask .hold) (ask .formula) (ask .board) 1
 
-  root-asks : (t : List ℕ) → length t ≡ length r - 6 → CutAsk u tags (first c n) p t
+  root-asks : (t : List ℕ) → length t ≡ length r - slotRow → CutAsk u tags (first c n) p t
   root-asks t e =
       let z = slot-size has (ask .source) (ask .stands) 1 in
       let room : Fits laid-root (first (ask .board) n) (length p) (length t) =
@@ -61,16 +62,16 @@ module _ {u tags p r : List ℕ} {n c : ℕ} (ask : RootAsk u tags p r) (has : H
   pub root-begun : RootBegun u tags p r n c
   root-begun =
       let z = slot-size has (ask .source) (ask .stands) 1 in
-      let row : 6 ≤ length r = omega arith in
+      let row : slotRow ≤ length r = omega arith in
       record {
         length-few = omega arith;
         row = row;
-        asks = λ t e. root-asks (tail 6 t) (tail-length 6 t ∙ ap (_- 6) e);
-        kept = λ t q e k. handed-length 6 t q (omega arith) k ∙ e;
+        asks = λ t e. root-asks (tail slotRow t) (tail-length slotRow t ∙ ap (_- slotRow) e);
+        kept = λ t q e k. handed-length slotRow t q (omega arith) k ∙ e;
       }
 
 -- ---- what was written
-module _ (X : Laid) (board n : ℕ) (size-is : n ≡ size (X .here)) (p r r1 p′ r2 : List ℕ) (x : Lain) (h : Lays X (first board n) p (tail 6 r1) p′ r2 x) where
+module _ (X : Laid) (board n : ℕ) (size-is : n ≡ size (X .here)) (p r r1 p′ r2 : List ℕ) (x : Lain) (h : Lays X (first board n) p (tail slotRow r1) p′ r2 x) where
   root-nodes : nodesOf (rooted board X) ≤ length p → p′ ≡ nodeBytes (rooted board X) ++ drop (nodesOf (rooted board X)) p
   root-nodes l =
       let a = size (X .here) in
@@ -80,19 +81,19 @@ module _ (X : Laid) (board n : ℕ) (size-is : n ≡ size (X .here)) (p r r1 p�
       h .nodes (take a p) [] (take b (drop a p)) (drop (a + b) p) e i (omega arith) (length-take-le b (drop a p) (let k = length-drop a p in omega arith))
       ∙ sym (append-assoc (encode (X .here)) (nodeBytes (X .slots)) (drop (a + b) p))
 
-  root-rows : r1 ≡ (board ∷ 0 ∷ (le 2 0 ++ le 2 n)) ++ drop 6 r → 6 * length (rooted board X) ≤ length r
-      → tailAs 6 r1 r2 ≡ slotRecords 0 (rooted board X) ++ drop (6 * length (rooted board X)) r
+  root-rows : r1 ≡ (board ∷ 0 ∷ (le 2 0 ++ le 2 n)) ++ drop slotRow r → slotRows (length (rooted board X)) ≤ length r
+      → tailAs slotRow r1 r2 ≡ slotRecords 0 (rooted board X) ++ drop (slotRows (length (rooted board X))) r
   root-rows row l =
-      let m = 6 * length (rooted board X) in
+      let m = slotRows (length (rooted board X)) in
       slot-records X board 0 n n r r1 r2 size-is (omega arith) row (h .records) (take m r) (drop m r) (sym (take-append-drop m r)) (length-take-le m r l)
 
-pub root-lays : {u tags p : List ℕ} (r : List ℕ) {r1 p′ r2 : List ℕ} {x : Lain} {n c : ℕ} → Has (getD tags 0 0) n c → r1 ≡ (c ∷ 0 ∷ (le 2 0 ++ le 2 n)) ++ drop 6 r
-    → Cuts u tags (first c n) p (tail 6 r1) p′ r2 x → LaysRoot u tags p r p′ (tailAs 6 r1 r2)
+pub root-lays : {u tags p : List ℕ} (r : List ℕ) {r1 p′ r2 : List ℕ} {x : Lain} {n c : ℕ} → Has (getD tags 0 0) n c → r1 ≡ (c ∷ 0 ∷ (le 2 0 ++ le 2 n)) ++ drop slotRow r
+    → Cuts u tags (first c n) p (tail slotRow r1) p′ r2 x → LaysRoot u tags p r p′ (tailAs slotRow r1 r2)
 root-lays {u} {tags} {p} r {r1} {p′} {r2} {x} {n} {c} has row h choose hold f rest board s o l k =
     subst
-    (λ (b : ℕ). nodesOf (rooted b (laid choose hold f b 1)) ≤ length p → 6 * length (rooted b (laid choose hold f b 1)) ≤ length r
+    (λ (b : ℕ). nodesOf (rooted b (laid choose hold f b 1)) ≤ length p → slotRows (length (rooted b (laid choose hold f b 1))) ≤ length r
     → (p′ ≡ nodeBytes (rooted b (laid choose hold f b 1)) ++ drop (nodesOf (rooted b (laid choose hold f b 1))) p)
-    × (tailAs 6 r1 r2 ≡ slotRecords 0 (rooted b (laid choose hold f b 1)) ++ drop (6 * length (rooted b (laid choose hold f b 1))) r))
+    × (tailAs slotRow r1 r2 ≡ slotRecords 0 (rooted b (laid choose hold f b 1)) ++ drop (slotRows (length (rooted b (laid choose hold f b 1)))) r))
     (sym (slot-board has o))
     (λ l k.
     (let X = laid choose hold f c 1 in

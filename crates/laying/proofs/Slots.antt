@@ -6,6 +6,7 @@ use mathlib.Core.Option.{Option}
 use Prim.Native.Nat.{ℕ, _+_, _-_}
 use native.Mathlib.Omega.{arith}
 use lib.ListN.{length, getD}
+use Rattle.state.specs.Form.{slotRow}
 use Rattle.lists.specs.Runs.{tail}
 use Rattle.lists.proofs.Parts.{tail-is}
 use Rattle.kinds.specs.declared.Leaf.the-variants.{Hold}
@@ -61,7 +62,7 @@ slot-size {choose = choose} {hold = hold} {f = f} {board = board} has s o k = sy
 pub slot-board : {u tags : List ℕ} {n c : ℕ} {choose : Formula → Option ℕ} {f : Formula} {rest : List ℕ} {board : ℕ} → Has (getD tags 0 0) n c → OnBoard choose u tags f rest board → board ≡ c
 slot-board has o = sym (o .board-is) ∙ has .board-is
 
-pub slot-asks : {u tags p r : List ℕ} {at : Place} {n c : ℕ} → Has (getD tags 0 0) n c → (ask : SlotAsk u tags at p r) (q t : List ℕ) → length q ≡ length p - at .gap → length t ≡ length r - 6
+pub slot-asks : {u tags p r : List ℕ} {at : Place} {n c : ℕ} → Has (getD tags 0 0) n c → (ask : SlotAsk u tags at p r) (q t : List ℕ) → length q ≡ length p - at .gap → length t ≡ length r - slotRow
     → CutAsk u tags (owned at c n) q t
 slot-asks {at = at} {n = n} has ask q t e g =
     let room = fits-slot (ask .board) n (slot-size has (ask .source) (ask .stands) (at .slot + 1)) (ask .fits) in

@@ -5,6 +5,7 @@ use Prim.Native.Nat.{ℕ, suc, _+_, _-_, _*_, _≤_}
 use native.Mathlib.Omega.{arith}
 use lib.ListN.{length, take, drop, set, length-append}
 use lib.Seq.{drop-at}
+use Rattle.state.specs.Form.{slotRow, slotRows}
 use Rattle.lists.specs.Runs.{tail, tailAs}
 use Rattle.lists.proofs.Parts.{lent-tail, handed-tail}
 use Rattle.lists.proofs.Stretches.{put-next, none-long}
@@ -20,8 +21,8 @@ use Rattle.nodes.specs.Begins.{Front}
 use Rattle.nodes.proofs.Fronts.{front-own}
 use Rattle.network.specs.Layout.{Laid, whole, under, beside, cut, rooted}
 use Rattle.state.specs.Bytes.{nodesOf, slotRecords, nodeBytes}
-use Rattle.state.proofs.Reading.{records-length}
-use Rattle.state.proofs.Fresh.{nodes-length}
+use Rattle.state.proofs.SlotRows.{records-length}
+use Rattle.state.proofs.SlotRows.{nodes-length}
 use Rattle.laying.specs.declared.Place.{Place}
 use Rattle.laying.specs.declared.Lain.{Lain}
 use Rattle.laying.specs.Lays.{Lays, Plain}
@@ -57,7 +58,7 @@ module _ (o : Unary) (x : Laid) (at : Place) (p r q r′ : List ℕ) (y : Lain) 
 
 -- ---- two operands, the byte in front being b
 module _ (o : Binary) (X Y : Laid) (b : ℕ) (code : b ≡ binaryCode o) (at : Place) (p r q r1 : List ℕ) (x : Lain) (h : Lays X (inner at) (tail 1 (set p 0 b)) r q r1 x) (q2 r2 : List ℕ) (y : Lain)
-    (k : Lays Y (behind at x) (tail (1 + x .here) (tailAs 1 (set p 0 b) q)) (tail (6 * x .slots) r1) q2 r2 y) where
+    (k : Lays Y (behind at x) (tail (1 + x .here) (tailAs 1 (set p 0 b) q)) (tail (slotRows (x .slots)) r1) q2 r2 y) where
   -- the nodes, the lists already cut
   two-nodes : (n : ℕ) (H G M Q T R : List ℕ) → p ≡ n ∷ (H ++ (G ++ (M ++ (Q ++ (T ++ R))))) → length H ≡ size (X .here) → length G ≡ size (Y .here)
       → 1 + length H + length G + length M ≡ at .gap → length Q ≡ nodesOf (X .slots) → length T ≡ nodesOf (Y .slots)
@@ -77,15 +78,15 @@ module _ (o : Binary) (X Y : Laid) (b : ℕ) (code : b ≡ binaryCode o) (at : P
       ∙ simp append-assoc in
       lent-on A (G ++ ((M ++ N) ++ (T ++ R))) left (omega arith) (λ t. k .nodes G (M ++ N) T R t c (let j = h .nodes-are in omega arith) i) ∙ simp (append-assoc, code)
 
-  two-records : (Q T R : List ℕ) → r ≡ Q ++ (T ++ R) → length Q ≡ 6 * length (X .slots) → length T ≡ 6 * length (Y .slots)
-      → tailAs (6 * x .slots) r1 r2 ≡ slotRecords (at .node) (X .slots) ++ (slotRecords (at .node + nodesOf (X .slots)) (Y .slots) ++ R)
+  two-records : (Q T R : List ℕ) → r ≡ Q ++ (T ++ R) → length Q ≡ slotRows (length (X .slots)) → length T ≡ slotRows (length (Y .slots))
+      → tailAs (slotRows (x .slots)) r1 r2 ≡ slotRecords (at .node) (X .slots) ++ (slotRecords (at .node + nodesOf (X .slots)) (Y .slots) ++ R)
   two-records Q T R e a c =
       let l = records-length (at .node) (X .slots) in
-      let long : length (slotRecords (at .node) (X .slots)) ≡ 6 * x .slots = let m = h .slots-are in omega arith in
+      let long : length (slotRecords (at .node) (X .slots)) ≡ slotRows (x .slots) = let m = h .slots-are in omega arith in
       lent-on (slotRecords (at .node) (X .slots)) (T ++ R) (h .records Q (T ++ R) e a) long (λ t. k .records T R t c ∙ ap (λ (i : ℕ). slotRecords (at .node + i) (Y .slots) ++ R) (h .nodes-are))
 
   pub lays-two : (z : Lain) → (z .here ≡ 1 + x .here + y .here) × (z .slots ≡ x .slots + y .slots) × (z .nodes ≡ x .nodes + y .nodes)
-      → Lays (beside o X Y) at p r (tailAs (1 + x .here) (tailAs 1 (set p 0 b) q) q2) (tailAs (6 * x .slots) r1 r2) z
+      → Lays (beside o X Y) at p r (tailAs (1 + x .here) (tailAs 1 (set p 0 b) q) q2) (tailAs (slotRows (x .slots)) r1 r2) z
   lays-two z e =
       let l = length-append (X .slots) (Y .slots) in
       let n = nodes-both (X .slots) (Y .slots) in
@@ -103,33 +104,33 @@ module _ (o : Binary) (X Y : Laid) (b : ℕ) (code : b ≡ binaryCode o) (at : P
           (u .low-long) (omega arith) (omega arith) (v .low-long) (omega arith)
           ∙ simp (append-assoc, bytes-both (X .slots) (Y .slots))
 
-      rows : (Q R : List ℕ) → r ≡ Q ++ R → length Q ≡ 6 * length (X .slots ++ Y .slots) → tailAs (6 * x .slots) r1 r2 ≡ slotRecords (at .node) (X .slots ++ Y .slots) ++ R
+      rows : (Q R : List ℕ) → r ≡ Q ++ R → length Q ≡ slotRows (length (X .slots ++ Y .slots)) → tailAs (slotRows (x .slots)) r1 r2 ≡ slotRecords (at .node) (X .slots ++ Y .slots) ++ R
       rows Q R a l =
           let d = length-append (X .slots) (Y .slots) in
-          let v = split (6 * length (X .slots)) Q (omega arith) in
+          let v = split (slotRows (length (X .slots))) Q (omega arith) in
           two-records (v .low) (v .high) R (a ∙ ap (_++ R) (v .both-are) ∙ append-assoc (v .low) (v .high) R) (v .low-long) (omega arith)
           ∙ simp (append-assoc, records-both (at .node) (X .slots) (Y .slots))
 
 -- ---- a slot of its own
 -- its record in front of those of the slots cut out of it, m being where their nodes begin
-module _ (X : Laid) (board start n m : ℕ) (r r1 r2 : List ℕ) (size-is : n ≡ size (X .here)) (next : m ≡ start + n) (row : r1 ≡ (board ∷ 0 ∷ (le 2 start ++ le 2 n)) ++ drop 6 r)
-    (h : (Q R : List ℕ) → tail 6 r1 ≡ Q ++ R → length Q ≡ 6 * length (X .slots) → r2 ≡ slotRecords m (X .slots) ++ R) where
-  pub slot-records : (Q R : List ℕ) → r ≡ Q ++ R → length Q ≡ 6 * suc (length (X .slots)) → tailAs 6 r1 r2 ≡ slotRecords start (rooted board X) ++ R
+module _ (X : Laid) (board start n m : ℕ) (r r1 r2 : List ℕ) (size-is : n ≡ size (X .here)) (next : m ≡ start + n) (row : r1 ≡ (board ∷ 0 ∷ (le 2 start ++ le 2 n)) ++ drop slotRow r)
+    (h : (Q R : List ℕ) → tail slotRow r1 ≡ Q ++ R → length Q ≡ slotRows (length (X .slots)) → r2 ≡ slotRecords m (X .slots) ++ R) where
+  pub slot-records : (Q R : List ℕ) → r ≡ Q ++ R → length Q ≡ slotRows (suc (length (X .slots))) → tailAs slotRow r1 r2 ≡ slotRecords start (rooted board X) ++ R
   slot-records Q R e l =
       let A = board ∷ 0 ∷ (le 2 start ++ le 2 n) in
-      let long : length A ≡ 6 = let l = length-append (le 2 start) (le 2 n) in let i = le-length 2 start in let j = le-length 2 n in omega arith in
-      let v = split 6 Q (omega arith) in
+      let long : length A ≡ slotRow = let l = length-append (le 2 start) (le 2 n) in let i = le-length 2 start in let j = le-length 2 n in omega arith in
+      let v = split slotRow Q (omega arith) in
       let T = v .high ++ R in
-      let is : r1 ≡ A ++ T = row ∙ ap (A ++_) (ap (drop 6) (e ∙ ap (_++ R) (v .both-are) ∙ append-assoc (v .low) (v .high) R) ∙ drop-at (v .low) T 6 (v .low-long)) in
+      let is : r1 ≡ A ++ T = row ∙ ap (A ++_) (ap (drop slotRow) (e ∙ ap (_++ R) (v .both-are) ∙ append-assoc (v .low) (v .high) R) ∙ drop-at (v .low) T slotRow (v .low-long)) in
       let t : m ≡ start + size (X .here) = omega arith in
       lent-on A T is long (λ t. h (v .high) R t (omega arith))
       ∙ ap₂ (λ (i j : ℕ). (board ∷ 0 ∷ (le 2 start ++ le 2 i)) ++ (slotRecords j (X .slots) ++ R)) size-is t
       ∙ simp append-assoc
 
-module _ (X : Laid) (board : ℕ) (at : Place) (p r q r1 r2 : List ℕ) (n : ℕ) (x : Lain) (size-is : n ≡ size (X .here)) (row : r1 ≡ (board ∷ 0 ∷ (le 2 (at .node) ++ le 2 n)) ++ drop 6 r)
-    (h : Lays X (owned at board n) (tail (at .gap) (set p 0 (leafCode (Hold (at .slot))))) (tail 6 r1) q r2 x) where
+module _ (X : Laid) (board : ℕ) (at : Place) (p r q r1 r2 : List ℕ) (n : ℕ) (x : Lain) (size-is : n ≡ size (X .here)) (row : r1 ≡ (board ∷ 0 ∷ (le 2 (at .node) ++ le 2 n)) ++ drop slotRow r)
+    (h : Lays X (owned at board n) (tail (at .gap) (set p 0 (leafCode (Hold (at .slot))))) (tail slotRow r1) q r2 x) where
   pub lays-slot : (z : Lain) → (z .here ≡ 1) × (z .slots ≡ 1 + x .slots) × (z .nodes ≡ n + x .nodes)
-      → Lays (cut board (at .slot) X) at p r (tailAs (at .gap) (set p 0 (leafCode (Hold (at .slot)))) q) (tailAs 6 r1 r2) z
+      → Lays (cut board (at .slot) X) at p r (tailAs (at .gap) (set p 0 (leafCode (Hold (at .slot)))) q) (tailAs slotRow r1 r2) z
   lays-slot z e =
       record { here-is = e .0; slots-are = omega arith; nodes-are = omega arith; nodes = go; records = slot-records X board (at .node) n (at .node + n) r r1 r2 size-is refl row (h .records) }
     where
@@ -145,19 +146,6 @@ module _ (X : Laid) (board : ℕ) (at : Place) (p r q r1 r2 : List ℕ) (n : ℕ
           let i = v .low-long in
           let long : length (B ∷ M) ≡ at .gap = omega arith in
           lent-on (B ∷ M) T s long (λ t. h .nodes (v .low) [] (v .high) R t i (omega arith) (omega arith)) ∙ simp append-assoc
-
--- ---- a record
-row-begun : (r : List ℕ) (board : ℕ) → 6 ≤ length r → set (set r 0 board) 1 0 ≡ (board ∷ 0 ∷ []) ++ drop 2 r
-row-begun [] board l = absurd (omega arith)
-row-begun (x ∷ []) board l = absurd (omega arith)
-row-begun (x ∷ y ∷ r) board l = refl
-
-pub row-put : (r : List ℕ) {s t : List ℕ} (board start n : ℕ) → 6 ≤ length r → s ≡ take 2 (set (set r 0 board) 1 0) ++ (le 2 start ++ drop 4 (set (set r 0 board) 1 0))
-    → t ≡ take 4 s ++ (le 2 n ++ drop 6 s) → t ≡ (board ∷ 0 ∷ (le 2 start ++ le 2 n)) ++ drop 6 r
-row-put r {s} board start n l e f =
-    let A = board ∷ 0 ∷ [] in
-    let first : s ≡ (A ++ le 2 start) ++ drop 4 r = e ∙ put-next (set (set r 0 board) 1 0) r A (le 2 start) 2 2 (row-begun r board l) refl in
-    f ∙ put-next s r (A ++ le 2 start) (le 2 n) 4 2 first (let i = le-length 2 start in omega arith)
 
 -- ---- a formula as it stands
 pub whole-put : {f : Formula} {u rest p′ : List ℕ} {n : ℕ} → Front u f rest → n ≡ size f → (p : List ℕ) → p′ ≡ take n (drop 0 u) ++ drop (length (take n (drop 0 u))) p → p′ ≡ encode f ++ drop (size f) p

@@ -4,15 +4,15 @@ use Prim.Native.Nat.{ℕ, _+_, _*_, _<_, _≤_}
 use mathlib.Core.List.{List, _++_}
 use mathlib.Core.Option.{Option, some}
 use lib.ListN.{length, getD, drop}
+use Rattle.state.specs.Form.{slotRows}
 use Rattle.kinds.specs.declared.Join.{Join}
 use Rattle.kinds.specs.declared.Leaf.the-variants.{Hold}
 use Rattle.kinds.specs.declared.Binary.the-variants.{Joined}
 use Rattle.kinds.specs.declared.Kind.the-variants.{Two}
 use Rattle.kinds.specs.Kinds.{kindOf, leafCode}
-use Rattle.limits.specs.Limits.{boardsMost, nodesRoom}
+use Rattle.limits.specs.Limits.{boardsMost, slotsRoom, nodesRoom}
 use Rattle.ltl.specs.Formula.{Formula, size, encode}
 use Rattle.network.specs.Layout.{Laid, cut, rooted, looked, laid}
-use Rattle.state.specs.Clauses.{slotsMost}
 use Rattle.state.specs.Bytes.{nodesOf, slotRecords, nodeBytes}
 use Rattle.nodes.specs.Begins.{Begins, Front}
 use Rattle.tagging.specs.Packed.{boardIn, hereIn, aheadIn}
@@ -42,7 +42,7 @@ pub record HeldAt (choose : Formula → Option ℕ) (hold : ℕ → ℕ → Laid
 -- wherever a place holder stands, its slot does; its own place holder is one node; and every choice is a board
 pub record Source (choose : Formula → Option ℕ) (hold : ℕ → ℕ → Laid) (u tags : List ℕ) : Type 0 where
   pub long : length u ≤ length tags
-  pub held : (i m : ℕ) → i < length u → m < slotsMost → getD u i 0 ≡ leafCode (Hold m) → HeldAt choose hold (drop i u) (drop i tags) m
+  pub held : (i m : ℕ) → i < length u → m < slotsRoom → getD u i 0 ≡ leafCode (Hold m) → HeldAt choose hold (drop i u) (drop i tags) m
   pub single : (m k : ℕ) → size (hold m k .here) ≡ 1
   pub boards : (f : Formula) (c : ℕ) → choose f ≡ some c → c < boardsMost
 
@@ -50,8 +50,8 @@ pub record Source (choose : Formula → Option ℕ) (hold : ℕ → ℕ → Laid
 pub record Fits (x : Laid) (at : Place) (p r : ℕ) : Type 0 where
   pub here : size (x .here) ≤ at .gap
   pub nodes : at .gap + nodesOf (x .slots) ≤ p
-  pub records : 6 * length (x .slots) ≤ r
-  pub slots : at .slot + length (x .slots) ≤ slotsMost
+  pub records : slotRows (length (x .slots)) ≤ r
+  pub slots : at .slot + length (x .slots) ≤ slotsRoom
   pub numbers : at .node + nodesOf (x .slots) ≤ nodesRoom
 
 -- ---- what was written: the nodes of the slot itself in front, and those of the slots cut out of it behind the gap; their records
@@ -61,7 +61,7 @@ pub record Lays (x : Laid) (at : Place) (p r p′ r′ : List ℕ) (y : Lain) : 
   pub nodes-are : y .nodes ≡ nodesOf (x .slots)
   pub nodes : (H M Q R : List ℕ) → p ≡ H ++ (M ++ (Q ++ R)) → length H ≡ size (x .here) → length H + length M ≡ at .gap → length Q ≡ nodesOf (x .slots)
       → p′ ≡ encode (x .here) ++ (M ++ (nodeBytes (x .slots) ++ R))
-  pub records : (Q R : List ℕ) → r ≡ Q ++ R → length Q ≡ 6 * length (x .slots) → r′ ≡ slotRecords (at .node) (x .slots) ++ R
+  pub records : (Q R : List ℕ) → r ≡ Q ++ R → length Q ≡ slotRows (length (x .slots)) → r′ ≡ slotRecords (at .node) (x .slots) ++ R
 
 -- ---- a part that stays in the slot
 pub record CutAsk (u tags : List ℕ) (at : Place) (p r : List ℕ) : Type 0 where
@@ -140,14 +140,14 @@ pub record RootAsk (u tags p r : List ℕ) : Type 0 where
   pub board : ℕ
   pub source : Source choose hold u tags
   pub stands : OnBoard choose u tags formula rest board
-  pub slots : length (rooted board (laid choose hold formula board 1)) ≤ slotsMost
+  pub slots : length (rooted board (laid choose hold formula board 1)) ≤ slotsRoom
   pub numbers : nodesOf (rooted board (laid choose hold formula board 1)) ≤ nodesRoom
   pub nodes : nodesOf (rooted board (laid choose hold formula board 1)) ≤ length p
-  pub records : 6 * length (rooted board (laid choose hold formula board 1)) ≤ length r
+  pub records : slotRows (length (rooted board (laid choose hold formula board 1))) ≤ length r
 
 abbrev pub LaysRoot : List ℕ → List ℕ → List ℕ → List ℕ → List ℕ → List ℕ → Type 0
 LaysRoot u tags p r p′ r′ =
     (choose : Formula → Option ℕ) (hold : ℕ → ℕ → Laid) (f : Formula) (rest : List ℕ) (board : ℕ) → Source choose hold u tags → OnBoard choose u tags f rest board
-    → nodesOf (rooted board (laid choose hold f board 1)) ≤ length p → 6 * length (rooted board (laid choose hold f board 1)) ≤ length r
+    → nodesOf (rooted board (laid choose hold f board 1)) ≤ length p → slotRows (length (rooted board (laid choose hold f board 1))) ≤ length r
     → (p′ ≡ nodeBytes (rooted board (laid choose hold f board 1)) ++ drop (nodesOf (rooted board (laid choose hold f board 1))) p)
-    × (r′ ≡ slotRecords 0 (rooted board (laid choose hold f board 1)) ++ drop (6 * length (rooted board (laid choose hold f board 1))) r)
+    × (r′ ≡ slotRecords 0 (rooted board (laid choose hold f board 1)) ++ drop (slotRows (length (rooted board (laid choose hold f board 1)))) r)

@@ -14,6 +14,7 @@ use kinds::Binary;
 use kinds::Kind;
 use kinds::Leaf;
 use kinds::Unary;
+use state::SLOT_ROW;
 use tagging::packed;
 
 // Where laying stands: the board of the slot whose nodes are written; the next slot's number, where its nodes begin in the network,
@@ -31,17 +32,6 @@ pub struct Lain {
     pub here: usize,
     pub slots: usize,
     pub nodes: usize,
-}
-
-// The record of a slot that is not stepped, at the front of r.
-pub fn put_record(r: &mut [u8], board: u8, start: u16, n: u16)
-    requires { ⌜ 6 ≤ length (now r) ⌝ }
-    ensures { λ _. ⌜ now (r .exit) ≡ (board ∷ 0 ∷ (le 2 start ++ le 2 n)) ++ drop 6 (now (r .entry)) ⌝ }
-{
-    r[0] = board;
-    r[1] = 0;
-    le::put_u16(r, 2, start);
-    le::put_u16(r, 4, n);
 }
 
 // Lays the formula that u begins with in the slot that is being laid: its top stays, and its operands are looked at.
@@ -145,7 +135,7 @@ fn cut_pair(u: &[u8], tags: &[u32], at: Place, p: &mut [u8], r: &mut [u8]) -> La
     let x = look(&u[1..], &tags[1..], left, &mut p[1..], r);
     let m = 1 + x.read;
     let here = 1 + x.here;
-    let records = 6 * x.slots;
+    let records = state::rows(x.slots);
     let right = Place {
         board: at.board,
         slot: at.slot + x.slots,
@@ -189,14 +179,14 @@ fn lay_slot(u: &[u8], tags: &[u32], at: Place, p: &mut [u8], r: &mut [u8]) -> La
     let board = packed::board_of(tag);
     let gap = at.gap;
     p[0] = Kind::HOLD + at.slot as u8;
-    put_record(r, board, at.node as u16, n as u16);
+    state::put_record(r, board, at.node as u16, n as u16);
     let own = Place {
         board: board,
         slot: at.slot + 1,
         node: at.node + n,
         gap: n,
     };
-    let x = cut_parts(u, tags, own, &mut p[gap..], &mut r[6..]);
+    let x = cut_parts(u, tags, own, &mut p[gap..], &mut r[SLOT_ROW..]);
     Lain {
         read: x.read,
         here: 1,
@@ -214,12 +204,12 @@ pub fn lay_root(u: &[u8], tags: &[u32], p: &mut [u8], r: &mut [u8])
     let tag = tags[0];
     let n = packed::length_of(tag);
     let board = packed::board_of(tag);
-    put_record(r, board, 0, n as u16);
+    state::put_record(r, board, 0, n as u16);
     let own = Place {
         board: board,
         slot: 1,
         node: n,
         gap: n,
     };
-    cut_parts(u, tags, own, p, &mut r[6..]);
+    cut_parts(u, tags, own, p, &mut r[SLOT_ROW..]);
 }

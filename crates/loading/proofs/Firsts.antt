@@ -10,6 +10,8 @@ use Rattle.limits.specs.Limits.{boardsMost, nodesRoom}
 use Rattle.ltl.specs.Formula.{Formula, size}
 use Rattle.ltl.specs.Progression.{unfolded}
 use Rattle.network.specs.Scores.{chosen}
+use Rattle.state.specs.Form.{formIn}
+use Rattle.state.proofs.Forms.{slots-few, nodes-few}
 use Rattle.state.specs.Calls.{firstOf, loadedState}
 use Rattle.nodes.specs.Begins.{Front, Begins}
 use Rattle.nodes.proofs.Fronts.{front-length, front-one-way}
@@ -22,8 +24,8 @@ use Rattle.cutting.specs.Cuts.{codeOf}
 use Rattle.cutting.proofs.Choices.{chosen-below}
 use Rattle.tagging.specs.declared.TaggedPart.{TaggedPart}
 use Rattle.tagging.specs.Tags.{TaggedAs, Tagging}
-use Rattle.storing.specs.Stores.{LaidOut, Counts, StateAsk, Stores}
-use Rattle.loading.specs.Load.{BeginAsk, FirstAsk, Firsts}
+use Rattle.storing.specs.Stores.{LaidOut, LaidCounts, StateAsk, Stores}
+use Rattle.loading.specs.Beginning.{BeginAsk, FirstAsk, Firsts}
 use Rattle.loading.proofs.Rules.{LayoutFits, board-of, first-large, first-slots, first-nodes, first-choice, first-laid}
 
 pub whole-begins : {s : List ℕ} {f : Formula} → Front s f [] → Begins s
@@ -34,7 +36,7 @@ module _ {state masks bytes owner : List ℕ} {board slots nodes : ℕ} {u tags 
   U = unfolded (ask .rule)
 
   pub first-size : size U ≤ nodesRoom
-  first-size = let l = first-large (ask .ruled) in omega arith
+  first-size = let l = first-large (ask .ruled) in let f = nodes-few (formIn state) in omega arith
 
   pub unfold-ask : UnfoldAsk u bytes
   unfold-ask = record { begins = record { formula = ask .rule; rest = []; front = ask .ruled .front }; room = let s = first-size in omega arith }
@@ -59,24 +61,25 @@ module _ {state masks bytes owner : List ℕ} {board slots nodes : ℕ} {u tags 
           (first-laid (ask .ruled) owner (ask .owned) tags′ y (subst (λ (b : ℕ). TaggedAs owner U b tags′ y) (ask .board-is) (m U [] front-is))
           (let s = first-size in omega arith))
 
-      counts-are : Counts (firstOf masks (ask .rule)) slots nodes
-      counts-are = record { slots-are = ask .slots-are; nodes-are = ask .nodes-are; few-slots = ask .few-slots; few-nodes = ask .few-nodes }
+      counts-are : LaidCounts (firstOf masks (ask .rule)) slots nodes
+      counts-are = record { slots-are = ask .slots-are; nodes-are = ask .nodes-are; few-slots = (let a = ask .few-slots in let f = slots-few (formIn state) in omega arith); few-nodes = (let a = ask .few-nodes in let f = nodes-few (formIn state) in omega arith) }
 
       pub state-ask : StateAsk state masks slots nodes (take (w .written) u′) tags′
-      state-ask = record { network = firstOf masks (ask .rule); laid-out = laid-is; counts = counts-are; long = ask .long; few-boards = ask .ruled .few-boards }
+      state-ask = record { network = firstOf masks (ask .rule); laid-out = laid-is; counts = counts-are; long = ask .long; few-boards = ask .ruled .few-boards; form-slots = ask .few-slots; form-nodes = ask .few-nodes }
 
-      pub first-put : {state′ : List ℕ} → Stores masks slots nodes 0 (take (w .written) u′) tags′ state′ → Firsts masks bytes state′
+      pub first-put : {state′ : List ℕ} → Stores (formIn state) masks slots nodes 0 (take (w .written) u′) tags′ state′ → Firsts (formIn state) masks bytes state′
       first-put {state′} h rule r =
           let same : ask .rule ≡ rule = front-one-way bytes (ask .rule) rule [] [] (ask .ruled .front) (r .front) .0 in
-          subst (λ (f : Formula). state′ ≡ loadedState masks f) same (h (firstOf masks (ask .rule)) laid-is counts-are)
+          subst (λ (f : Formula). state′ ≡ loadedState (formIn state) masks f) same (h (firstOf masks (ask .rule)) laid-is counts-are)
 
 -- ---- what the counts tell
-pub first-ask : {masks bytes state owner : List ℕ} (ask : BeginAsk masks bytes state) → Table owner → {x : LaidPart} {count : ℕ} → LayoutFits (ask .ruled) owner x count
+pub first-ask : {masks bytes state owner : List ℕ} (ask : BeginAsk masks bytes state) → Table owner → {x : LaidPart} {count : ℕ} → LayoutFits (formIn state) (ask .ruled) owner x count
     → {board : ℕ} → board ≡ pick (eqb (x .choice) boardsMost) 0 (x .choice) → {u tags : List ℕ} → length u ≡ nodesRoom → length tags ≡ nodesRoom
     → FirstAsk state masks bytes owner board (1 + x .cuts) (count + x .cuts) u tags
-first-ask {masks} ask table fits b ul ml =
+first-ask {masks} {state = state} ask table fits b ul ml =
     let s = first-slots (fits .cut) in
     let n = first-nodes (fits .cut) in
+    let f = nodes-few (formIn state) in
     record {
       rule = ask .rule;
       ruled = ask .ruled;

@@ -18,11 +18,13 @@ use Rattle.answers.specs.Said.{Said, accepted, refused, left, numberOf, Check, 
 use Rattle.answers.proofs.Answers.{number-some, left-refused, left-accepted, Passed, order-ok, order-refused, order-done}
 use Rattle.ltl.specs.Formula.{Formula, size, encode, Within, Coded}
 use Rattle.ltl.specs.Progression.{unfolded}
-use Rattle.state.specs.Clauses.{slotsMost}
+use Rattle.state.specs.declared.Form.{Form}
+use Rattle.state.specs.Form.{formIn, stateLength, slotsMost, nodesMost, Formed}
+use Rattle.state.proofs.Forms.{nodes-few}
 use Rattle.state.specs.Bytes.{nodesOf}
 use Rattle.state.specs.Calls.{firstOf, loadedState}
 use Rattle.cutting.specs.declared.LaidPart.{LaidPart}
-use Rattle.limits.specs.Limits.{boardsMost, propositionsMost, holderCodes, ruleNodesMost, nodesRoom, nodesMost}
+use Rattle.limits.specs.Limits.{boardsMost, propositionsMost, holderCodes, ruleNodesMost, nodesRoom}
 use Rattle.masks.specs.Masks.{masksRule}
 use Rattle.ltl.specs.Decode.{decoded, isRule, someFormula}
 use Rattle.ltl.proofs.Decoding.{RuleText, rule-is, decoded-of, wider}
@@ -34,37 +36,39 @@ use Rattle.rules.proofs.ReadOutcomes.{ReadPassed, read-passed}
 use Rattle.rules.specs.RuleFile.{version, fileFormulaAt, countsOk, versionInFile, boardsInFile, propositionsInFile, nodesInFile, maskInFile, masksInFile, formulaInFile}
 use Rattle.rules.specs.Read.{offsetsOk, readSays, Reads}
 use Rattle.rules.specs.Read as read
-use Rattle.state.specs.Fields.{stateLength}
-use Rattle.loading.specs.Load.{ruleIn, loadLengthsOk, loadSays, LoadsRule, RuleGiven, beginSays, BeginAsk, Begun}
+use Rattle.loading.specs.Load.{ruleIn, loadLengthsOk, loadSays, LoadsRule}
+use Rattle.loading.specs.Beginning.{RuleGiven, beginSays, BeginAsk, Begun}
 use Rattle.loading.proofs.Rules.{Cut, LayoutFits, first-slots, first-nodes}
 
 -- ---- begin
 -- so much is answered of a rule, and so much left of the state
 abbrev Ends : List ℕ → Formula → List ℕ → List ℕ → Said → Type 0
-Ends masks rule state state′ said = (said ≡ beginSays masks rule) × (state′ ≡ left (beginSays masks rule) (loadedState masks rule) state)
+Ends masks rule state state′ said = (said ≡ beginSays (formIn state) masks rule) × (state′ ≡ left (beginSays (formIn state) masks rule) (loadedState (formIn state) masks rule) state)
 
-refusal : (masks : List ℕ) (rule : Formula) (state : List ℕ) (why : Refusal) → beginSays masks rule ≡ refused (numberOf why) → Ends masks rule state state (refused (numberOf why))
-refusal masks rule state why e = (sym e, sym (ap (λ (s : Said). left s (loadedState masks rule) state) e ∙ left-refused why (loadedState masks rule) state))
+refusal : (masks : List ℕ) (rule : Formula) (state : List ℕ) (why : Refusal) → beginSays (formIn state) masks rule ≡ refused (numberOf why) → Ends masks rule state state (refused (numberOf why))
+refusal masks rule state why e = (sym e, sym (ap (λ (s : Said). left s (loadedState (formIn state) masks rule) state) e ∙ left-refused why (loadedState (formIn state) masks rule) state))
 
-slots-ok : {masks bytes owner : List ℕ} {x : LaidPart} {rule : Formula} {r : RuleGiven masks bytes rule} → Cut r owner x → 1 + x .cuts ≤ slotsMost → leb (length (firstOf masks rule)) slotsMost ≡ true
-slots-ok {masks} {rule = rule} cuts few = let e = first-slots cuts in le-leb (length (firstOf masks rule)) slotsMost (omega arith)
+slots-ok : (φ : Form) {masks bytes owner : List ℕ} {x : LaidPart} {rule : Formula} {r : RuleGiven masks bytes rule} → Cut r owner x → 1 + x .cuts ≤ slotsMost φ → leb (length (firstOf masks rule)) (slotsMost φ) ≡ true
+slots-ok φ {masks} {rule = rule} cuts few = let e = first-slots cuts in le-leb (length (firstOf masks rule)) (slotsMost φ) (omega arith)
 
 module _ {masks bytes owner : List ℕ} (state : List ℕ) {x : LaidPart} {rule : Formula} {r : RuleGiven masks bytes rule} (cuts : Cut r owner x) where
-  pub begun-slots : slotsMost < 1 + x .cuts → Ends masks rule state state (refused (numberOf Slots))
-  begun-slots l = let e = first-slots cuts in refusal masks rule state Slots (order-refused 7 _ _ _ (lt-leb (length (firstOf masks rule)) slotsMost (omega arith)))
+  pub begun-slots : slotsMost (formIn state) < 1 + x .cuts → Ends masks rule state state (refused (numberOf Slots))
+  begun-slots l = let e = first-slots cuts in refusal masks rule state Slots (order-refused 7 _ _ _ (lt-leb (length (firstOf masks rule)) (slotsMost (formIn state)) (omega arith)))
 
-  pub begun-nodes : 1 + x .cuts ≤ slotsMost → {count : ℕ} → count ≡ min (size (unfolded rule)) (nodesRoom + 1) → nodesMost < count + x .cuts → Ends masks rule state state (refused (numberOf Nodes))
+  pub begun-nodes : 1 + x .cuts ≤ slotsMost (formIn state) → {count : ℕ} → count ≡ min (size (unfolded rule)) (nodesRoom + 1) → nodesMost (formIn state) < count + x .cuts → Ends masks rule state state (refused (numberOf Nodes))
   begun-nodes few c l =
       let e = first-nodes cuts in
-      refusal masks rule state Nodes (order-ok 7 _ _ _ (slots-ok cuts few) ∙ order-refused 8 _ _ _ (lt-leb (nodesOf (firstOf masks rule)) nodesMost (omega arith)))
+      let f = nodes-few (formIn state) in
+      refusal masks rule state Nodes (order-ok 7 _ _ _ (slots-ok (formIn state) cuts few) ∙ order-refused 8 _ _ _ (lt-leb (nodesOf (firstOf masks rule)) (nodesMost (formIn state)) (omega arith)))
 
-pub begun-done : {masks bytes owner : List ℕ} (state : List ℕ) {x : LaidPart} {count : ℕ} {rule : Formula} {r : RuleGiven masks bytes rule} → LayoutFits r owner x count
-    → {state′ : List ℕ} → state′ ≡ loadedState masks rule → Ends masks rule state state′ (accepted [])
+pub begun-done : {masks bytes owner : List ℕ} (state : List ℕ) {x : LaidPart} {count : ℕ} {rule : Formula} {r : RuleGiven masks bytes rule} → LayoutFits (formIn state) r owner x count
+    → {state′ : List ℕ} → state′ ≡ loadedState (formIn state) masks rule → Ends masks rule state state′ (accepted [])
 begun-done {masks} state {rule = rule} fits h =
     let e = first-nodes (fits .cut) in
-    let says : beginSays masks rule ≡ accepted [] =
-    order-ok 7 _ _ _ (slots-ok (fits .cut) (fits .few-slots)) ∙ order-ok 8 _ _ _ (le-leb (nodesOf (firstOf masks rule)) nodesMost (omega arith)) ∙ order-done _ in
-    (sym says, h ∙ sym (ap (λ (s : Said). left s (loadedState masks rule) state) says ∙ left-accepted [] (loadedState masks rule) state))
+    let f = nodes-few (formIn state) in
+    let says : beginSays (formIn state) masks rule ≡ accepted [] =
+    order-ok 7 _ _ _ (slots-ok (formIn state) (fits .cut) (fits .few-slots)) ∙ order-ok 8 _ _ _ (le-leb (nodesOf (firstOf masks rule)) (nodesMost (formIn state)) (omega arith)) ∙ order-done _ in
+    (sym says, h ∙ sym (ap (λ (s : Said). left s (loadedState (formIn state) masks rule) state) says ∙ left-accepted [] (loadedState (formIn state) masks rule) state))
 
 -- ---- load
 -- a list of checks that refuses, with more checks behind it
@@ -87,18 +91,18 @@ order-after (c ∷ cs) ds t p = ap (λ b. pick b (inOrder (cs ++ ds) t) (refused
 module _ (file state : List ℕ) where
   load-refusal : (why : Refusal) → loadSays file (length state) ≡ refused (numberOf why) → LoadsRule file state state (Refused why)
   load-refusal why e =
-      let o = loadedState (masksInFile file) (ruleIn file) in
+      let o = loadedState (formIn state) (masksInFile file) (ruleIn file) in
       record { says = sym e; leaves = sym (ap (λ (s : Said). left s o state) e ∙ left-refused why o state) }
 
-  pub load-length : (length state ≡ stateLength → ⊥) → LoadsRule file state state (Refused Length)
+  pub load-length : (Formed state → ⊥) → LoadsRule file state state (Refused Length)
   unfolding loadSays loadLengthsOk both
-  load-length n = load-refusal Length (order-refused 1 _ _ _ (rw (ne-eqb (length state) stateLength n)))
+  load-length n = load-refusal Length (order-refused 1 _ _ _ (rw (ne-eqb (length state) (stateLength (formIn state)) n)))
 
-  module _ (long : length state ≡ stateLength) where
+  module _ (long : Formed state) where
     -- the checks of the file are those of reading
     abbrev layout-checks : List Check
     layout-checks =
-        check 7 (leb (length (firstOf (masksInFile file) (ruleIn file))) slotsMost) ∷ check 8 (leb (nodesOf (firstOf (masksInFile file) (ruleIn file))) nodesMost) ∷ []
+        check 7 (leb (length (firstOf (masksInFile file) (ruleIn file))) (slotsMost (formIn state))) ∷ check 8 (leb (nodesOf (firstOf (masksInFile file) (ruleIn file))) (nodesMost (formIn state))) ∷ []
 
     abbrev file-checks : List Check
     file-checks =
@@ -112,7 +116,7 @@ module _ (file state : List ℕ) where
 
     says-is : loadSays file (length state) ≡ inOrder (file-checks ++ layout-checks) (accepted [])
     unfolding loadSays loadLengthsOk both read.readLengthsOk
-    says-is = rw (eq-eqb (length state) stateLength long)
+    says-is = rw (eq-eqb (length state) (stateLength (formIn state)) long)
 
     pub load-read : (why : Refusal) → refused (numberOf why) ≡ readSays file boardsMost ruleNodesMost → LoadsRule file state state (Refused why)
     unfolding readSays
@@ -120,12 +124,12 @@ module _ (file state : List ℕ) where
 
     -- the file was read
     module _ (passed : ReadPassed file boardsMost ruleNodesMost) where
-      pub load-begun : (state′ : List ℕ) (answer : Outcome) → saidOutcome answer ≡ beginSays (masksInFile file) (ruleIn file)
-          → state′ ≡ left (beginSays (masksInFile file) (ruleIn file)) (loadedState (masksInFile file) (ruleIn file)) state → LoadsRule file state state′ answer
+      pub load-begun : (state′ : List ℕ) (answer : Outcome) → saidOutcome answer ≡ beginSays (formIn state) (masksInFile file) (ruleIn file)
+          → state′ ≡ left (beginSays (formIn state) (masksInFile file) (ruleIn file)) (loadedState (formIn state) (masksInFile file) (ruleIn file)) state → LoadsRule file state state′ answer
       load-begun state′ answer e f =
-          let says : loadSays file (length state) ≡ beginSays (masksInFile file) (ruleIn file) =
+          let says : loadSays file (length state) ≡ beginSays (formIn state) (masksInFile file) (ruleIn file) =
           says-is ∙ order-after file-checks layout-checks (accepted []) (passed .lengths, (passed .version, (passed .counts, (passed .offsets, (passed .masks, (passed .formula, tt)))))) in
-          record { says = e ∙ sym says; leaves = f ∙ ap (λ (s : Said). left s (loadedState (masksInFile file) (ruleIn file)) state) (sym says) }
+          record { says = e ∙ sym says; leaves = f ∙ ap (λ (s : Said). left s (loadedState (formIn state) (masksInFile file) (ruleIn file)) state) (sym says) }
 
 -- ---- what was read
 module _ (file : List ℕ) (passed : ReadPassed file boardsMost ruleNodesMost) where
@@ -211,7 +215,7 @@ module _ {file masks formula masks′ formula′ : List ℕ} {c : RuleCounts} (m
         formula-is = output-front (formulaInFile file) formula formula′ (c .nodes) ruleNodesMost (r .leaves-formula) (omega arith);
       }
 
-module _ {file masks′ formula′ : List ℕ} {c : RuleCounts} {state : List ℕ} (long : length state ≡ stateLength) (r : RuleRead file masks′ formula′ c) where
+module _ {file masks′ formula′ : List ℕ} {c : RuleCounts} {state : List ℕ} (long : Formed state) (r : RuleRead file masks′ formula′ c) where
   pub read-begins : BeginAsk (take (c .boards) masks′) (take (c .nodes) formula′) state
   read-begins = record { rule = ruleIn file; ruled = rw (r .masks-are, r .formula-is) (read-ruled file (r .passed)); long = long }
 

@@ -26,6 +26,8 @@ use Rattle.network.proofs.Owned.{unfolded-free}
 use Rattle.network.proofs.Laying.{HoldsIn}
 use Rattle.network.proofs.Holding.{free-holds}
 use Rattle.network.proofs.Choosing.{masks-free}
+use Rattle.state.specs.declared.Form.{Form}
+use Rattle.state.specs.Form.{slotsMost, nodesMost}
 use Rattle.state.specs.Bytes.{nodesOf}
 use Rattle.state.specs.Calls.{firstOf}
 use Rattle.nodes.proofs.Fronts.{front-length}
@@ -42,7 +44,7 @@ use Rattle.laying.specs.Lays.{Source}
 use Rattle.laying.proofs.Boarding.{on-board}
 use Rattle.laying.proofs.Counting.{held, held-none, laid-slots, laid-nodes}
 use Rattle.storing.specs.Stores.{LaidOut}
-use Rattle.loading.specs.Load.{RuleGiven}
+use Rattle.loading.specs.Beginning.{RuleGiven}
 
 -- ---- the board of the first slot
 pub board-none : (choice : ℕ) → choice ≡ boardsMost → pick (eqb choice boardsMost) 0 choice ≡ 0
@@ -178,8 +180,8 @@ module _ {masks bytes : List ℕ} {rule : Formula} {r : RuleGiven masks bytes ru
   first-choice = scored-chosen (r .propositions) 0 masks (cuts .parted .scored) (cuts .owned) (rule-within r)
 
 -- ---- a layout within the limits, by the nodes that were counted too
-pub record LayoutFits {masks bytes : List ℕ} {rule : Formula} (r : RuleGiven masks bytes rule) (owner : List ℕ) (x : LaidPart) (count : ℕ) : Type 0 where
+pub record LayoutFits (φ : Form) {masks bytes : List ℕ} {rule : Formula} (r : RuleGiven masks bytes rule) (owner : List ℕ) (x : LaidPart) (count : ℕ) : Type 0 where
   pub cut : Cut r owner x
-  pub few-slots : 1 + x .cuts ≤ slotsRoom
+  pub few-slots : 1 + x .cuts ≤ slotsMost φ
   pub count-is : count ≡ min (size (unfolded rule)) (nodesRoom + 1)
-  pub few-nodes : count + x .cuts ≤ nodesRoom
+  pub few-nodes : count + x .cuts ≤ nodesMost φ

@@ -4,7 +4,9 @@ ghost use mathlib.Core.Path.{_≡_};
 ghost use lib.Dec.{eqb};
 ghost use Rattle.lists.specs.Tests.{pick};
 ghost use Rattle.limits.specs.Limits.{boardsMost};
-ghost use Rattle.loading.specs.Load.{FirstAsk, Firsts, BeginAsk, Begun, LoadsRule};
+ghost use Rattle.state.specs.Form.{formIn};
+ghost use Rattle.loading.specs.Load.{LoadsRule};
+ghost use Rattle.loading.specs.Beginning.{FirstAsk, Firsts, BeginAsk, Begun};
 use answers::Outcome;
 use answers::Refusal;
 use cutting::STAYS;
@@ -12,9 +14,8 @@ use limits::BOARDS_MOST;
 use limits::NODES_ROOM;
 use limits::PROPOSITIONS_MOST;
 use limits::RULE_NODES_MOST;
-use limits::SLOTS_ROOM;
 use rules::ReadAnswer;
-use storing::STATE_LENGTH;
+use state::Form;
 
 // The board of the first slot: board 0 where all scores are 0.
 fn first_board(choice: u8) -> u8
@@ -36,7 +37,7 @@ fn put_first(
     tags: &mut [u32],
 )
     requires { ⌜ FirstAsk (now state) (now masks) (now rule) (now owner) board slots nodes (now u) (now tags) ⌝ }
-    ensures { λ _. ⌜ Firsts (now (masks .entry)) (now (rule .entry)) (now (state .exit)) ⌝ }
+    ensures { λ _. ⌜ Firsts (formIn (now (state .entry))) (now (masks .entry)) (now (rule .entry)) (now (state .exit)) ⌝ }
 {
     let n = unfolding::unfold_into(u, rule).written;
     tagging::tag(&u[..n], tags, owner, board);
@@ -48,15 +49,16 @@ fn begin(masks: &[u64], rule: &[u8], state: &mut [u8]) -> Outcome
     requires { ⌜ BeginAsk (now masks) (now rule) (now state) ⌝ }
     ensures { λ r. ⌜ Begun (now (masks .entry)) (now (rule .entry)) (now (state .entry)) (now (state .exit)) r ⌝ }
 {
+    let form = Form::of(state.len());
     let mut owner = [0u8; PROPOSITIONS_MOST];
     scores::owners(masks, &mut owner);
     let part = cutting::count_cuts(rule, &owner, STAYS).part;
     let slots = 1 + part.cuts;
-    if SLOTS_ROOM < slots {
+    if form.slots_most() < slots {
         return Outcome::Refused(Refusal::Slots);
     }
     let nodes = unfolding::count_unfolded(rule).written + part.cuts;
-    if NODES_ROOM < nodes {
+    if form.nodes_most() < nodes {
         return Outcome::Refused(Refusal::Nodes);
     }
     let board = first_board(part.choice);
@@ -79,7 +81,8 @@ fn begin(masks: &[u64], rule: &[u8], state: &mut [u8]) -> Outcome
 pub fn load(file: &[u8], state: &mut [u8]) -> Outcome
     ensures { λ r. ⌜ LoadsRule (now (file .entry)) (now (state .entry)) (now (state .exit)) r ⌝ }
 {
-    if state.len() != STATE_LENGTH {
+    let form = Form::of(state.len());
+    if state.len() != form.length() {
         return Outcome::Refused(Refusal::Length);
     }
     let mut masks = [0u64; BOARDS_MOST];

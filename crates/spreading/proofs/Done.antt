@@ -14,7 +14,7 @@ use Rattle.network.specs.Scores.{chosen}
 use Rattle.state.specs.Fields.{slotsIn, masksIn, boardOfIn}
 use Rattle.state.specs.Clauses.{stateOk}
 use Rattle.state.specs.Bytes.{networkOf}
-use Rattle.state.proofs.Rows.{masks-length}
+use Rattle.state.proofs.Listed.{masks-length}
 use Rattle.cutting.proofs.Choices.{chosen-below}
 use Rattle.tagging.specs.Packed.{aheadIn}
 use Rattle.laying.specs.Lays.{OnBoard, HeldAt}

@@ -10,6 +10,7 @@ use lib.ListN.{length, getD, take, drop, set, length-append, length-drop, length
 use lib.Seq.{take-at, drop-drop, drop-append-le, getD-drop, getD-set-same, getD-set-other}
 use lib.Dec.{eqb}
 use borrow.Author.Tests.{eqb-true, eqb-false}
+use Rattle.state.specs.declared.Counts.{Counts}
 use Rattle.lists.specs.Runs.{tail, tailAs}
 use Rattle.lists.proofs.Parts.{tail-length, handed-length, handed-back, handed-front}
 use Rattle.lists.proofs.Stretches.{tail-put}
@@ -22,7 +23,7 @@ use Rattle.tagging.specs.Packed.{aheadIn, withAhead}
 use Rattle.tagging.proofs.Packing.{Alike, alike-same, ahead-alike, ahead-has}
 use Rattle.tagging.proofs.Places.{Agree, agree-drop}
 use Rattle.checked.proofs.Bytes.{holds-append}
-use Rattle.counting.specs.Known.{Known}
+use Rattle.counting.specs.OpenedWith.{OpenedWith}
 use Rattle.counting.specs.Held.{heldOver}
 use Rattle.counting.proofs.Held.{held-high, over-append}
 use Rattle.counting.proofs.Networks.{nodesOfSlot}
@@ -33,13 +34,13 @@ use Rattle.spreading.proofs.Places.{StandsIn, HeldFront, stands-more, h
 use Rattle.spreading.proofs.Turns.{Turn, SpreadTo, w-long, byte-is, room-next}
 
 -- a turn at a place holder
-pub record Holder (s : List ℕ) (boards slots nodes : ℕ) (owner u tags : List ℕ) (i end : ℕ) : Type 0 where
-  pub known : Known s boards slots nodes owner
+pub record Holder (s : List ℕ) (c : Counts) (owner u tags : List ℕ) (i end : ℕ) : Type 0 where
+  pub known : OpenedWith s c owner
   pub turn : Turn s u tags i end
   pub before : i < end
   pub big : holdCode ≤ getD u i 0
 
-module _ {s : List ℕ} {boards slots nodes : ℕ} {owner u tags : List ℕ} {i end : ℕ} (holder : Holder s boards slots nodes owner u tags i end) where
+module _ {s : List ℕ} {c : Counts} {owner u tags : List ℕ} {i end : ℕ} (holder : Holder s c owner u tags i end) where
   abbrev turn : Turn s u tags i end
   turn = holder .turn
 
@@ -70,18 +71,18 @@ module _ {s : List ℕ} {boards slots nodes : ℕ} {owner u tags : List ℕ} {i 
 
   fits : end + (size g + (heldOver (nodesOfSlot s) (encode g) + heldOver (nodesOfSlot s) (drop (i + 1) w))) ≤ nodesRoom
   fits =
-      let r = slot-room s (holder .known .passes) m there in
+      let r = slot-room s (holder .known .opened .passes) m there in
       let n = room-next turn (holder .before) in
       let e = held-high (nodesOfSlot s) (getD u i 0) (holder .big) in
       omega arith
 
-  slot-there : m < slots
-  slot-there = let h = there in let e = holder .known .header .slots-are in omega arith
+  slot-there : m < c .slots
+  slot-there = let h = there in let e = holder .known .opened .header .slots-are in omega arith
 
   pub holder-few : m < slotsRoom
   holder-few = let x = slot-numbers (holder .known) slot-there in omega arith
 
-  pub holder-ask : (v : ℕ) → PutSlotAsk s boards slots nodes m owner (tail end u) (tail end (tags₁ v))
+  pub holder-ask : (v : ℕ) → PutSlotAsk s c m owner (tail end u) (tail end (tags₁ v))
   holder-ask v =
       let f = fits in
       let d = tail-length end u in
@@ -182,7 +183,7 @@ module _ {s : List ℕ} {boards slots nodes : ℕ} {owner u tags : List ℕ} {i 
                 order = omega (arith, length-append w (encode g));
                 root = stands-more s w (encode g) tags tags′ (subst (λ (n : ℕ). Agree n tags tags′) (sym lw) agree) 0 0 (turn .reached .root);
                 held = held-next;
-                holds = holds-append (slotsIn s) w (encode g) (turn .reached .holds) (slot-hold s (holder .known .passes) m there);
+                holds = holds-append (slotsIn s) w (encode g) (turn .reached .holds) (slot-hold s (holder .known .opened .passes) m there);
                 room =
                     let e = ap (heldOver (nodesOfSlot s)) d ∙ over-append (nodesOfSlot s) (drop (i + 1) w) (encode g) in
                     omega (arith, length-append w (encode g), length-encode g);

@@ -2,14 +2,15 @@
 -- put (`slot-put`). Assumes nothing.
 use mathlib.Core.Path.{_≡_, sym, ap, _∙_}
 use mathlib.Core.List.{List, []}
-use Prim.Native.Nat.{ℕ, _+_, _-_, _*_, _<_, _≤_}
+use Prim.Native.Nat.{ℕ, _-_, _<_, _≤_}
 use native.Mathlib.Omega.{arith}
-use lib.ListN.{length, getD, take, drop}
+use lib.ListN.{length, take, drop}
+use Rattle.state.specs.declared.Counts.{Counts}
 use Rattle.limits.specs.Limits.{nodesRoom}
 use Rattle.ltl.specs.Formula.{size}
 use Rattle.masks.specs.Masks.{sumOnes}
 use Rattle.network.specs.Scores.{chosen}
-use Rattle.state.specs.Fields.{slotsIn, masksIn}
+use Rattle.state.specs.Fields.{slotsIn, masksIn, boardOfIn}
 use Rattle.state.specs.Bytes.{formulaAt}
 use Rattle.nodes.specs.Begins.{Front, Begins}
 use Rattle.nodes.proofs.Fronts.{front-length}
@@ -20,15 +21,14 @@ use Rattle.unfolding.proofs.Fronts.{written-bytes, written-front}
 use Rattle.tagging.specs.declared.TaggedPart as tag
 use Rattle.tagging.specs.Tags.{hereOn, Tagging}
 use Rattle.laying.proofs.Boarding.{on-board}
-use Rattle.checking.specs.Slotted.{Spans}
-use Rattle.checking.proofs.Records as records
-use Rattle.counting.proofs.Slots.{slot-placed, slot-numbers, lent-front}
+use Rattle.state.specs.Counted.{Spans}
+use Rattle.counting.proofs.Slots.{slot-numbers, lent-front}
 use Rattle.spreading.specs.Spreads.{unfoldedAt, PutSlotAsk, PutsSlot}
 use Rattle.spreading.proofs.Room.{slot-within}
 
-module _ {s : List ℕ} {boards slots nodes m : ℕ} {owner u tags : List ℕ} (ask : PutSlotAsk s boards slots nodes m owner u tags) where
+module _ {s : List ℕ} {c : Counts} {m : ℕ} {owner u tags : List ℕ} (ask : PutSlotAsk s c m owner u tags) where
   there : m < slotsIn s
-  there = let e = ask .known .header .slots-are in omega arith
+  there = let e = ask .known .opened .header .slots-are in omega arith
 
   -- the slot's bytes, as they are lent
   module _ {from to : ℕ} (x : Spans s m from to) where
@@ -56,15 +56,11 @@ module _ {s : List ℕ} {boards slots nodes m : ℕ} {owner u tags : List ℕ} (
           let e = front-length (take (w .written) u′) (unfoldedAt s m) [] unfolded-front in
           (record { formula = unfoldedAt s m; rest = []; front = unfolded-front }, ask .known .table, omega arith, omega arith)
 
-      abbrev board : ℕ
-      board = getD s (16 + 17 * boards + 6 * m) 0
-
-      pub slot-put : {tags′ : List ℕ} (y : tag.TaggedPart) → Tagging owner (take (w .written) u′) board tags′ y → PutsSlot s m u u′ tags′ (w .written)
-      slot-put {tags′} y h =
-          let within = slot-within s (ask .known .passes) m there in
-          let few = slot-numbers (ask .known) (ask .there) .board in
-          let b = records.board-at s boards slots nodes m (slot-placed (ask .known) (ask .there)) in
-          let o = on-board (sumOnes (masksIn s)) (slotsIn s) (masksIn s) y (ask .known .owned) within unfolded-front (h (unfoldedAt s m) [] unfolded-front) few in
+      pub slot-put : {board : ℕ} {tags′ : List ℕ} (y : tag.TaggedPart) → board ≡ boardOfIn s m → Tagging owner (take (w .written) u′) board tags′ y → PutsSlot s m u u′ tags′ (w .written)
+      slot-put y b h =
+          let within = slot-within s (ask .known .opened .passes) m there in
+          let z = slot-numbers (ask .known) (ask .there) .few-boards in
+          let o = on-board (sumOnes (masksIn s)) (slotsIn s) (masksIn s) y (ask .known .owned) within unfolded-front (h (unfoldedAt s m) [] unfolded-front) (omega arith) in
           record {
             writes = written-is;
             leaves = slot-unfolded .leaves;

@@ -10,6 +10,7 @@ use lib.ListN.{length, getD, take, drop}
 use lib.Seq.{length-take-le, take-at, getD-take}
 use lib.Dec.{ltb}
 use borrow.Author.Tests.{ltb-true, ltb-false}
+use Rattle.state.specs.declared.Counts.{Counts}
 use Rattle.limits.specs.Limits.{nodesRoom}
 use Rattle.kinds.specs.Kinds.{holdCode}
 use Rattle.ltl.specs.Formula.{size, encode}
@@ -39,18 +40,18 @@ pub record Turn (s u tags : List ℕ) (i end : ℕ) : Type 0 where
   pub reached : SpreadTo s (take end u) tags i
 
 -- ---- the first turn: the root was put
-module _ {s owner u tags : List ℕ} {boards slots nodes : ℕ} (ask : SpreadAsk s boards slots nodes owner u tags) where
-  pub first-ask : PutSlotAsk s boards slots nodes 0 owner u tags
+module _ {s owner u tags : List ℕ} {c : Counts} (ask : SpreadAsk s c owner u tags) where
+  pub first-ask : PutSlotAsk s c 0 owner u tags
   first-ask =
-      let r = root-room s (ask .known .passes) in
-      let z = root-there s (ask .known .passes) in
-      let n = ask .known .header .slots-are in
+      let r = root-room s (ask .known .opened .passes) in
+      let z = root-there s (ask .known .opened .passes) in
+      let n = ask .known .opened .header .slots-are in
       record { known = ask .known; there = omega arith; room = omega arith; few = omega arith; long = omega arith }
 
   pub first-turn : {u′ tags′ : List ℕ} {n : ℕ} → PutsSlot s 0 u u′ tags′ n → length u′ ≡ length u → length tags′ ≡ length tags → Turn s u′ tags′ 0 n
   first-turn {u′} {tags′} {n} h lu lm =
       let g = unfoldedAt s 0 in
-      let r = root-room s (ask .known .passes) in
+      let r = root-room s (ask .known .opened .passes) in
       let e = length-encode g in
       let is : take n u′ ≡ encode g = ap₂ take (h .writes) (h .leaves) ∙ take-at (encode g) (drop (size g) u) (size g) e in
       record {
@@ -63,7 +64,7 @@ module _ {s owner u tags : List ℕ} {boards slots nodes : ℕ} (ask : SpreadAsk
               order = omega arith;
               root = stands-last s [] u′ tags′ tags′ 0 0 refl refl (h .stands);
               held = λ j l big. absurd (omega arith);
-              holds = slot-hold s (ask .known .passes) 0 (root-there s (ask .known .passes));
+              holds = slot-hold s (ask .known .opened .passes) 0 (root-there s (ask .known .opened .passes));
               room = omega arith;
             });
       }

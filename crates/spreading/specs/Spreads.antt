@@ -4,6 +4,7 @@ use mathlib.Core.Path.{_≡_}
 use Prim.Native.Nat.{ℕ, _<_, _≤_}
 use mathlib.Core.List.{List, _++_}
 use lib.ListN.{length, getD, take, drop}
+use Rattle.state.specs.declared.Counts.{Counts}
 use Rattle.limits.specs.Limits.{nodesRoom}
 use Rattle.ltl.specs.Formula.{Formula, size, encode}
 use Rattle.ltl.specs.Progression.{unfolded}
@@ -11,7 +12,7 @@ use Rattle.network.specs.Scores.{chosen}
 use Rattle.state.specs.Fields.{masksIn, boardOfIn}
 use Rattle.state.specs.Bytes.{nodesOf, formulaAt}
 use Rattle.state.specs.Calls.{nextIn}
-use Rattle.counting.specs.Known.{Known}
+use Rattle.counting.specs.OpenedWith.{OpenedWith}
 use Rattle.tagging.specs.Packed.{boardIn, hereIn}
 use Rattle.tagging.specs.Tags.{hereOn, Tagged}
 use Rattle.storing.specs.Stores.{LaidOut}
@@ -27,9 +28,9 @@ pub record SlotStands (s u tags : List ℕ) (m : ℕ) : Type 0 where
   pub here-is : hereIn (getD tags 0 0) ≡ hereOn (chosen (masksIn s)) (unfoldedAt s m) (boardOfIn s m)
   pub tagged : Tagged (chosen (masksIn s)) (unfoldedAt s m) tags
 
-pub record PutSlotAsk (s : List ℕ) (boards slots nodes m : ℕ) (owner u tags : List ℕ) : Type 0 where
-  pub known : Known s boards slots nodes owner
-  pub there : m < slots
+pub record PutSlotAsk (s : List ℕ) (c : Counts) (m : ℕ) (owner u tags : List ℕ) : Type 0 where
+  pub known : OpenedWith s c owner
+  pub there : m < c .slots
   pub room : size (unfoldedAt s m) ≤ length u
   pub few : size (unfoldedAt s m) ≤ nodesRoom
   pub long : length u ≤ length tags
@@ -40,8 +41,8 @@ pub record PutsSlot (s : List ℕ) (m : ℕ) (u u′ tags′ : List ℕ) (n : �
   pub stands : SlotStands s u′ tags′ m
 
 -- the network that it closes to is within the limit, and there is room for as much
-pub record SpreadAsk (s : List ℕ) (boards slots nodes : ℕ) (owner u tags : List ℕ) : Type 0 where
-  pub known : Known s boards slots nodes owner
+pub record SpreadAsk (s : List ℕ) (c : Counts) (owner u tags : List ℕ) : Type 0 where
+  pub known : OpenedWith s c owner
   pub few : nodesOf (nextIn s) ≤ nodesRoom
   pub u-long : length u ≡ nodesRoom
   pub tags-long : length tags ≡ nodesRoom

@@ -1,4 +1,3 @@
 -- Laws of a state's bytes as they are written.
-pub mod Boards
 pub mod Written
 pub mod Asked

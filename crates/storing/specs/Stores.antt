@@ -4,11 +4,11 @@ use Prim.Native.Nat.{ℕ, _+_, _-_, _*_, _≤_}
 use mathlib.Core.List.{List, _++_}
 use mathlib.Core.Option.{Option}
 use lib.ListN.{length, replicate}
-use Rattle.limits.specs.Limits.{boardsMost, nodesMost}
+use Rattle.limits.specs.Limits.{boardsMost, slotsRoom, nodesRoom}
 use Rattle.ltl.specs.Formula.{Formula}
 use Rattle.network.specs.Layout.{Slot, Laid, rooted, laid}
-use Rattle.state.specs.Fields.{stateLength}
-use Rattle.state.specs.Clauses.{slotsMost}
+use Rattle.state.specs.declared.Form.{Form}
+use Rattle.state.specs.Form.{formIn, slotsMost, nodesMost, slotRows, Formed}
 use Rattle.state.specs.Bytes.{nodesOf, slotRecords, nodeBytes, stateOf}
 use Rattle.laying.specs.Lays.{OnBoard, Source}
 
@@ -24,31 +24,33 @@ pub record LaidOut (u tags : List ℕ) (network : List Slot) : Type 0 where
   pub network-is : network ≡ rooted board (laid choose hold formula board 1)
 
 -- it has so many slots and nodes
-pub record Counts (network : List Slot) (slots nodes : ℕ) : Type 0 where
+pub record LaidCounts (network : List Slot) (slots nodes : ℕ) : Type 0 where
   pub slots-are : slots ≡ length network
   pub nodes-are : nodes ≡ nodesOf network
-  pub few-slots : slots ≤ slotsMost
-  pub few-nodes : nodes ≤ nodesMost
+  pub few-slots : slots ≤ slotsRoom
+  pub few-nodes : nodes ≤ nodesRoom
 
 pub record NetworkAsk (out rows : List ℕ) (slots nodes : ℕ) (u tags : List ℕ) : Type 0 where
   pub network : List Slot
   pub laid-out : LaidOut u tags network
-  pub counts : Counts network slots nodes
-  pub room : 6 * slots + nodes ≤ length out
-  pub rows-room : 6 * slots ≤ length rows
+  pub counts : LaidCounts network slots nodes
+  pub room : slotRows slots + nodes ≤ length out
+  pub rows-room : slotRows slots ≤ length rows
 
 abbrev pub StoresNetwork : ℕ → ℕ → List ℕ → List ℕ → List ℕ → List ℕ → Type 0
 StoresNetwork slots nodes u tags out out′ =
-    (network : List Slot) → LaidOut u tags network → Counts network slots nodes
-    → out′ ≡ slotRecords 0 network ++ (nodeBytes network ++ replicate (length out - (6 * slots + nodes)) 0)
+    (network : List Slot) → LaidOut u tags network → LaidCounts network slots nodes
+    → out′ ≡ slotRecords 0 network ++ (nodeBytes network ++ replicate (length out - (slotRows slots + nodes)) 0)
 
 pub record StateAsk (state masks : List ℕ) (slots nodes : ℕ) (u tags : List ℕ) : Type 0 where
   pub network : List Slot
   pub laid-out : LaidOut u tags network
-  pub counts : Counts network slots nodes
-  pub long : length state ≡ stateLength
+  pub counts : LaidCounts network slots nodes
+  pub long : Formed state
   pub few-boards : length masks ≤ boardsMost
+  pub form-slots : slots ≤ slotsMost (formIn state)
+  pub form-nodes : nodes ≤ nodesMost (formIn state)
 
-abbrev pub Stores : List ℕ → ℕ → ℕ → ℕ → List ℕ → List ℕ → List ℕ → Type 0
-Stores masks slots nodes ticks u tags state′ =
-    (network : List Slot) → LaidOut u tags network → Counts network slots nodes → state′ ≡ stateOf masks network ticks
+abbrev pub Stores : Form → List ℕ → ℕ → ℕ → ℕ → List ℕ → List ℕ → List ℕ → Type 0
+Stores φ masks slots nodes ticks u tags state′ =
+    (network : List Slot) → LaidOut u tags network → LaidCounts network slots nodes → state′ ≡ stateOf φ masks network ticks

@@ -1,8 +1,8 @@
 -- The boards before i have sampled; the boards left fall. Assumes nothing.
-use Prim.Native.Nat.{_-_}
-use mathlib.Core.Path.{refl}
+use mathlib.Core.Path.{_≡_}
+use Prim.Native.Nat.{_-_, _<_, _≤_}
 use Rattle.state.specs.Fields.{sampledIn}
-use Rattle.checking.proofs.Each.{Through, through-none}
+use Rattle.records.proofs.Each.{Through, through-none}
 use Rattle.closing.proofs.Flags.{isSet, flags-more, flag-missing, flags-all}
 use native.Mathlib.Omega.{arith}
 use borrow.Author.Needs.{needs}
@@ -22,12 +22,9 @@ all-sampled-spec =
     Inv-loop
     μ-loop
     (λ c. through-none)
-    (λ c. let a = c .before .before .pre in omega arith)
-    (λ c. let a = c .before .before .pre in omega arith)
-    (λ c. let a = c .before .before .pre in omega arith)
-    (λ c. let a = c .before .before .before .pre in omega arith)
-    (λ c. flag-missing (sampledIn (c .before .before .before .before .args .s .now)) (c .before .before .before .loop .inv) (c .before .before .before .before .pre .header .boards-are) (c .before .before .loop-test .taken) refl (c .if1 .taken))
+    (λ c κs. (c .before .before .before .pre .long, (let f = c .before .before .before .pre .few-boards in let l = c .loop-test .taken in omega arith)))
+    (λ c. flag-missing (sampledIn (c .before .before .before .before .before .args .s .now)) (c .before .before .before .loop .inv) (c .before .before .before .before .before .pre .header .boards-are) (c .before .before .loop-test .taken) (c .before .sampled-of .ensures) (c .if1 .taken))
     (λ c. search needs)
-    (λ c. search needs)
-    (λ c. flags-more (sampledIn (c .before .before .before .before .args .s .now)) (c .before .before .before .loop .inv) (c .before .before .loop-test .taken) refl (c .if1 .left))
-    (λ c. flags-all (sampledIn (c .before .before .args .s .now)) (c .before .loop .inv) (c .before .before .pre .header .boards-are) (c .loop-test .left)))
+    (λ c. omega arith)
+    (λ c. flags-more (sampledIn (c .before .before .before .before .before .args .s .now)) (c .before .before .before .loop .inv) (c .before .before .loop-test .taken) (c .before .sampled-of .ensures) (c .if1 .left))
+    (λ c. flags-all (sampledIn (c .before .before .before .args .s .now)) (c .before .loop .inv) (c .before .before .before .pre .header .boards-are) (c .loop-test .left)))

@@ -1,9 +1,8 @@
 -- The slots before k are stepped; the slots left fall. Assumes nothing.
-use Prim.Native.Nat.{ℕ, _+_, _*_, _-_}
-use mathlib.Core.Path.{_≡_, ap}
-use lib.ListN.{getD}
+use mathlib.Core.Path.{_≡_}
+use Prim.Native.Nat.{_-_, _<_, _≤_}
 use Rattle.state.specs.Fields.{steppedIn}
-use Rattle.checking.proofs.Each.{Through, through-none}
+use Rattle.records.proofs.Each.{Through, through-none}
 use Rattle.closing.proofs.Flags.{isSet, flags-more, flag-missing, flags-all}
 use native.Mathlib.Omega.{arith}
 use borrow.Author.Needs.{needs}
@@ -11,14 +10,10 @@ use Rattle.closing.proofs.all_stepped.Statement.{statement}
 use Rattle.closing.proofs.all_stepped.Tie as tie
 
 abbrev Inv-loop : tie.InvT-loop
-Inv-loop s n slots k₀ k = Through (isSet (steppedIn s)) n k
+Inv-loop s c n k₀ k = Through (isSet (steppedIn s)) n k
 
 abbrev μ-loop : tie.MeasureT-loop
-μ-loop s n slots k₀ k = n - k
-
--- the byte that is read is the slot's flag
-flag-is : (c : tie.In-loop Inv-loop μ-loop) → let a = c .before .before .before .args in getD (a .s .now) (16 + 17 * a .c .boards + 6 * c .before .loop .k + 1) 0 ≡ steppedIn (a .s .now) (c .before .loop .k)
-flag-is c = ap (λ (b : ℕ). getD (c .before .before .before .args .s .now) (16 + 17 * b + 6 * c .before .loop .k + 1) 0) (c .before .before .before .pre .header .boards-are)
+μ-loop s c n k₀ k = n - k
 
 pub all-stepped-spec : {M : Type 1} → statement M
 all-stepped-spec =
@@ -26,15 +21,10 @@ all-stepped-spec =
     (tie.spec
     Inv-loop
     μ-loop
-    (λ c. let a = c .before .pre in omega arith)
-    (λ c. let a = c .before .pre in omega arith)
     (λ c. through-none)
-    (λ c. let a = c .before .before .before .pre in omega arith)
-    (λ c. let a = c .before .before .before .pre in omega arith)
-    (λ c. let a = c .before .before .before .pre in omega arith)
-    (λ c. let a = c .before .before .before .before .pre in omega arith)
-    (λ c. flag-missing (steppedIn (c .before .before .before .before .before .args .s .now)) (c .before .before .before .loop .inv) (c .before .before .before .before .before .pre .header .slots-are) (c .before .before .loop-test .taken) (flag-is (c .before .before)) (c .if1 .taken))
+    (λ c κs. (c .before .before .before .pre, c .loop-test .taken))
+    (λ c. flag-missing (steppedIn (c .before .before .before .before .before .args .s .now)) (c .before .before .before .loop .inv) (c .before .before .before .before .before .pre .header .slots-are) (c .before .before .loop-test .taken) (c .before .mark-of .ensures) (c .if1 .taken))
     (λ c. search needs)
-    (λ c. search needs)
-    (λ c. flags-more (steppedIn (c .before .before .before .before .before .args .s .now)) (c .before .before .before .loop .inv) (c .before .before .loop-test .taken) (flag-is (c .before .before)) (c .if1 .left))
+    (λ c. omega arith)
+    (λ c. flags-more (steppedIn (c .before .before .before .before .before .args .s .now)) (c .before .before .before .loop .inv) (c .before .before .loop-test .taken) (c .before .mark-of .ensures) (c .if1 .left))
     (λ c. flags-all (steppedIn (c .before .before .before .args .s .now)) (c .before .loop .inv) (c .before .before .before .pre .header .slots-are) (c .loop-test .left)))

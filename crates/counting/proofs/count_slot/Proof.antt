@@ -1,30 +1,27 @@
--- The part that is lent is the slot's nodes. Assumes nothing.
+-- The slot's bytes are lent, and counted on its board. Assumes nothing.
 use Rattle.checked.proofs.Lying.{Lying}
-use Rattle.counting.proofs.Slots.{slot-placed, slot-numbers, formula-ask, slot-counted}
-use native.Mathlib.Omega.{arith}
+use Rattle.counting.proofs.Slots.{slot-numbers, formula-ask, slot-counted}
 use borrow.Author.Needs.{needs}
 use Rattle.counting.proofs.count_slot.Statement.{statement}
 use Rattle.counting.proofs.count_slot.Tie as tie
 
-abbrev first : tie.After-span-of → tie.Start
-first c = c .before .before .before .before .before
+abbrev entry : tie.After-span-of → tie.Start
+entry c = c .before .before .before .before .before
 
--- the slot's record is there
-numbers : (c : tie.After-span-of) → let a = first c .args in Lying (a .state .now) (a .c .boards) (a .c .slots) (a .k)
-numbers c = slot-numbers (first c .pre .0) (first c .pre .1)
+-- where the slot lies
+numbers : (c : tie.Start) → Lying (c .args .state .now) (c .args .c) (c .args .k)
+numbers c = slot-numbers (c .pre .0) (c .pre .1)
 
 pub count-slot-spec : {M : Type 1} → statement M
 count-slot-spec =
     tie.close
     (tie.spec
-    (λ c κs. slot-placed (c .before .before .before .before .pre .0) (c .before .before .before .before .pre .1))
-    (λ c. let x = numbers (c .before) in omega arith)
-    (λ c. let x = numbers (c .before) in omega arith)
-    (λ c. let x = numbers (c .before) in omega arith)
-    (λ c. let x = numbers (c .before) in omega arith)
-    (λ c. let x = numbers (c .before .before) in omega arith)
+    (λ c κs. let y = numbers (c .before .before .before .before) .there in (y .sized, y .number, y .stretch))
+    (λ c κs. let y = numbers (entry c) .there in (y .sized, y .number))
     (λ c. search needs)
     (λ c. search needs)
     (λ c. search needs)
-    (λ c κs. let k = c .before .before .before in let a = first k .pre in formula-ask (a .0) (a .1) (k .span-of .ensures) (a .2))
-    (λ c. let k = c .before .before .before .before in let a = first k .pre in slot-counted (a .0) (a .1) (k .span-of .ensures) (c .count-formula .result) (c .count-formula .ensures)))
+    (λ c κs. let d = c .before .before in let p = entry d .pre in
+    formula-ask (p .0) (p .1) (d .span-of .ensures) (c .before .board-of .ensures) (p .2))
+    (λ c. let b = c .before .before in let d = b .before in let p = entry d .pre in
+    slot-counted (p .0) (p .1) (d .span-of .ensures) (c .count-formula .result) (b .board-of .ensures) (c .count-formula .ensures)))

@@ -2,6 +2,7 @@
 -- that has fewer; the numbers in between are those of `Room`, and each return is a law of `Cutting`. Assumes nothing.
 use mathlib.Core.Path.{_≡_, refl, sym, ap, _∙_}
 use mathlib.Core.List.{List}
+use Rattle.state.specs.Form.{slotRow}
 use Rattle.lists.specs.Runs.{tail, tailAs}
 use Rattle.kinds.specs.declared.Leaf.{Leaf}
 use Rattle.kinds.specs.declared.Leaf.the-variants.{Hold}
@@ -45,7 +46,8 @@ use Rattle.tagging.proofs.packed.board_of.Reads as board-of-reads
 use Rattle.tagging.proofs.packed.length_of.Reads as length-of-reads
 use Rattle.tagging.proofs.packed.ahead_of.Reads as ahead-of-reads
 use Rattle.laying.proofs.put_leaf.Reads as put-leaf-reads
-use Rattle.laying.proofs.put_record.Reads as put-record-reads
+use Rattle.state.proofs.put_record.Reads as put-record-reads
+use Rattle.state.proofs.rows.Reads as rows-reads
 use Rattle.laying.proofs.put_whole.Reads as put-whole-reads
 use Rattle.laying.proofs.+cut_not+cut_pair+cut_parts+lay_slot+look.{statement}
 use Rattle.laying.proofs.+cut_not+cut_pair+cut_parts+lay_slot+look.Tie.{close}
@@ -142,10 +144,10 @@ module _ (t : ℕ) where
   pair-here = and 4 cut-pair-kinds.ps (is 4 cut-pair-kinds.ps μ-cut-pair t) cut-pair.Pre
 
   abbrev pair-calls : cut-pair-lts.Claims
-  pair-calls = (look-below t, look.Post)
+  pair-calls = (look-below t, look.Post, rows-reads.Asked, rows-reads.Learnt)
 
-  -- the places: the byte is put; the left one was laid, its numbers are read, its slots are counted, the right one's place is known; the
-  -- right one was laid, and the numbers of both are read
+  -- the places: the byte is put; the left one was laid, its numbers are read, the length of its records is known, the right one's place
+  -- is; the right one was laid, and the numbers of both are read
   abbrev PairIn : Type 0
   PairIn = cut-pair-lts.After-shared-slice-known3 pair-calls pair-here cut-pair.Post
 
@@ -156,16 +158,16 @@ module _ (t : ℕ) where
   LeftKnown = cut-pair-lts.After-struct-known2 pair-calls pair-here cut-pair.Post
 
   abbrev LeftCounted : Type 0
-  LeftCounted = cut-pair-lts.After-struct-known6 pair-calls pair-here cut-pair.Post
+  LeftCounted = cut-pair-lts.After-rows pair-calls pair-here cut-pair.Post
 
   abbrev RightIn : Type 0
-  RightIn = cut-pair-lts.After-struct-known10 pair-calls pair-here cut-pair.Post
+  RightIn = cut-pair-lts.After-struct-known9 pair-calls pair-here cut-pair.Post
 
   abbrev PairOut : Type 0
   PairOut = cut-pair-lts.After-look2 pair-calls pair-here cut-pair.Post
 
   abbrev PairKnown : Type 0
-  PairKnown = cut-pair-lts.After-struct-known11 pair-calls pair-here cut-pair.Post
+  PairKnown = cut-pair-lts.After-struct-known10 pair-calls pair-here cut-pair.Post
 
   abbrev pair-first : PairIn → cut-pair-lts.Start pair-calls pair-here cut-pair.Post
   pair-first c = c .before .before .before .before .before
@@ -177,10 +179,13 @@ module _ (t : ℕ) where
   left-out c = c .before .before .before .before .before
 
   abbrev left-known : LeftCounted → LeftKnown
-  left-known c = c .before .before .before .before
+  left-known c = c .before .before
+
+  abbrev left-counted : RightIn → LeftCounted
+  left-counted c = c .before .before .before .before .before .before
 
   abbrev left-of : RightIn → LeftOut
-  left-of c = left-out (left-known (c .before .before .before .before))
+  left-of c = left-out (left-known (left-counted c))
 
   abbrev right-in : PairOut → RightIn
   right-in c = c .before .before .before .before .before
@@ -188,7 +193,7 @@ module _ (t : ℕ) where
   abbrev pair-out : PairKnown → PairOut
   pair-out c = c .before .before .before .before .before
 
-  abbrev pair-end : cut-pair-lts.After-struct-known16 pair-calls pair-here cut-pair.Post → PairOut
+  abbrev pair-end : cut-pair-lts.After-struct-known15 pair-calls pair-here cut-pair.Post → PairOut
   pair-end c = pair-out (c .before .before .before .before .before)
 
   abbrev both-left : PairOut → LeftOut
@@ -207,19 +212,23 @@ module _ (t : ℕ) where
       → let a = pair-first (pair-in c) .args in FirstDone (a .u .now) (a .tags .now) (a .at) (a .p .now) (a .r .now) (getD (a .u .now) 0 0) (c .look .last .1 .1 .1 .0) (c .look .result)
   left-done c = first-done (pair-begun (pair-in c)) (c .look .ensures) (c .look .kept .1 .1 .1 .0)
 
-  right-begins : (c : LeftOut)
-      → let a = pair-first (pair-in c) .args in RightBegun (a .u .now) (a .tags .now) (a .at) (left-nodes c) (c .look .last .1 .1 .1 .1 .0) (c .look .result)
-  right-begins c = let a = pair-first (pair-in c) .pre .1 in right-begun (a .0) (a .1 .kind) (c .look .ensures) (left-done c) (c .look .kept .1 .1 .1 .1 .0)
+  right-begins : (c : RightIn)
+      → let l = left-of c in let a = pair-first (pair-in l) .args in
+      RightBegun (a .u .now) (a .tags .now) (a .at) (left-nodes l) (l .look .last .1 .1 .1 .1 .0) (left-counted c .rows .result) (l .look .result)
+  right-begins c =
+      let l = left-of c in
+      let a = pair-first (pair-in l) .pre .1 in
+      right-begun (a .0) (a .1 .kind) (l .look .ensures) (left-done l) (l .look .kept .1 .1 .1 .1 .0) (left-counted c .rows .ensures)
 
   -- where both were laid
   pair-done : (c : PairOut)
       → let l = both-left c in let x = l .look .result in let a = pair-first (pair-in l) .args in
       BothDone (a .u .now) (a .p .now) (a .r .now)
-      (tailAs (1 + x .here) (left-nodes l) (c .look2 .last .1 .1 .1 .0)) (tailAs (6 * x .slots) (l .look .last .1 .1 .1 .1 .0) (c .look2 .last .1 .1 .1 .1 .0))
+      (tailAs (1 + x .here) (left-nodes l) (c .look2 .last .1 .1 .1 .0)) (tailAs (left-counted (right-in c) .rows .result) (l .look .last .1 .1 .1 .1 .0) (c .look2 .last .1 .1 .1 .1 .0))
       x (c .look2 .result)
   pair-done c =
       let l = both-left c in
-      both-done (left-done l) (l .look .kept .1 .1 .1 .1 .0) (right-begins l) (c .look2 .ensures) (c .look2 .kept .1 .1 .1 .0) (c .look2 .kept .1 .1 .1 .1 .0)
+      both-done (left-done l) (l .look .kept .1 .1 .1 .1 .0) (right-begins (right-in c)) (c .look2 .ensures) (c .look2 .kept .1 .1 .1 .0) (c .look2 .kept .1 .1 .1 .1 .0)
 
   pair-sums : (c : PairOut) → let x = both-left c .look .result in let y = c .look2 .result in (1 + x .read + y .read < 2 ^ 64) × (1 + x .here + y .here < 2 ^ 64)
   pair-sums c = let d = pair-done c in let g = pair-first (pair-in (both-left c)) .good in (omega arith, omega arith)
@@ -242,10 +251,10 @@ module _ (t : ℕ) where
       (λ c κs. let i = c .before .before .before .before .before in let n = pair-begun i in let q = pair-first i .pre .0 in (omega arith, n .asks))
       (λ c. let l = left-out c in let x = left-done l in let g = pair-first (pair-in l) .good in omega arith)
       (λ c. let l = left-out (c .before) in let x = left-done l in let g = pair-first (pair-in l) .good in omega arith)
-      (λ c. let x = left-done (left-out (c .before .before)) in omega arith)
-      (λ c. let x = left-done (left-out (left-known c)) in omega arith)
+      (λ c κs. let x = left-done (left-out (c .before)) in omega arith)
       (λ c. let x = left-done (left-out (left-known (c .before .before))) in omega arith)
-      (λ c. let x = left-done (left-out (left-known (c .before .before .before))) in omega arith)
+      (λ c. let x = left-done (left-out (left-known (c .before .before .before .before))) in omega arith)
+      (λ c. let x = left-done (left-out (left-known (c .before .before .before .before .before))) in omega arith)
       (λ c. let l = left-of c in let x = left-done l in let g = pair-first (pair-in l) .good in omega arith)
       (λ c. let x = left-done (left-of c) in omega arith)
       (λ c. let x = left-done (left-of c) in omega arith)
@@ -257,17 +266,20 @@ module _ (t : ℕ) where
       (λ c. let x = left-done (left-of (c .before .before)) in omega arith)
       (λ c. let x = left-done (left-of (c .before .before)) in omega arith)
       (λ c. let x = left-done (left-of (c .before .before)) in omega arith)
-      (λ c. let x = right-begins (left-of (c .before .before .before)) in omega arith)
-      (λ c. let x = right-begins (left-of (c .before .before .before)) in omega arith)
-      (λ c. let x = right-begins (left-of (c .before .before .before)) in omega arith)
-      (λ c κs. let l = left-of (c .before .before .before .before) in let n = right-begins l in let q = pair-first (pair-in l) .pre .0 in (omega arith, n .asks))
+      (λ c. let x = right-begins (c .before .before .before) in omega arith)
+      (λ c. let x = right-begins (c .before .before .before) in omega arith)
+      (λ c. let x = right-begins (c .before .before .before) in omega arith)
+      (λ c κs. let i = c .before .before .before .before in let n = right-begins i in let q = pair-first (pair-in (left-of i)) .pre .0 in (omega arith, n .asks))
       (λ c. let x = pair-sums (pair-out c) in omega arith)
       (λ c. let x = pair-sums (pair-out (c .before)) in omega arith)
       (λ c. let x = pair-done (pair-out (c .before .before .before)) in omega arith)
       (λ c. let x = pair-done (pair-end c) in omega arith)
       (λ c. pair-done (pair-end c) .kept)
       (λ c. pair-done (pair-end c) .records-kept)
-      (λ c. let o = pair-end c in let l = both-left o in pair-cuts _ (pair-first (pair-in l) .pre .1 .1) (l .look .ensures) (o .look2 .ensures) (refl, (refl, refl, refl)))
+      (λ c.
+      let o = pair-end c in
+      let l = both-left o in
+      pair-cuts _ (pair-first (pair-in l) .pre .1 .1) (left-counted (right-in o) .rows .ensures) (l .look .ensures) (o .look2 .ensures) (refl, (refl, refl, refl)))
 
 -- ---- a formula in the slot that is being laid
 module _ (t : ℕ) where
@@ -426,7 +438,7 @@ module _ (t : ℕ) where
   slot-done : (c : SlotOut)
       → let k = slot-put-out c in let i = slot-read k in let a = slot-start i .args in
       let q = tail (a .at .gap) (set (a .p .now) 0 (leafCode (Hold (a .at .slot)))) in
-      Done (a .u .now) (owned (a .at) (i .board-of .result) (i .before .length-of .result)) (length q) (length (tail 6 (k .put-record .last .0))) (c .cut-parts .result)
+      Done (a .u .now) (owned (a .at) (i .board-of .result) (i .before .length-of .result)) (length q) (length (tail slotRow (k .put-record .last .0))) (c .cut-parts .result)
   slot-done c = let k = slot-put-out c in cut-done (slot (slot-read k) .asks (k .put-record .last .0) (k .put-record .kept .0)) (c .cut-parts .ensures)
 
   slot-spec : {M : Type 1} → lay-slot-lts.Closed slot-calls slot-here lay-slot.Post M

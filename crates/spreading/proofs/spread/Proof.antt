@@ -33,7 +33,7 @@ found c = c .before .before .before .before .before
 -- at a place holder before the end
 holder : (c : tie.Then1 Inv-loop μ-loop)
     → let k = c .before .before .before in let a = start k .args in
-    Holder (a .state .now) (a .c .boards) (a .c .slots) (a .c .nodes) (a .owner .now) (k .loop .u) (k .loop .tags) (k .loop .i) (k .loop .end)
+    Holder (a .state .now) (a .c) (a .owner .now) (k .loop .u) (k .loop .tags) (k .loop .i) (k .loop .end)
 holder c = let k = c .before .before .before in record { known = start k .pre .known; turn = k .loop .inv; before = c .before .before .loop-test .taken; big = c .if1 .taken }
 
 pub spread-spec : {M : Type 1} → statement M
@@ -70,4 +70,4 @@ spread-spec =
     (c .if1 .came))
     (λ c. search needs)
     (λ c. search needs)
-    (λ c. spread-done _ (start (c .before) .pre .known .passes) (c .before .loop .inv) (c .loop-test .left)))
+    (λ c. spread-done _ (start (c .before) .pre .known .opened .passes) (c .before .loop .inv) (c .loop-test .left)))

@@ -1,46 +1,55 @@
--- The network's records and nodes, and zeros behind them; both lists keep their lengths throughout. Assumes nothing.
-use mathlib.Core.Path.{_≡_, sym, _∙_}
-use Prim.Native.Nat.{_*_, _≤_}
+-- The network is laid with its records in `rows`; these are copied to the front, and zeros are put behind the nodes. Both lists
+-- keep their lengths throughout. Assumes nothing.
+use mathlib.Core.Path.{sym}
+use Prim.Native.Nat.{_≤_}
 use lib.ListN.{length}
 use lib.Seq.{length-take-le}
-use Rattle.lists.specs.Runs.{tailAs}
 use Rattle.lists.proofs.Parts.{handed-length}
-use Rattle.storing.proofs.Asked.{root-ask, network-stored}
+use Rattle.storing.proofs.Asked.{root-ask-at, network-stored-at}
 use native.Mathlib.Omega.{arith}
 use borrow.Author.Needs.{needs}
 use Rattle.storing.proofs.put_network.Statement.{statement}
 use Rattle.storing.proofs.put_network.Tie as tie
 
-abbrev first : tie.After-lay-root → tie.Start
-first c = c .before .before .before .before .before .before .before
+-- the places: the records' length is known, the network is laid, the records are lent to be copied
+abbrev entry : tie.After-rows → tie.Start
+entry c = c .before .before .before .before .before
 
--- behind the nodes, with the records in `rows`, and behind the records
-rows : (c : tie.After-lay-root) → 6 * first c .args .slots ≤ length (c .lay-root .last .1 .1 .1 .0)
-rows c = let a = first c .pre in let k = c .lay-root .kept .1 .1 .1 .0 in omega arith
+abbrev counted : tie.After-lay-root → tie.After-rows
+counted c = c .before .before .before
 
-laid : (c : tie.After-lay-root) → let a = first c .args in length (tailAs (6 * a .slots) (a .out .now) (c .lay-root .last .1 .1 .0)) ≡ length (a .out .now)
-laid c = let a = first c .args in let r = first c .pre .room in handed-length (6 * a .slots) (a .out .now) (c .lay-root .last .1 .1 .0) (omega arith) (c .lay-root .kept .1 .1 .0)
+abbrev laid : tie.After-copy-arg2 → tie.After-lay-root
+laid c = c .before .before .before .before .before .before
 
-copied : (c : tie.After-copy) → length (c .copy .last .0) ≡ length (first (c .before .before .before .before .before .before .before) .args .out .now)
-copied c = c .copy .kept .0 ∙ laid (c .before .before .before .before .before .before .before)
+-- `rows` still has room for the records
+records-fit : (c : tie.After-lay-root) → counted c .rows .result ≤ length (c .lay-root .last .1 .1 .1 .0)
+records-fit c =
+    let r = counted c .rows .ensures in
+    let m = entry (counted c) .pre .rows-room in
+    let k = c .lay-root .kept .1 .1 .1 .0 in
+    omega arith
 
 pub put-network-spec : {M : Type 1} → statement M
 put-network-spec =
     tie.close
     (tie.spec
-    (λ c. search needs)
-    (λ c. search needs)
-    (λ c. search needs)
-    (λ c. search needs)
-    (λ c κs. root-ask (c .before .before .before .before .before .before .pre))
-    (λ c. rows (c .before .before .before .before .before))
-    (λ c. sym (length-take-le _ _ (rows (c .before .before .before .before .before .before))))
-    (λ c κs. let k = c .before .before .before .before .before .before in let a = first k in let l = laid k in let r = a .pre .room in let t = length-take-le (6 * a .args .slots) (k .lay-root .last .1 .1 .1 .0) (rows k) in omega arith)
-    (λ c. search needs)
-    (λ c. let n = copied (c .before .before) in omega arith)
-    (λ c. let n = copied (c .before .before) in omega arith)
-    (λ c. let n = copied (c .before .before) in omega arith)
     (λ c κs. search needs)
     (λ c. search needs)
     (λ c. search needs)
-    (λ c. let k = c .before .before .before .before .before .before .before .before .before .before .before .before .before in network-stored (first k .pre) (k .lay-root .ensures) (c .before .before .before .before .before .before .copy .ensures) (c .before .before .clear .ensures)))
+    (λ c. search needs)
+    (λ c κs. let k = c .before .before in root-ask-at (entry k .pre) (k .rows .ensures))
+    (λ c. search needs)
+    (λ c. sym (length-take-le _ _ (records-fit (laid c))))
+    (λ c κs. let l = laid c in let k = counted l in let r = k .rows .ensures in let o = entry k .pre .room in
+    let h = handed-length (k .rows .result) (entry k .args .out .now) (l .lay-root .last .1 .1 .0) (omega arith) (l .lay-root .kept .1 .1 .0) in
+    let t = length-take-le (k .rows .result) (l .lay-root .last .1 .1 .1 .0) (records-fit l) in
+    omega arith)
+    (λ c. search needs)
+    (λ c. search needs)
+    (λ c. search needs)
+    (λ c. search needs)
+    (λ c κs. search needs)
+    (λ c. search needs)
+    (λ c. search needs)
+    (λ c. let d = c .before .before .before .before .before .before in let l = laid (d .before) in let k = counted l in
+    network-stored-at (entry k .pre) (k .rows .ensures) (l .lay-root .ensures) (d .copy .ensures) (c .before .before .clear .ensures)))

@@ -1,0 +1,2 @@
+-- Laws of a tick that is closed.
+pub mod Advancing

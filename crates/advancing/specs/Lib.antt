@@ -1,0 +1,2 @@
+-- What the contracts of `advancing` cite.
+pub mod Advance
