@@ -1,11 +1,13 @@
 // The call `ask`: how a watch stands.
 ghost use mathlib.Core.Path.{_≡_};
 ghost use mathlib.Core.Bool.{true};
-ghost use Rattle.state.specs.Clauses.{stateOk};
-ghost use Rattle.state.specs.Calls.{verdictIn};
+ghost use Rattle.state.specs.Calls.{finishedIn, verdictIn};
+ghost use Rattle.opening.specs.Opening.{Opened};
 ghost use Rattle.asking.specs.Ask.{Asks};
 use answers::Refusal;
 use answers::Verdict;
+use opening::Opening;
+use state::Counts;
 
 pub struct Standing {
     pub verdict: Verdict,
@@ -19,32 +21,38 @@ pub enum AskAnswer {
     Told(Standing),
 }
 
-// The verdict, pending until the watch is finished; then its one slot begins the nodes.
-fn verdict(s: &[u8]) -> Verdict
-    requires { ⌜ stateOk (now s) ≡ true ⌝ }
+// The verdict of a watch that is finished: its one slot's one node.
+fn verdict(s: &[u8], c: Counts) -> Verdict
+    requires { ⌜ Opened (now s) c × (finishedIn (now s) ≡ true) ⌝ }
     ensures { λ r. ⌜ r ≡ verdictIn (now (s .entry)) ⌝ }
 {
-    if !checking::finished(s) {
-        return Verdict::Pending;
-    }
-    let c = checking::counts_of(s);
-    if s[16 + 17 * c.boards + 6 * c.slots] == 1 {
+    let first = state::span_of(s, c, 0).from;
+    if s[first] == 1 {
         return Verdict::True;
     }
     Verdict::False
 }
 
-pub fn ask(state: &[u8]) -> AskAnswer
-    ensures { λ r. ⌜ Asks (now (state .entry)) r ⌝ }
+// The answer with this verdict.
+fn told(s: &[u8], c: Counts, verdict: Verdict) -> AskAnswer
+    requires { ⌜ Opened (now s) c × (verdict ≡ verdictIn (now s)) ⌝ }
+    ensures { λ r. ⌜ Asks (now (s .entry)) r ⌝ }
 {
-    if !checking::state_ok(state) {
-        return AskAnswer::Refused(Refusal::State);
-    }
-    let c = checking::counts_of(state);
     AskAnswer::Told(Standing {
-        verdict: verdict(state),
-        ticks: le::u32_at(state, 12),
+        verdict: verdict,
+        ticks: state::ticks_of(s),
         slots: c.slots,
         nodes: c.nodes,
     })
+}
+
+pub fn ask(state: &[u8]) -> AskAnswer
+    ensures { λ r. ⌜ Asks (now (state .entry)) r ⌝ }
+{
+    let opened = opening::open(state);
+    match opened {
+        Opening::Broken => AskAnswer::Refused(Refusal::State),
+        Opening::Finished(c) => told(state, c, verdict(state, c)),
+        Opening::Going(c) => told(state, c, Verdict::Pending),
+    }
 }

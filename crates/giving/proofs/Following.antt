@@ -1,6 +1,6 @@
 -- Calls made one after the other: an accepted one is followed by the rest, a refused one is the last. From that, one turn and the end
 -- of each loop, and each way out of `give`. Assumes nothing.
-use mathlib.Core.Path.{_≡_, refl, sym, ap, ap₂, _∙_}
+use mathlib.Core.Path.{_≡_, refl, sym, ap, ap₂, subst, _∙_}
 use mathlib.Core.Bool.{true, false}
 use mathlib.Core.List.{List, []}
 use Prim.Native.Nat.{ℕ, suc, _+_, _-_, _<_, _≤_}
@@ -19,6 +19,7 @@ use Rattle.answers.specs.declared.Refusal.the-variants.{State, Outside}
 use Rattle.answers.specs.Said.{accepted, refused, numberOf, saidOutcome}
 use Rattle.answers.proofs.Answers.{number-some, order-ok, order-refused, order-done}
 use Rattle.masks.specs.Masks.{unionWith}
+use Rattle.state.specs.Form.{formOf, stateLength, Formed}
 use Rattle.state.specs.Fields.{boardsIn, slotsIn, maskIn, masksIn}
 use Rattle.state.specs.Clauses.{inMask, stateOk}
 use Rattle.state.specs.Calls.{sampleSays, sampleLeaves, stepSays, stepLeaves}
@@ -53,6 +54,10 @@ pub comes-by : (a b : After) (s : List ℕ) (x : Outcome) → a ≡ b → Comes 
 comes-by a b s x e c = record { says = c .says ∙ ap (λ (y : After). y .says) e; leaves = c .leaves ∙ ap (λ (y : After). y .leaves) e }
 
 -- ---- the boards
+-- a call keeps the state's length, and so its form
+pub formed-kept : (s t : List ℕ) → length t ≡ length s → Formed s → Formed t
+formed-kept s t e f = subst (λ (n : ℕ). n ≡ stateLength (formOf n)) (sym e) f
+
 -- one turn: board i of n, with bits that are its part of the event
 module _ (s t : List ℕ) (n i event bits : ℕ) (l : i < n) (is : bits ≡ bitAnd event (maskIn s i)) where
   sampled-here : (x : Outcome) → Samples s i bits t x

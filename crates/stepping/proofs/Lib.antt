@@ -1,7 +1,4 @@
--- Laws of the call: what a slot sees, what is written, the call's outcomes, and that its promise leaves no choice.
-pub mod Telling
-pub mod Sights
-pub mod Counting
+-- Laws of the call: what is written, the call's outcomes, and that its promise leaves no choice.
 pub mod Rewriting
 pub mod Outcomes
 pub mod Determined

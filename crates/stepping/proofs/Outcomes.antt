@@ -1,11 +1,9 @@
 -- What `step` answers and leaves, one law for each outcome, over plain lists. Assumes nothing.
-use mathlib.Core.Path.{_≡_, refl, sym, ap, _∙_}
-use mathlib.Core.Bool.{Bool, true, false, not}
+use mathlib.Core.Path.{_≡_, sym, ap, _∙_}
+use mathlib.Core.Bool.{true, false, not}
 use mathlib.Core.List.{List, [], _∷_}
 use Prim.Native.Nat.{ℕ, _<_, _≤_}
 use borrow.Author.Tests.{lt-ltb, le-ltb, eq-eqb, ne-eqb}
-use Rattle.lists.specs.Tests.{pick}
-use Rattle.lists.proofs.Tests.{no-true}
 use Rattle.answers.specs.declared.Refusal.{Refusal}
 use Rattle.answers.specs.declared.Refusal.the-variants.{State, Finished, Nowhere, Already, Unready}
 use Rattle.answers.specs.declared.Outcome.the-variants.{Refused, Done}
@@ -18,37 +16,11 @@ use Rattle.state.specs.Bytes.{formulaAt}
 use Rattle.state.specs.Calls.{finishedIn, readyIn, steppedTo, stepSays}
 use Rattle.resolving.specs.declared.Seen.{Seen}
 use Rattle.resolving.specs.Settles.{settled}
-use Rattle.stepping.specs.declared.seeing.Sight.{Sight}
-use Rattle.stepping.specs.declared.seeing.Sight.the-variants.{Waits, Sees}
-use Rattle.stepping.specs.Seeing.{seenBy, sightIn}
-use Rattle.stepping.specs.Step.{steppedAs, StepsSlot}
-use Rattle.stepping.proofs.Telling.{seen-settles}
-
--- ---- what a sight tells
--- what is seen, where a sight waits that of nothing
-abbrev seenIn : Seen → Sight → Seen
-seenIn x Waits = x
-seenIn x (Sees y) = y
-
-abbrev waiting : Sight → Bool
-waiting Waits = true
-waiting (Sees x) = false
-
-sight-waits : (s : List ℕ) (k : ℕ) → sightIn s k ≡ Waits → readyIn s k ≡ false
-unfolding sightIn pick
-sight-waits s k e = go (readyIn s k) e
-  where
-    go : (b : Bool) → pick b (Sees (seenBy s k)) Waits ≡ Waits → b ≡ false
-    go true e = sym (ap waiting e)
-    go false e = refl
-
-sight-sees : (s : List ℕ) (k : ℕ) (x : Seen) → sightIn s k ≡ Sees x → (readyIn s k ≡ true) × (x ≡ seenBy s k)
-unfolding sightIn pick
-sight-sees s k x e = go (readyIn s k) e
-  where
-    go : (b : Bool) → pick b (Sees (seenBy s k)) Waits ≡ Sees x → (b ≡ true) × (x ≡ seenBy s k)
-    go true e = (refl, sym (ap (seenIn x) e))
-    go false e = absurd (no-true (sym (ap waiting e)))
+use Rattle.seeing.specs.declared.Sight.the-variants.{Waits, Sees}
+use Rattle.seeing.specs.Seeing.{sightIn}
+use Rattle.seeing.proofs.Telling.{sight-waits, sight-sees}
+use Rattle.stepping.specs.Step.{StepsSlot}
+use Rattle.stepping.specs.Putting.{steppedAs}
 
 module _ (s : List ℕ) (k : ℕ) where
   -- a refusal leaves the state as it was
@@ -91,10 +63,9 @@ module _ (s : List ℕ) (k : ℕ) where
           pub done : (x : Seen) → sightIn s k ≡ Sees x → (s′ : List ℕ) → s′ ≡ steppedAs (settled x (formulaAt s k)) s k → StepsSlot s k s′ Done
           done x e s′ put =
               let r = sight-sees s k x e in
-              let g : settled x (formulaAt s k) ≡ steppedTo s k = ap (λ (y : Seen). settled y (formulaAt s k)) (r .1) ∙ seen-settles s k in
               let says : stepSays s k ≡ accepted [] = passed ∙ order-ok 14 _ _ _ (r .0) ∙ order-done _ in
               let new = steppedAs (steppedTo s k) s k in
               record {
                 says = sym says;
-                leaves = put ∙ ap (λ (f : Formula). steppedAs f s k) g ∙ sym (ap (λ (z : Said). left z new s) says ∙ left-accepted [] new s);
+                leaves = put ∙ ap (λ (f : Formula). steppedAs f s k) (r .1) ∙ sym (ap (λ (z : Said). left z new s) says ∙ left-accepted [] new s);
               }

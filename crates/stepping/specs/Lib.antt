@@ -1,3 +1,3 @@
 -- What the contracts of `stepping` cite.
-pub mod Seeing
 pub mod Step
+pub mod Putting

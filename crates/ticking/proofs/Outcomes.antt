@@ -15,7 +15,7 @@ use Rattle.answers.proofs.Answers.{number-some, left-refused, left-accepted}
 use Rattle.state.specs.Calls.{closeSays, closeLeaves}
 use Rattle.closing.specs.Close.{Closes}
 use Rattle.giving.specs.Give.{givenUnder, Comes}
-use Rattle.ticking.specs.Tick.{tickLeaves, tickSays, Ticks}
+use Rattle.ticking.specs.Tick.{tickLeaves, tickSays, TicksState}
 
 -- a number's test picks by what was said
 says-refused : (why : Refusal) (y : Said) → pick (eqb (refused (numberOf why) .number) 0) y (refused (numberOf why)) ≡ refused (numberOf why)
@@ -31,7 +31,7 @@ module _ (s : List ℕ) (event : ℕ) (second t : List ℕ) (x : Outcome) (c : C
   given-said : (y : Outcome) → x ≡ y → givenUnder s event .says ≡ saidOutcome y
   given-said y e = sym (c .says) ∙ ap saidOutcome e
 
-  pub tick-refused : (why : Refusal) → x ≡ Refused why → Ticks s event second t second x
+  pub tick-refused : (why : Refusal) → x ≡ Refused why → TicksState s event second t second x
   unfolding tickSays
   tick-refused why e =
       let q = given-said (Refused why) e in
@@ -42,7 +42,7 @@ module _ (s : List ℕ) (event : ℕ) (second t : List ℕ) (x : Outcome) (c : C
         leaves-second = sym (ap (λ (a : Said). left a (closeLeaves (tickLeaves s event) second) second) q ∙ left-refused why _ _);
       }
 
-  pub tick-closed : x ≡ Done → (second′ : List ℕ) (answer : Outcome) → Closes t second second′ answer → Ticks s event second t second′ answer
+  pub tick-closed : x ≡ Done → (second′ : List ℕ) (answer : Outcome) → Closes t second second′ answer → TicksState s event second t second′ answer
   unfolding tickSays
   tick-closed e second′ answer k =
       let q = given-said Done e in

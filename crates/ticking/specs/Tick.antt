@@ -23,7 +23,7 @@ abbrev pub tickSecond : List ℕ → ℕ → List ℕ → List ℕ
 tickSecond s event second = left (givenUnder s event .says) (closeLeaves (tickLeaves s event) second) second
 
 -- the promise: the answer, and both buffers
-pub record Ticks (s : List ℕ) (event : ℕ) (second s′ second′ : List ℕ) (answer : Outcome) : Type 0 where
+pub record TicksState (s : List ℕ) (event : ℕ) (second s′ second′ : List ℕ) (answer : Outcome) : Type 0 where
   pub says : saidOutcome answer ≡ tickSays s event (length second)
   pub leaves : s′ ≡ tickLeaves s event
   pub leaves-second : second′ ≡ tickSecond s event second

@@ -1,26 +1,34 @@
--- One law of proofs/Outcomes.antt for each way out. Assumes nothing.
-use mathlib.Core.Path.{_≡_, sym, _∙_}
-use mathlib.Core.Bool.{true}
-use borrow.Author.Tests.{not-true, not-false}
-use Rattle.state.specs.Clauses.{stateOk}
-use Rattle.checking.proofs.Assembled.{passed-length}
-use Rattle.asking.proofs.Outcomes.{refused-state, told}
-use native.Mathlib.Omega.{arith}
+-- How the state is found decides. Assumes nothing.
+use mathlib.Core.Path.{_≡_, subst}
+use mathlib.Core.Bool.{true, false}
 use borrow.Author.Needs.{needs}
+use Rattle.state.specs.Calls.{finishedIn}
+use Rattle.opening.specs.Opening.{Opened, Opens}
+use Rattle.asking.proofs.Outcomes.{verdict-pending, refused-state}
 use Rattle.asking.proofs.ask.Statement.{statement}
 use Rattle.asking.proofs.ask.Tie as tie
 
--- behind the check
-passes : (c : tie.Else1) → stateOk (c .before .before .before .args .state .now) ≡ true
-passes c = sym (c .before .state-ok .ensures) ∙ not-false _ (c .if1 .left)
+abbrev entry : tie.After-open → tie.Start
+entry c = c .before .before
+
+-- in the arm of a finished watch, and in that of one that goes on
+finished : (c : tie.After-opened) → let s = entry (c .before .before) .args .state .now in Opened s (c .opened .given .0 .0) × (finishedIn s ≡ true)
+finished c = let f = c .before .before in subst (Opens (entry f .args .state .now)) (c .opened .given .1) (f .«open» .ensures)
+
+going : (c : tie.After-opened2) → let s = entry (c .before .before) .args .state .now in Opened s (c .opened2 .given .0 .0) × (finishedIn s ≡ false)
+going c = let f = c .before .before in subst (Opens (entry f .args .state .now)) (c .opened2 .given .1) (f .«open» .ensures)
 
 pub ask-spec : {M : Type 1} → statement M
 ask-spec =
     tie.close
     (tie.spec
     (λ c κs. search needs)
-    (λ c. refused-state _ (sym (c .before .state-ok .ensures) ∙ not-true _ (c .if1 .taken)))
-    (λ c κs. passed-length _ (passes c))
-    (λ c κs. passes (c .before))
-    (λ c κs. let l = passed-length _ (passes (c .before .before)) in omega arith)
-    (λ c. told _ _ _ _ _ _ (passes (c .before .before .before)) (c .before .verdict .ensures) (c .u32-at .ensures) (c .before .before .counts-of .ensures)))
+    (λ c. search needs)
+    (λ c. search needs)
+    (λ c κs. finished (c .before))
+    (λ c κs. (finished (c .before .before) .0, c .verdict .ensures))
+    (λ c. search needs)
+    (λ c κs. let o = going (c .before) in (o .0, verdict-pending _ (o .1)))
+    (λ c. let f = c .before .before in refused-state _ (subst (Opens (entry f .args .state .now)) (c .enum-told .given .1) (f .«open» .ensures)))
+    (λ c. search needs)
+    (λ c. search needs))

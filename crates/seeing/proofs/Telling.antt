@@ -1,5 +1,5 @@
--- What a slot sees of the slots that it holds is what they are, so that it settles as the definition of a step says: `seen-settles`.
--- Assumes nothing.
+-- What a slot sees of the slots that it holds is what they are. So a sight tells whether the slot is ready (`sight-waits`), and where it
+-- is, that it settles as the definition of a step says (`sight-sees`). Assumes nothing.
 use mathlib.Core.Path.{_≡_, refl, sym, ap, ap₂, _∙_, subst}
 use mathlib.Core.Bool.{Bool, true, false}
 use mathlib.Core.List.{List, [], _∷_, _++_}
@@ -8,6 +8,7 @@ use Prim.Native.Nat.{ℕ}
 use native.Mathlib.Decide.{ℕ-discrete}
 use native.Mathlib.Omega.{arith}
 use Rattle.lists.specs.Tests.{pick}
+use Rattle.lists.proofs.Tests.{no-true}
 use Rattle.kinds.specs.declared.Leaf.the-variants.{Const, Prop, Hold}
 use Rattle.kinds.specs.declared.Unary.the-variants.{Not, Next, Ever}
 use Rattle.kinds.specs.declared.Binary.the-variants.{Joined, Until}
@@ -21,13 +22,15 @@ use Rattle.network.proofs.Settling.{filled-same}
 use Rattle.state.specs.Fields.{sampleIn, boardOfIn}
 use Rattle.state.specs.Clauses.{heldBy}
 use Rattle.state.specs.Bytes.{formulaAt}
-use Rattle.state.specs.Calls.{steppedTo}
+use Rattle.state.specs.Calls.{readyIn, steppedTo}
 use Rattle.slot_sets.specs.SlotSets.{hasSlot}
 use Rattle.slot_sets.proofs.SlotSets.{none-has, with-same, with-other}
 use Rattle.resolving.specs.declared.Seen.{Seen}
 use Rattle.resolving.specs.Settles.{settled}
 use Rattle.resolving.specs.Settles as settles
-use Rattle.stepping.specs.Seeing.{answerIn, told, toldEach, sampleAlone, seenBy}
+use Rattle.seeing.specs.declared.Sight.{Sight}
+use Rattle.seeing.specs.declared.Sight.the-variants.{Waits, Sees}
+use Rattle.seeing.specs.Seeing.{answerIn, told, toldEach, sampleAlone, seenBy, sightIn}
 
 -- ---- one slot told
 told-other : (x : Seen) (n m : ℕ) (v : Verdict) → (n ≡ m → ⊥) → settles.heldBy (told x n v) m ≡ settles.heldBy x m
@@ -120,7 +123,7 @@ unfolding pick
 alone-honest answer event m = inl (rw (none-has m))
 
 -- ---- what the slot becomes
-pub seen-settles : (s : List ℕ) (k : ℕ) → settled (seenBy s k) (formulaAt s k) ≡ steppedTo s k
+seen-settles : (s : List ℕ) (k : ℕ) → settled (seenBy s k) (formulaAt s k) ≡ steppedTo s k
 unfolding steppedTo
 seen-settles s k =
     let f = formulaAt s k in
@@ -129,3 +132,29 @@ seen-settles s k =
     ap₂ resolved (each-event a (heldBy f) x)
     (filled-same (settles.heldBy (seenBy s k)) a f
     (held-each (λ m. settles.heldBy (seenBy s k) m ≡ a m) f (told-each a (heldBy f) x (alone-honest a (sampleIn s (boardOfIn s k))))))
+
+-- ---- what a sight tells
+-- what is seen, where a sight waits that of nothing
+abbrev seenIn : Seen → Sight → Seen
+seenIn x Waits = x
+seenIn x (Sees y) = y
+
+abbrev waiting : Sight → Bool
+waiting Waits = true
+waiting (Sees x) = false
+
+pub sight-waits : (s : List ℕ) (k : ℕ) → sightIn s k ≡ Waits → readyIn s k ≡ false
+unfolding sightIn pick
+sight-waits s k e = go (readyIn s k) e
+  where
+    go : (b : Bool) → pick b (Sees (seenBy s k)) Waits ≡ Waits → b ≡ false
+    go true e = sym (ap waiting e)
+    go false e = refl
+
+pub sight-sees : (s : List ℕ) (k : ℕ) (x : Seen) → sightIn s k ≡ Sees x → (readyIn s k ≡ true) × (settled x (formulaAt s k) ≡ steppedTo s k)
+unfolding sightIn pick
+sight-sees s k x e = go (readyIn s k) e
+  where
+    go : (b : Bool) → pick b (Sees (seenBy s k)) Waits ≡ Sees x → (b ≡ true) × (settled x (formulaAt s k) ≡ steppedTo s k)
+    go true e = (refl, ap (λ (y : Seen). settled y (formulaAt s k)) (sym (ap (seenIn x) e)) ∙ seen-settles s k)
+    go false e = absurd (no-true (sym (ap waiting e)))

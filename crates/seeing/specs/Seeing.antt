@@ -1,28 +1,21 @@
 -- What a slot sees when it is stepped: its board's sample, and which of the slots that it holds are true and which are false. Assumes
 -- nothing: these are definitions.
-use mathlib.Core.Path.{_≡_}
-use mathlib.Core.Bool.{true}
 use mathlib.Core.List.{List, [], _∷_}
 use Prim.Native.Nat.{ℕ, _-_}
 use lib.Dec.{ltb, eqb}
 use Rattle.lists.specs.Tests.{pick}
+use Rattle.kinds.specs.Kinds.{holdCode}
 use Rattle.answers.specs.declared.Verdict.{Verdict}
 use Rattle.answers.specs.declared.Verdict.the-variants.{False, True, Pending}
 use Rattle.ltl.specs.Progression.{verdictOf}
 use Rattle.state.specs.Fields.{sampleIn, boardOfIn, steppedIn}
-use Rattle.state.specs.Clauses.{heldBy, stateOk}
+use Rattle.state.specs.Clauses.{heldBy}
 use Rattle.state.specs.Bytes.{formulaAt}
 use Rattle.state.specs.Calls.{readyIn}
 use Rattle.slot_sets.specs.SlotSets.{noSlots, withSlot}
-use Rattle.checking.specs.Header.{Header}
 use Rattle.resolving.specs.declared.Seen.{Seen}
-use Rattle.stepping.specs.declared.seeing.Sight.{Sight}
-use Rattle.stepping.specs.declared.seeing.Sight.the-variants.{Waits, Sees}
-
--- a state that passes its check, and its counts
-pub record Counted (s : List ℕ) (boards slots nodes : ℕ) : Type 0 where
-  pub passes : stateOk s ≡ true
-  pub header : Header s boards slots nodes
+use Rattle.seeing.specs.declared.Sight.{Sight}
+use Rattle.seeing.specs.declared.Sight.the-variants.{Waits, Sees}
 
 -- slot m is true, false or neither
 abbrev pub answerIn : List ℕ → ℕ → Verdict
@@ -55,8 +48,8 @@ sightIn s k = pick (readyIn s k) (Sees (seenBy s k)) Waits
 -- behind a node: a place holder's slot is looked at
 unfoldable pub sightAfter : List ℕ → ℕ → Seen → Sight
 sightAfter s b x =
-    pick (ltb b 128) (Sees x)
-    (pick (eqb (steppedIn s (b - 128)) 1) (Sees (told x (b - 128) (answerIn s (b - 128)))) Waits)
+    pick (ltb b holdCode) (Sees x)
+    (pick (eqb (steppedIn s (b - holdCode)) 1) (Sees (told x (b - holdCode) (answerIn s (b - holdCode)))) Waits)
 
 abbrev pub goOn : Sight → (Seen → Sight) → Sight
 goOn (Sees x) rest = rest x

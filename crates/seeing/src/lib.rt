@@ -2,15 +2,17 @@
 ghost use mathlib.Core.Path.{_≡_};
 ghost use Prim.Native.Nat.{_+_, _<_};
 ghost use Rattle.limits.specs.Limits.{holderCodes};
+ghost use Rattle.kinds.specs.Kinds.{holdCode};
+ghost use Rattle.opening.specs.Opening.{Opened};
 ghost use Rattle.checked.specs.Holds.{Holds};
-ghost use Rattle.stepping.specs.Seeing.{Counted, answerIn, told, sampleAlone, sightAfter, sightOver, sightIn};
+ghost use Rattle.seeing.specs.Seeing.{answerIn, told, sampleAlone, sightAfter, sightOver, sightIn};
 use answers::Verdict;
-use checking::Counts;
-use checking::Span;
 use kinds::Kind;
 use resolving::Seen;
 use slot_sets::no_slots;
 use slot_sets::with_slot;
+use state::Counts;
+use state::Span;
 
 // A slot that is not ready waits; another sees its board's sample and what the slots are that it holds.
 pub enum Sight {
@@ -20,10 +22,10 @@ pub enum Sight {
 
 // Whether slot m is true, false or neither. No other formula's bytes begin as a constant does.
 fn answer_of(s: &[u8], c: Counts, m: usize) -> Verdict
-    requires { ⌜ Counted (now s) (c .boards) (c .slots) (c .nodes) × (m < c .slots) ⌝ }
+    requires { ⌜ Opened (now s) c × (m < c .slots) ⌝ }
     ensures { λ r. ⌜ r ≡ answerIn (now (s .entry)) m ⌝ }
 {
-    let first = checking::span_of(s, c, m).from;
+    let first = state::span_of(s, c, m).from;
     central::verdict(s[first])
 }
 
@@ -51,14 +53,14 @@ fn with_answer(seen: Seen, m: u8, v: Verdict) -> Seen
 
 // One node further.
 fn sight_after(b: u8, s: &[u8], c: Counts, seen: Seen) -> Sight
-    requires { ⌜ Counted (now s) (c .boards) (c .slots) (c .nodes) × (b < 128 + c .slots) ⌝ }
+    requires { ⌜ Opened (now s) c × (b < holdCode + c .slots) ⌝ }
     ensures { λ r. ⌜ r ≡ sightAfter (now (s .entry)) b seen ⌝ }
 {
     if b < Kind::HOLD {
         return Sight::Sees(seen);
     }
     let m = b - Kind::HOLD;
-    if s[16 + 17 * c.boards + 6 * (m as usize) + 1] != 1 {
+    if state::mark_of(s, c, m as usize) != 1 {
         return Sight::Waits;
     }
     Sight::Sees(with_answer(seen, m, answer_of(s, c, m as usize)))
@@ -66,7 +68,7 @@ fn sight_after(b: u8, s: &[u8], c: Counts, seen: Seen) -> Sight
 
 // The pass over a slot's bytes p in the state s.
 fn sight_over(p: &[u8], s: &[u8], c: Counts, event: u64) -> Sight
-    requires { ⌜ Counted (now s) (c .boards) (c .slots) (c .nodes) × Holds (c .slots) (now p) ⌝ }
+    requires { ⌜ Opened (now s) c × Holds (c .slots) (now p) ⌝ }
     ensures { λ r. ⌜ r ≡ sightOver (now (s .entry)) (now (p .entry)) (sampleAlone event) ⌝ }
 {
     let none = no_slots();
@@ -89,13 +91,13 @@ fn sight_over(p: &[u8], s: &[u8], c: Counts, event: u64) -> Sight
 
 // What slot k sees.
 pub fn sight_of(s: &[u8], c: Counts, k: usize) -> Sight
-    requires { ⌜ Counted (now s) (c .boards) (c .slots) (c .nodes) × (k < c .slots) ⌝ }
+    requires { ⌜ Opened (now s) c × (k < c .slots) ⌝ }
     ensures { λ r. ⌜ r ≡ sightIn (now (s .entry)) k ⌝ }
 {
-    let board = 16 + 17 * (s[16 + 17 * c.boards + 6 * k] as usize);
-    if s[board + 16] != 1 {
+    let board = state::board_of(s, c, k) as usize;
+    if state::sampled_of(s, board) != 1 {
         return Sight::Waits;
     }
-    let Span { from, to } = checking::span_of(s, c, k);
-    sight_over(&s[from..to], s, c, le::u64_at(s, board + 8))
+    let Span { from, to } = state::span_of(s, c, k);
+    sight_over(&s[from..to], s, c, state::sample_of(s, board))
 }

@@ -1,10 +1,10 @@
 -- A slot that is true or false is noted in that set. Assumes nothing.
 use mathlib.Core.Path.{sym, ap, _∙_}
 use Rattle.slot_sets.specs.declared.SlotSet.{SlotSet}
-use Rattle.stepping.specs.Seeing.{told}
+use Rattle.seeing.specs.Seeing.{told}
 use borrow.Author.Needs.{needs}
-use Rattle.stepping.proofs.seeing.with_answer.Statement.{statement}
-use Rattle.stepping.proofs.seeing.with_answer.Tie as tie
+use Rattle.seeing.proofs.with_answer.Statement.{statement}
+use Rattle.seeing.proofs.with_answer.Tie as tie
 
 -- from where both sets are read back to the entry
 abbrev entry : tie.After-no → tie.Start

@@ -1,0 +1,40 @@
+-- One law of proofs/Following.antt for each way out; a state that was opened has few boards. Assumes nothing.
+use Rattle.opening.proofs.Opened.{opened-sized}
+use Rattle.giving.proofs.Following.{given-outside, given-sampled, given-stepped}
+use borrow.Author.Needs.{needs}
+use Rattle.giving.proofs.give_opened.Statement.{statement}
+use Rattle.giving.proofs.give_opened.Tie as tie
+
+-- ---- from a place back to an earlier one
+abbrev entry : tie.After-union → tie.Start
+entry c = c .before .before .before
+
+abbrev taken : tie.After-sample-all → tie.Else1
+taken c = c .before .before
+
+abbrev refused : tie.After-enum-told2 → tie.After-sample-all
+refused c = c .before .before .before .before
+
+abbrev sampled : tie.After-enum-told → tie.After-sample-all
+sampled c = c .before .before .before .before
+
+abbrev stepped : tie.After-slice-known3 → tie.After-enum-told
+stepped c = c .before .before .before .before
+
+pub give-opened-spec : {M : Type 1} → statement M
+give-opened-spec =
+    tie.close
+    (tie.spec
+    (λ c κs. let z = opened-sized (c .before .before .pre) in (z .long, z .few-boards))
+    (λ c. search needs)
+    (λ c. let o = entry (c .before) .pre in given-outside _ _ (o .passes) _ (o .header .boards-are) _ (c .before .union .ensures) (c .if1 .taken))
+    (λ c κs. let z = opened-sized (entry (c .before .before) .pre) in (z .long, z .few-boards))
+    (λ c. search needs)
+    (λ c. search needs)
+    (λ c. search needs)
+    (λ c. let a = refused c in let e = taken a in let o = entry (e .before) .pre in
+    given-sampled _ _ (o .passes) _ (o .header .boards-are) _ (e .before .union .ensures) (e .if1 .left) _ _ _ (c .enum-told2 .given .1) (a .sample-all .ensures))
+    (λ c κs. search needs)
+    (λ c. search needs)
+    (λ c. let d = stepped c in let a = sampled d in let e = taken a in let o = entry (e .before) .pre in
+    given-stepped _ _ (o .passes) _ (o .header .boards-are) _ (e .before .union .ensures) (e .if1 .left) _ _ _ _ _ (o .header .slots-are) (d .enum-told .given .1) (a .sample-all .ensures) (c .before .before .step-all .ensures)))

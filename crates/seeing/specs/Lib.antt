@@ -1,0 +1,2 @@
+-- What the contracts of `seeing` cite.
+pub mod Seeing
