@@ -16,10 +16,10 @@ use Rattle.ltl.specs.Meaning.{Event}
 use Rattle.rules.specs.RuleFile as rule-file
 use Rattle.state.specs.Fields.{boardsIn, sampleIn, masksIn}
 use Rattle.state.specs.Calls.{doneIn}
-use Rattle.state.proofs.Rows.{masks-length}
+use Rattle.state.proofs.Listed.{masks-length}
 use Rattle.closing.specs.Close.{Closes}
 use Rattle.loading.specs.Load.{ruleIn}
-use Rattle.watching.specs.Watch.{Watch, Tick}
+use Rattle.watching.specs.Watch.{StateWatch, Tick}
 use Rattle.watching.proofs.Started.{Started}
 use Rattle.watching.proofs.Ticked.{watch-started, close-passed}
 use Rattle.watching.proofs.Agreeing.{answers-agree, nexts-agree}
@@ -76,15 +76,15 @@ module _ (file : List ℕ) (us : List Event) (s : List ℕ) (w : Watched file us
       → (second a b : List ℕ) (x y : Outcome) → Closes t second a x → Closes u second b y → (x ≡ y) × (a ≡ b)
   close-same t u c d done-t done-u same second a b x y k l =
       let boards = samples-same file us s w refl t u c d done-t done-u same in
-      let says = answers-agree masks p rule us s started p rule us s started refl t u (called c) (called d) done-t done-u boards refl (length second) in
-      let next = nexts-agree masks p rule us s started p rule us s started refl t u (called c) (called d) done-t done-u boards refl in
+      let says = answers-agree masks p rule us s started p rule us s started refl t u (called c) (called d) done-t done-u boards refl refl (length second) in
+      let next = nexts-agree masks p rule us s started p rule us s started refl t u (called c) (called d) done-t done-u boards refl refl in
       (saidOutcome-injective x y (k .says ∙ says ∙ sym (l .says)), k .leaves ∙ (λ i. left (says i) (next i) second) ∙ sym (l .leaves))
 
 pub networks-same : (file : List ℕ) (us : List Event) (s : List ℕ) → Watched file us s → (other : List ℕ) (vs : List Event) (r : List ℕ) → Watched other vs r → OneNetwork s r
     → (d e : Event) (a b : List ℕ) (x : Ticked (rule-file.masksInFile file) s d a) (y : Ticked (rule-file.masksInFile other) r e b) → SameGiven (x .calls) (y .calls) → OneNetwork a b
 networks-same file us s w other vs r v one d e a b x y same =
     let m : rule-file.masksInFile other ≡ rule-file.masksInFile file = sym (masks-are other vs r v) ∙ sym (one .masks) ∙ masks-are file us s w in
-    let z = subst (λ (ms : List ℕ). Watch (rule-file.propositionsInFile other) ms (ruleIn other) vs r) m (watched v) in
+    let z = subst (λ (ms : List ℕ). StateWatch (rule-file.propositionsInFile other) ms (ruleIn other) vs r) m (watched v) in
     record {
       masks = masks-are file _ a (ticked w d x) ∙ sym m ∙ sym (masks-are other _ b (ticked v e y));
       slots = networks-agree (rule-file.propositionsInFile file) (rule-file.masksInFile file) (ruleIn file) us s (watched w) (rule-file.propositionsInFile other) (ruleIn other) vs r z (one .slots) d e a b

@@ -11,7 +11,6 @@ use Rattle.answers.specs.declared.Outcome.{Outcome}
 use Rattle.answers.specs.declared.Refusal.the-variants.{Outside}
 use Rattle.answers.specs.declared.Outcome.the-variants.{Refused, Done}
 use Rattle.answers.specs.declared.Verdict.the-variants.{Pending}
-use Rattle.answers.specs.Said.{accepted}
 use Rattle.ltl.specs.Formula.{Formula}
 use Rattle.ltl.specs.Meaning.{Event}
 use Rattle.masks.specs.Masks.{unionWith}
@@ -29,7 +28,7 @@ use Rattle.watching.proofs.Started.{Started}
 use Rattle.watching.proofs.Ticked.{watch-started}
 use Rattle.watching.proofs.Asking.{pending-unfinished}
 use Rattle.watching.proofs.Demand.{watch-verdict}
-use Rattle.watching.proofs.Existing.{due, Progress, due-is, sample-says, sample-more, step-says, step-more, progress-none, progress-saw, progress-done, progress-closing}
+use Rattle.watching.proofs.Existing.{due, TickProgress, due-is, sample-says, sample-more, step-says, step-more, progress-none, progress-saw, progress-done, progress-closing}
 use Rattle.demand.specs.Called.{Watched}
 use Rattle.demand.specs.Claims.{standing, Gets, Reaches}
 use Rattle.demand.proofs.Calls.{made}
@@ -40,7 +39,7 @@ use Rattle.demand.proofs.Getting.{closing, close-left}
 module _ (p : ℕ) (masks : List ℕ) (rule : Formula) (us : List Event) (s : List ℕ) (x : Started p masks rule us s) (unfinished : finishedIn s ≡ false) (e : Event) where
   -- the boards below n have sampled, the slots from d on are stepped
   abbrev Far : ℕ → ℕ → List ℕ → Type 0
-  Far n d t = Progress p masks rule us s x unfinished e n d t
+  Far n d t = TickProgress p masks rule us s x unfinished e n d t
 
   -- calls have come so far, all accepted, and what is left of them comes to this
   record ComesFar (a : After) (d : ℕ) : Type 0 where

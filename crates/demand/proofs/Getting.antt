@@ -15,9 +15,10 @@ use Rattle.answers.specs.declared.Outcome.{Outcome}
 use Rattle.answers.specs.declared.Outcome.the-variants.{Refused, Done}
 use Rattle.answers.specs.Said.{refused, saidOutcome}
 use Rattle.answers.proofs.Answers.{saidOutcome-injective}
-use Rattle.state.specs.Fields.{stateLength, boardsIn, slotsIn, sampledIn, steppedIn}
+use Rattle.state.specs.Form.{formIn, stateLength}
+use Rattle.state.specs.Fields.{boardsIn, slotsIn, sampledIn, steppedIn}
 use Rattle.state.specs.Calls.{askSays, sampleSays, sampleLeaves, stepSays, stepLeaves, doneIn, closeSays, closeLeaves}
-use Rattle.checking.proofs.Each.{each-at}
+use Rattle.records.proofs.Each.{each-at}
 use Rattle.watching.specs.Claims as definition
 use Rattle.asking.specs.declared.Standing.{Standing}
 use Rattle.asking.specs.declared.AskAnswer.the-variants.{Told}
@@ -37,7 +38,7 @@ module _ (t : List ℕ) where
   step-gets slot wanted e =
       record { leaves = stepLeaves t slot; allowed = record { says = e; leaves = refl }; only = λ s′ answer p. saidOutcome-injective answer wanted (p .says ∙ sym e) }
 
-  close-gets : (wanted : Outcome) → saidOutcome wanted ≡ closeSays t stateLength → CloseGets t wanted
+  close-gets : (wanted : Outcome) → saidOutcome wanted ≡ closeSays t (stateLength (formIn t)) → CloseGets t wanted
   close-gets wanted e second long =
       let f = e ∙ ap (closeSays t) (sym long) in
       record { leaves = closeLeaves t second; allowed = record { says = f; leaves = refl }; only = λ s′ answer p. saidOutcome-injective answer wanted (p .says ∙ sym f) }
@@ -46,7 +47,7 @@ module _ (t : List ℕ) where
   ask-gets wanted e = record { allowed = record { says = e }; only = λ answer p. saidAsk-injective answer (Told wanted) (p .says ∙ sym e) }
 
   -- ---- within a tick
-  pub closing : definition.Closing t → Closing t
+  pub closing : definition.StateClosing t → Closing t
   closing (definition.accepts e) = accepts (close-gets Done (sym e))
   closing (definition.refuses n (inl h) e) = too-many-slots (close-gets (Refused Slots) (sym (e ∙ ap refused h)))
   closing (definition.refuses n (inr (inl h)) e) = too-many-nodes (close-gets (Refused Nodes) (sym (e ∙ ap refused h)))
@@ -68,7 +69,7 @@ module _ (t : List ℕ) where
         no-step = λ slot t′ p. let f = step-passed t slot (p .says) in omega (arith, done-slots done slot (f .there));
       }
 
-  pub going-on : definition.GoesOn t → GoesOn t
+  pub going-on : definition.StateGoesOn t → GoesOn t
   going-on (definition.samples board bits e) = samples board bits (sample-gets board bits Done (sym e))
   going-on (definition.steps k e) = steps k (step-gets k Done (sym e))
   going-on (definition.closes done c) = closes (close-left done) (closing c)

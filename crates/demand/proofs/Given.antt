@@ -9,17 +9,19 @@ use Prim.Native.Nat.{ℕ, _<_}
 use native.Mathlib.Decide.{ℕ-discrete}
 use native.Mathlib.Omega.{arith}
 use Rattle.answers.specs.declared.Outcome.the-variants.{Refused, Done}
-use Rattle.answers.specs.Said.{accepted, left}
 use Rattle.ltl.specs.Formula.{Formula}
 use Rattle.ltl.specs.Meaning.{Event}
 use Rattle.network.specs.Scores.{sampleOf}
 use Rattle.state.specs.Fields.{boardsIn, sampleIn, sampledIn}
+use Rattle.state.specs.Writes.{sampleGiven}
 use Rattle.state.specs.Calls.{doneIn}
+use Rattle.state.proofs.Sampled.{sample-other, sample-other-flag, sample-bits, sample-flag}
+use Rattle.checked.proofs.Passing.{passing-sized}
 use Rattle.watching.specs.Watch.{Saw}
 use Rattle.watching.proofs.InTick.{InTick, boards-kept}
 use Rattle.watching.proofs.Started.{Started, started-laid}
 use Rattle.watching.proofs.Ticked.{started-in-tick}
-use Rattle.watching.proofs.Sampling as sampling
+use Rattle.watching.proofs.Sampling.{bits-few}
 use Rattle.watching.proofs.Stepping as stepping
 use Rattle.demand.specs.Called.{Called, nothing, sampled, stepped, asked, closed, load-refused, close-refused, write-refused, central-refused, read-refused, Gave, GivenBy}
 use Rattle.demand.proofs.Passed.{refused-not-done, refused-leaves, accepted-leaves, SamplePassed, sample-passed, step-passed}
@@ -28,44 +30,44 @@ use Rattle.demand.proofs.Getting.{done-boards}
 
 -- ---- the boards of a state, and what was given
 -- of the n boards, those that were given bits have them as their sample, and those that have sampled were given something
-record Holds (n : ℕ) (t : List ℕ) (Given : ℕ → ℕ → Type 0) : Type 0 where
+record Holding (n : ℕ) (t : List ℕ) (Given : ℕ → ℕ → Type 0) : Type 0 where
   there : (b v : ℕ) → Given b v → b < n
   marked : (b v : ℕ) → Given b v → sampledIn t b ≡ 1
   sample : (b v : ℕ) → Given b v → sampleIn t b ≡ v
   given : (b : ℕ) → b < n → sampledIn t b ≡ 1 → (v : ℕ) × Given b v
 
-module _ (n : ℕ) (t : List ℕ) (Given : ℕ → ℕ → Type 0) (h : Holds n t Given) where
+module _ (n : ℕ) (t : List ℕ) (Given : ℕ → ℕ → Type 0) (h : Holding n t Given) where
   -- after an accepted sample
   holds-more : boardsIn t ≡ n → (board bits : ℕ) (q : SamplePassed t board bits)
-      → Holds n (sampling.sampled t (q .ok) board bits (q .there) (q .inside) (q .fresh)) (λ b v. Given b v ⊎ ((Done ≡ Done) × (b ≡ board) × (v ≡ bits)))
+      → Holding n (sampleGiven t board bits) (λ b v. Given b v ⊎ ((Done ≡ Done) × (b ≡ board) × (v ≡ bits)))
   holds-more m board bits q =
       record {
         there = λ b v. ⊎-elim (h .there b v) (λ e. (let l = q .there in omega (arith, e .1)));
-        marked = λ b v. ⊎-elim (λ g. flag-other b v g ∙ h .marked b v g) (λ e. ap (sampledIn t′) (e .1) ∙ sampling.sample-flag t (q .ok) board bits (q .there) (q .inside) (q .fresh));
-        sample = λ b v. ⊎-elim (λ g. sampling.sample-other t (q .ok) board bits (q .there) (q .inside) (q .fresh) b (other b v g) ∙ h .sample b v g)
-            (λ e. ap (sampleIn t′) (e .1) ∙ sampling.sample-bits t (q .ok) board bits (q .there) (q .inside) (q .fresh) ∙ sym (e .2));
+        marked = λ b v. ⊎-elim (λ g. flag-other b v g ∙ h .marked b v g) (λ e. ap (sampledIn t′) (e .1) ∙ sample-flag t (passing-sized t (q .ok)) board bits (q .there));
+        sample = λ b v. ⊎-elim (λ g. sample-other t (passing-sized t (q .ok)) board bits (q .there) b (other b v g) ∙ h .sample b v g)
+            (λ e. ap (sampleIn t′) (e .1) ∙ sample-bits t (passing-sized t (q .ok)) board bits (q .there) (bits-few t (q .ok) board bits (q .there) (q .inside)) ∙ sym (e .2));
         given = given;
       }
     where
       t′ : List ℕ
-      t′ = sampling.sampled t (q .ok) board bits (q .there) (q .inside) (q .fresh)
+      t′ = sampleGiven t board bits
 
       -- the board had not sampled, so it is none that was given something
       other : (b v : ℕ) → Given b v → b ≡ board → ⊥
       other b v g e = let z = ap (sampledIn t) e in omega (arith, h .marked b v g, q .fresh)
 
       flag-other : (b v : ℕ) → Given b v → sampledIn t′ b ≡ sampledIn t b
-      flag-other b v g = sampling.sample-other-flag t (q .ok) board bits (q .there) (q .inside) (q .fresh) b (other b v g)
+      flag-other b v g = sample-other-flag t (passing-sized t (q .ok)) board bits (q .there) b (other b v g)
 
       given : (b : ℕ) → b < n → sampledIn t′ b ≡ 1 → (v : ℕ) × (Given b v ⊎ ((Done ≡ Done) × (b ≡ board) × (v ≡ bits)))
       given b l f =
           elim (ℕ-discrete b board) [
             | yes z ↦ (bits, inr (refl, z, refl))
-            | no z ↦ let g = h .given b l (sym (sampling.sample-other-flag t (q .ok) board bits (q .there) (q .inside) (q .fresh) b z) ∙ f) in (g .0, inl (g .1))
+            | no z ↦ let g = h .given b l (sym (sample-other-flag t (passing-sized t (q .ok)) board bits (q .there) b z) ∙ f) in (g .0, inl (g .1))
           ]
 
   -- after a refused sample: nothing more was given
-  holds-refused : (Given′ : ℕ → ℕ → Type 0) → ((b v : ℕ) → Given b v → Given′ b v) → ((b v : ℕ) → Given′ b v → Given b v) → Holds n t Given′
+  holds-refused : (Given′ : ℕ → ℕ → Type 0) → ((b v : ℕ) → Given b v → Given′ b v) → ((b v : ℕ) → Given′ b v → Given b v) → Holding n t Given′
   holds-refused Given′ more same =
       record {
         there = λ b v g. h .there b v (same b v g);
@@ -75,7 +77,7 @@ module _ (n : ℕ) (t : List ℕ) (Given : ℕ → ℕ → Type 0) (h : Holds n 
       }
 
   -- after a call that touches no sample
-  holds-still : (t′ : List ℕ) → ((b : ℕ) → b < n → sampledIn t′ b ≡ sampledIn t b) → ((b : ℕ) → b < n → sampleIn t′ b ≡ sampleIn t b) → Holds n t′ Given
+  holds-still : (t′ : List ℕ) → ((b : ℕ) → b < n → sampledIn t′ b ≡ sampledIn t b) → ((b : ℕ) → b < n → sampleIn t′ b ≡ sampleIn t b) → Holding n t′ Given
   holds-still t′ flags samples =
       record {
         there = h .there;
@@ -94,7 +96,7 @@ module _ (p : ℕ) (masks : List ℕ) (rule : Formula) (us : List Event) (s : Li
   as-many t c = boards-kept s (x .passes) (started-laid p masks rule us s x) t (within t c)
 
   abbrev Held : (t : List ℕ) → (ℕ → ℕ → Type 0) → Type 0
-  Held t Given = Holds (boardsIn s) t Given
+  Held t Given = Holding (boardsIn s) t Given
 
   holding : {t : List ℕ} (c : Called s t) → Held t (Gave c)
   holding nothing =
@@ -115,7 +117,7 @@ module _ (p : ℕ) (masks : List ℕ) (rule : Formula) (us : List Event) (s : Li
       let q = step-passed t slot (y .says) in
       let n = as-many t c in
       subst (λ (u : List ℕ). Held u (Gave c)) (sym (y .leaves ∙ accepted-leaves _ _ t (y .says)))
-      (holds-still (boardsIn s) t (Gave c) (holding c) (stepping.after t (q .ok) slot (q .there)) (λ b l. stepping.step-flag t (q .ok) slot (q .there) b (omega arith))
+      (holds-still (boardsIn s) t (Gave c) (holding c) (stepping.after t slot) (λ b l. stepping.step-flag t (q .ok) slot (q .there) b (omega arith))
       (λ b l. stepping.step-sample t (q .ok) slot (q .there) b (omega arith)))
   holding (stepped {t = t} c slot (Refused why) y) = subst (λ (u : List ℕ). Held u (Gave c)) (sym (y .leaves ∙ refused-leaves why _ _ t (y .says))) (holding c)
   holding (asked c answer y) = holding c

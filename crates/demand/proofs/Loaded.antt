@@ -1,5 +1,6 @@
 -- What an accepted load of a rule file tells, by its promise alone: the file's counts, masks and rule are those of a watch, its formula's
--- bytes are the rule's, and the state is the rule's first layout (`load-accepted`). Assumes nothing.
+-- bytes are the rule's, and the state is the rule's first layout, in the form of the buffer that was lent (`load-accepted`). Assumes
+-- nothing.
 use mathlib.Core.Path.{_≡_, refl, sym, ap, _∙_}
 use mathlib.Core.Bool.{true}
 use mathlib.Core.List.{List, []}
@@ -11,14 +12,15 @@ use Rattle.lists.proofs.Tests.{both-1, both-true}
 use Rattle.answers.specs.declared.Outcome.the-variants.{Done}
 use Rattle.answers.specs.Said.{Said, accepted, left}
 use Rattle.answers.proofs.Answers.{left-accepted, order-passed}
-use Rattle.limits.specs.Limits.{boardsMost, ruleNodesMost, nodesMost}
+use Rattle.limits.specs.Limits.{boardsMost, ruleNodesMost}
 use Rattle.nodes.specs.Begins.{Front}
 use Rattle.rules.specs.RuleFile.{boardsInFile, propositionsInFile, nodesInFile, maskInFile, masksInFile, formulaInFile}
 use Rattle.rules.specs.Read as read
 use Rattle.lists.proofs.Listed.{listed-length}
 use Rattle.rules.proofs.Passed.{counts-passed}
 use Rattle.rules.proofs.ReadOutcomes.{ReadPassed}
-use Rattle.state.specs.Clauses.{slotsMost}
+use Rattle.state.specs.declared.Form.{Form}
+use Rattle.state.specs.Form.{formOf, formIn, slotsMost, nodesMost}
 use Rattle.state.specs.Bytes.{nodesOf}
 use Rattle.state.specs.Calls.{firstOf, loadedState}
 use Rattle.loading.specs.Load.{ruleIn, loadLengthsOk, loadSays, LoadsRule}
@@ -30,13 +32,13 @@ lengths-read : (file : List ℕ) (room : ℕ) → loadLengthsOk file room ≡ tr
 unfolding loadLengthsOk read.readLengthsOk
 lengths-read file room e = both-true _ _ refl (both-true _ _ refl (both-1 _ _ e))
 
--- what an accepted load's checks told
-record LoadPassed (file : List ℕ) : Type 0 where
+-- what an accepted load's checks told, for a state of this form
+record LoadPassed (φ : Form) (file : List ℕ) : Type 0 where
   file-passed : ReadPassed file boardsMost ruleNodesMost
-  few-slots : length (firstOf (masksInFile file) (ruleIn file)) ≤ slotsMost
-  few-nodes : nodesOf (firstOf (masksInFile file) (ruleIn file)) ≤ nodesMost
+  few-slots : length (firstOf (masksInFile file) (ruleIn file)) ≤ slotsMost φ
+  few-nodes : nodesOf (firstOf (masksInFile file) (ruleIn file)) ≤ nodesMost φ
 
-load-passed : (file : List ℕ) (room : ℕ) → loadSays file room ≡ accepted [] → LoadPassed file
+load-passed : (file : List ℕ) (room : ℕ) → loadSays file room ≡ accepted [] → LoadPassed (formOf room) file
 unfolding loadSays
 load-passed file room e =
     let q = order-passed _ (accepted []) (omega arith, (omega arith, (omega arith, (omega arith, (omega arith, (omega arith, (omega arith, (omega arith, tt)))))))) (ap (λ (a : Said). a .number) e) in
@@ -46,7 +48,7 @@ load-passed file room e =
       few-nodes = leb-true _ _ (q .1 .1 .1 .1 .1 .1 .1 .0);
     }
 
-loads-of : (file : List ℕ) → LoadPassed file → Loads (propositionsInFile file) (masksInFile file) (ruleIn file)
+loads-of : {φ : Form} (file : List ℕ) → LoadPassed φ file → Loads φ (propositionsInFile file) (masksInFile file) (ruleIn file)
 loads-of file x =
     let c = counts-passed (boardsInFile file) (propositionsInFile file) (nodesInFile file) (x .file-passed .counts) in
     let n = listed-length (maskInFile file) (boardsInFile file) in
@@ -63,16 +65,16 @@ loads-of file x =
       few-nodes = x .few-nodes;
     }
 
-pub record LoadAccepted (file s : List ℕ) : Type 0 where
-  pub loads : Loads (propositionsInFile file) (masksInFile file) (ruleIn file)
+pub record LoadAccepted (φ : Form) (file s : List ℕ) : Type 0 where
+  pub loads : Loads φ (propositionsInFile file) (masksInFile file) (ruleIn file)
   pub spelt : Front (formulaInFile file) (ruleIn file) []
-  pub state-is : s ≡ loadedState (masksInFile file) (ruleIn file)
+  pub state-is : s ≡ loadedState φ (masksInFile file) (ruleIn file)
 
-pub load-accepted : (file before s : List ℕ) → LoadsRule file before s Done → LoadAccepted file s
+pub load-accepted : (file before s : List ℕ) → LoadsRule file before s Done → LoadAccepted (formIn before) file s
 load-accepted file before s l =
     let e = sym (l .says) in
     let x = load-passed file (length before) e in
-    let next = loadedState (masksInFile file) (ruleIn file) in
+    let next = loadedState (formIn before) (masksInFile file) (ruleIn file) in
     record {
       loads = loads-of file x;
       spelt = read-ruled file (x .file-passed) .front;

@@ -9,7 +9,7 @@ use lib.Seq.{take-at}
 use Rattle.lists.specs.Runs.{padded}
 use Rattle.answers.specs.Said.{Said, accepted, left}
 use Rattle.answers.proofs.Answers.{left-accepted, verdict-injective, order-ok, order-done, order-passed}
-use Rattle.limits.specs.Limits.{nodesMost, propositionsMost, holderCodes}
+use Rattle.limits.specs.Limits.{centralNodesMost, propositionsMost, holderCodes}
 use Rattle.ltl.specs.Formula.{Formula, size, encode, Coded}
 use Rattle.ltl.specs.Meaning.{Event}
 use Rattle.ltl.specs.Progression as ltl
@@ -43,7 +43,7 @@ progressed-coded : (e : Event) (f : Formula) → Coded f → Coded (ltl.progress
 progressed-coded e f w = subst (λ (g : Formula). Coded g) (settled-alone e (unfolded f)) (settled-coded (alone e) (unfolded f) (unfolded-coded propositionsMost holderCodes f w))
 
 -- ---- an accepted call on a formula's bytes
-record Tells (f : Formula) (e : Event) (output′ : List ℕ) (p : Progress) : Type 0 where
+record CentralTells (f : Formula) (e : Event) (output′ : List ℕ) (p : Progress) : Type 0 where
   verdict-is : p .verdict ≡ verdictOf (ltl.progressed e f)
   bytes-are : take (p .length) output′ ≡ encode (ltl.progressed e f)
 
@@ -54,20 +54,20 @@ central-says bytes e room h =
     let q = order-passed _ _ (omega arith, (omega arith, (omega arith, tt))) h in
     order-ok 1 _ _ _ (q .0) ∙ order-ok 6 _ _ _ (q .1 .0) ∙ order-ok 8 _ _ _ (q .1 .1 .0) ∙ order-done _
 
-tells : (f : Formula) → Coded f → (bytes : List ℕ) → bytes ≡ encode f → (e : Event) (output output′ : List ℕ) (p : Progress) → Centrally bytes e output output′ (Progressed p) → Tells f e output′ p
+tells : (f : Formula) → Coded f → (bytes : List ℕ) → bytes ≡ encode f → (e : Event) (output output′ : List ℕ) (p : Progress) → Centrally bytes e output output′ (Progressed p) → CentralTells f e output′ p
 tells f w bytes b e output output′ p c =
     let g = ltl.progressed e f in
     let same : formulaOf bytes ≡ f = ap someFormula (ap decoded b ∙ decoded-of f w) in
     let says = central-says bytes e (length output) (ap (λ (a : Said). a .number) (sym (c .says))) ∙ ap (λ (x : Formula). accepted (answerOf (ltl.progressed e x))) same in
     let long : p .length ≡ size g = ap (λ (a : Said). getD (a .values) 1 0) (c .says ∙ says) in
-    let next : output′ ≡ padded nodesMost (encode g) =
+    let next : output′ ≡ padded centralNodesMost (encode g) =
     c .leaves
-    ∙ ap (λ (x : Formula). left (centralSays bytes e (length output)) (padded nodesMost (encode (ltl.progressed e x))) output) same
-    ∙ ap (λ (a : Said). left a (padded nodesMost (encode g)) output) says
-    ∙ left-accepted (answerOf g) (padded nodesMost (encode g)) output in
+    ∙ ap (λ (x : Formula). left (centralSays bytes e (length output)) (padded centralNodesMost (encode (ltl.progressed e x))) output) same
+    ∙ ap (λ (a : Said). left a (padded centralNodesMost (encode g)) output) says
+    ∙ left-accepted (answerOf g) (padded centralNodesMost (encode g)) output in
     record {
       verdict-is = verdict-injective (p .verdict) (verdictOf g) (ap (λ (a : Said). getD (a .values) 0 0) (c .says ∙ says));
-      bytes-are = ap (take (p .length)) next ∙ take-at (encode g) (replicate (nodesMost - length (encode g)) 0) (p .length) (length-encode g ∙ sym long);
+      bytes-are = ap (take (p .length)) next ∙ take-at (encode g) (replicate (centralNodesMost - length (encode g)) 0) (p .length) (length-encode g ∙ sym long);
     }
 
 -- ---- the whole rule

@@ -1,7 +1,7 @@
 -- Rows of the worked values as calls that their promises allow. `Part`: some calls of a tick under an event; `part-nothing` and the names
 -- below it put one call after the other, accepted or refused, each by its row. `part-ticks` closes the tick and `load-watches` begins a
--- watch, both into `buffer`. `ticks-give-same`: in two ticks under one event each board was given the same. Assumes nothing.
-use mathlib.Core.Path.{_≡_, sym, ap, _∙_}
+-- watch, both into a buffer of sevens (`buffer`). `ticks-give-same`: in two ticks under one event each board was given the same. Assumes nothing.
+use mathlib.Core.Path.{_≡_, sym, ap, ap₂, _∙_}
 use mathlib.Core.List.{List, []}
 use mathlib.Core.Logic.{⊎-elim}
 use Prim.Native.Nat.{ℕ}
@@ -9,12 +9,15 @@ use lib.ListN.{length, replicate, length-replicate}
 use Rattle.answers.specs.declared.Refusal.{Refusal}
 use Rattle.answers.specs.declared.Outcome.the-variants.{Refused, Done}
 use Rattle.answers.specs.declared.Verdict.{Verdict}
-use Rattle.answers.specs.Said.{Said, refused, left, numberOf}
+use Rattle.answers.specs.Said.{refused, left, numberOf}
 use Rattle.ltl.specs.Meaning.{Event}
 use Rattle.network.specs.Scores.{sampleOf}
 use Rattle.rules.specs.RuleFile.{masksInFile}
-use Rattle.state.specs.Fields.{stateLength}
+use Rattle.state.specs.declared.Form.{Form}
+use Rattle.state.specs.declared.Form.the-variants.{Plain}
+use Rattle.state.specs.Form.{formIn, stateLength}
 use Rattle.state.specs.Calls.{sampleSays, stepSays, closeSays, loadedState}
+use Rattle.state.proofs.Forms.{form-at}
 use Rattle.asking.specs.declared.AskAnswer.the-variants.{Told}
 use Rattle.loading.specs.Load.{ruleIn, loadSays}
 use Rattle.stars.proofs.States.{LoadGives, SampleGives, StepGives, CloseGives, LoadRefuses, CloseRefuses, AskGives}
@@ -22,19 +25,26 @@ use Rattle.demand.specs.Called as call
 use Rattle.demand.specs.Called.{Called, GivenBy, SameGiven, Ticked, Watched}
 use Rattle.demand.proofs.Passed.{refused-not-done, refused-leaves}
 
--- some buffer of a state's length
-abbrev pub buffer : List ℕ
-buffer = replicate stateLength 7
+-- some buffer of a form's length
+abbrev pub buffer : Form → List ℕ
+buffer φ = replicate (stateLength φ) 7
 
-pub buffer-long : length buffer ≡ stateLength
-buffer-long = length-replicate {A = ℕ} stateLength 7
+pub buffer-long : (φ : Form) → length (buffer φ) ≡ stateLength φ
+buffer-long φ = length-replicate {A = ℕ} (stateLength φ) 7
 
--- ---- a watch begins
+-- ---- a load into a state of the rows' form, whatever it held
+load-leaves : (file t after : List ℕ) → length t ≡ stateLength Plain → left (loadSays file (stateLength Plain)) (loadedState Plain (masksInFile file) (ruleIn file)) t ≡ after
+    → left (loadSays file (length t)) (loadedState (formIn t) (masksInFile file) (ruleIn file)) t ≡ after
+load-leaves file t after long e =
+    let form = form-at Plain t long in
+    ap₂ (λ (n : ℕ) (φ : Form). left (loadSays file n) (loadedState φ (masksInFile file) (ruleIn file)) t) long form ∙ e
+
+-- a watch begins
 pub load-watches : (file s : List ℕ) → LoadGives file s → Watched file [] s
 load-watches file s g =
-    let e = ap (loadSays file) buffer-long in
-    let leaves = ap (λ (a : Said). left a (loadedState (masksInFile file) (ruleIn file)) buffer) e ∙ g .leaves buffer in
-    call.begun {before = buffer} (record { says = sym (e ∙ g .says); leaves = sym leaves })
+    let long = buffer-long Plain in
+    call.begun {before = buffer Plain}
+    (record { says = sym (ap (loadSays file) long ∙ g .says); leaves = sym (load-leaves file (buffer Plain) s long (g .leaves (buffer Plain))) })
 
 -- ---- a tick
 -- calls from s to t, in which each board that was given something was given its part of the event
@@ -71,23 +81,24 @@ module _ {masks : List ℕ} {e : Event} {s t : List ℕ} (p : Part masks e s t) 
       record { calls = call.stepped (p .calls) slot (Refused why) (record { says = sym r; leaves = sym (refused-leaves why _ _ t (sym r)) }); given = p .given }
 
   -- a load into the state
-  pub part-load-refused : length t ≡ stateLength → (file : List ℕ) (why : Refusal) → LoadRefuses file (numberOf why) → Part masks e s t
+  pub part-load-refused : length t ≡ stateLength Plain → (file : List ℕ) (why : Refusal) → LoadRefuses file (numberOf why) → Part masks e s t
   part-load-refused long file why r =
       let x = ap (loadSays file) long in
-      let leaves = ap (λ (a : Said). left a (loadedState (masksInFile file) (ruleIn file)) t) x ∙ r .leaves t in
-      record { calls = call.load-refused (p .calls) file why (record { says = sym (x ∙ r .says); leaves = sym leaves }); given = p .given }
+      record { calls = call.load-refused (p .calls) file why (record { says = sym (x ∙ r .says); leaves = sym (load-leaves file t t long (r .leaves t)) }); given = p .given }
 
   -- a close of another state into it
-  pub part-close-refused : length t ≡ stateLength → (other : List ℕ) (why : Refusal) → CloseRefuses other (numberOf why) → Part masks e s t
-  part-close-refused long other why r =
+  pub part-close-refused : (other : List ℕ) → length t ≡ stateLength (formIn other) → (why : Refusal) → CloseRefuses other (numberOf why) → Part masks e s t
+  part-close-refused other long why r =
       let x = ap (closeSays other) long in
       record { calls = call.close-refused (p .calls) other why (record { says = sym (x ∙ r .says); leaves = sym (r .leaves t long) }); given = p .given }
 
   -- a close of it into another buffer
   pub part-close-early : (why : Refusal) → CloseRefuses t (numberOf why) → Part masks e s t
   part-close-early why r =
-      let x = ap (closeSays t) buffer-long in
-      record { calls = call.closed (p .calls) buffer buffer (Refused why) (record { says = sym (x ∙ r .says); leaves = sym (r .leaves buffer buffer-long) }); given = p .given }
+      let second = buffer (formIn t) in
+      let long = buffer-long (formIn t) in
+      let x = ap (closeSays t) long in
+      record { calls = call.closed (p .calls) second second (Refused why) (record { says = sym (x ∙ r .says); leaves = sym (r .leaves second long) }); given = p .given }
 
   -- asking
   pub part-asks : (verdict : Verdict) (ticks slots nodes : ℕ) → AskGives t verdict ticks slots nodes → Part masks e s t
@@ -97,8 +108,10 @@ module _ {masks : List ℕ} {e : Event} {s t : List ℕ} (p : Part masks e s t) 
   -- ---- the tick is closed
   abbrev pub part-ticks : (s′ : List ℕ) → CloseGives t s′ → Ticked masks s e s′
   part-ticks s′ g =
-      let x = ap (closeSays t) buffer-long in
-      record { last = t; calls = p .calls; given = p .given; second = buffer; closes = record { says = sym (x ∙ g .says); leaves = sym (g .leaves buffer buffer-long) } }
+      let second = buffer (formIn t) in
+      let long = buffer-long (formIn t) in
+      let x = ap (closeSays t) long in
+      record { last = t; calls = p .calls; given = p .given; second = second; closes = record { says = sym (x ∙ g .says); leaves = sym (g .leaves second long) } }
 
 pub ticks-give-same : {masks : List ℕ} {e : Event} {s s′ r r′ : List ℕ} (x : Ticked masks s e s′) (y : Ticked masks r e r′) → SameGiven (x .calls) (y .calls)
 ticks-give-same x y b v w g h = x .given b v g ∙ sym (y .given b w h)

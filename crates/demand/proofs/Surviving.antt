@@ -17,6 +17,8 @@ use Rattle.le.specs.Le.{le, leAt}
 use Rattle.ltl.specs.Meaning.{Trace, Satisfies, continued}
 use Rattle.network.specs.Scores.{sampleOf}
 use Rattle.rules.specs.RuleFile.{masksInFile, maskBytes, fileOf}
+use Rattle.state.specs.declared.Form.the-variants.{Plain}
+use Rattle.state.proofs.Forms.{formed-at}
 use Rattle.asking.specs.Ask.{Asks}
 use Rattle.asking.specs.declared.AskAnswer.{AskAnswer}
 use Rattle.asking.specs.declared.AskAnswer.the-variants.{Told}
@@ -57,7 +59,7 @@ samples-first-calls =
     let c₄ = part-step-refused c₃ 0 Unready (surviving .both-waits) in
     let c₅ = part-steps c₄ 1 (heldLives (sampled 1 2)) (surviving .both-held) in
     let c₆ = part-close-early c₅ Unready (surviving .both-early) in
-    let c₇ = part-close-refused c₆ refl start Unready (surviving .at-once) in
+    let c₇ = part-close-refused c₆ start (formed-at Plain start refl) Unready (surviving .at-once) in
     part-steps c₇ 0 bothLive (surviving .both-root)
 
 abbrev pub samples-first : Ticked masks start 3 (asLaid 1 unsampled)

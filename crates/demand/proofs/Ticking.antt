@@ -18,7 +18,7 @@ use Rattle.state.specs.Fields.{masksIn}
 use Rattle.state.specs.Clauses.{inMask}
 use Rattle.state.specs.Calls.{closeSays, closeLeaves}
 use Rattle.closing.specs.Close.{Closes}
-use Rattle.ticking.specs.Tick.{Ticks}
+use Rattle.ticking.specs.Tick.{TicksState}
 use Rattle.ticking.proofs.Determined.{ticks-determined}
 use Rattle.ticking.proofs.Outcomes.{tick-refused, tick-closed}
 use Rattle.demand.specs.Called.{Ticked, Watched}
@@ -31,7 +31,7 @@ module _ (file : List ℕ) (us : List Event) (s : List ℕ) (w : Watched file us
   abbrev masks : List ℕ
   masks = rule-file.masksInFile file
 
-  module _ (second t s′ : List ℕ) (answer : Outcome) (x : Ticks s e second t s′ answer) where
+  module _ (second t s′ : List ℕ) (answer : Outcome) (x : TicksState s e second t s′ answer) where
     pub tick-closes : inMask e (unionWith 0 (masksIn s)) ≡ true → Reaches masks s e t × Closes t second s′ answer
     tick-closes inside =
         let g = give-gets file us s w pending e inside in
@@ -51,7 +51,7 @@ module _ (file : List ℕ) (us : List Event) (s : List ℕ) (w : Watched file us
         ticks-determined s e second t s s′ second answer (Refused Outside) x
         (tick-refused s e second s (Refused Outside) (give-stays file us s w pending e outside) Outside refl)
 
-  pub tick-ticks : (second t s′ : List ℕ) → Ticks s e second t s′ Done → Ticked masks s e s′
+  pub tick-ticks : (second t s′ : List ℕ) → TicksState s e second t s′ Done → Ticked masks s e s′
   tick-ticks second t s′ x = go (inMask e (unionWith 0 (masksIn s))) refl
     where
       go : (b : Bool) → inMask e (unionWith 0 (masksIn s)) ≡ b → Ticked masks s e s′

@@ -7,7 +7,7 @@ use Rattle.ltl.specs.Formula.{Formula}
 use Rattle.ltl.specs.Meaning.{Event}
 use Rattle.rules.specs.RuleFile.{propositionsInFile, masksInFile}
 use Rattle.loading.specs.Load.{ruleIn}
-use Rattle.watching.specs.Watch.{Tick, Watch}
+use Rattle.watching.specs.Watch.{Tick, StateWatch}
 use Rattle.watching.specs.Watch as watch
 use Rattle.watching.proofs.Ticked.{watch-started, close-passed}
 use Rattle.demand.specs.Called.{Ticked, Watched, begun, ticked}
@@ -15,7 +15,7 @@ use Rattle.demand.proofs.Loaded.{load-accepted}
 use Rattle.demand.proofs.Calls.{called}
 use Rattle.demand.proofs.Given.{given-saw}
 
-abbrev pub tick-of : (p : ℕ) (masks : List ℕ) (rule : Formula) (us : List Event) (s : List ℕ) → Watch p masks rule us s → {e : Event} {s′ : List ℕ} → Ticked masks s e s′ → Tick s e s′
+abbrev pub tick-of : (p : ℕ) (masks : List ℕ) (rule : Formula) (us : List Event) (s : List ℕ) → StateWatch p masks rule us s → {e : Event} {s′ : List ℕ} → Ticked masks s e s′ → Tick s e s′
 tick-of p masks rule us s w {e} x =
     record {
       last = x .last;
@@ -26,8 +26,8 @@ tick-of p masks rule us s w {e} x =
       leaves = x .closes .leaves;
     }
 
-pub watched : {file : List ℕ} {us : List Event} {s : List ℕ} → Watched file us s → Watch (propositionsInFile file) (masksInFile file) (ruleIn file) us s
+pub watched : {file : List ℕ} {us : List Event} {s : List ℕ} → Watched file us s → StateWatch (propositionsInFile file) (masksInFile file) (ruleIn file) us s
 watched {file} (begun {before = before} {s = s} l) =
     let x = load-accepted file before s l in
-    subst (λ (t : List ℕ). Watch (propositionsInFile file) (masksInFile file) (ruleIn file) [] t) (sym (x .state-is)) (watch.begun (x .loads))
+    subst (λ (t : List ℕ). StateWatch (propositionsInFile file) (masksInFile file) (ruleIn file) [] t) (sym (x .state-is)) (watch.begun (x .loads))
 watched {file} (ticked {us = us} {s = s} w e t) = watch.ticked (watched w) e (tick-of (propositionsInFile file) (masksInFile file) (ruleIn file) us s (watched w) t)

@@ -9,7 +9,8 @@ use Rattle.answers.specs.declared.Outcome.{Outcome}
 use Rattle.answers.specs.declared.Outcome.the-variants.{Refused, Done}
 use Rattle.ltl.specs.Meaning.{Event}
 use Rattle.ltl.specs.Progression.{progressedOver, verdictOf}
-use Rattle.state.specs.Fields.{stateLength, masksIn}
+use Rattle.state.specs.Form.{formIn, stateLength}
+use Rattle.state.specs.Fields.{masksIn}
 use Rattle.state.specs.Bytes.{nodesOf, networkOf}
 use Rattle.state.specs.Calls.{doneIn}
 use Rattle.asking.specs.declared.Standing.{Standing}
@@ -28,9 +29,9 @@ pub record Gets (Promise : List ℕ → Outcome → Type 0) (wanted : Outcome) :
   pub allowed : Promise leaves wanted
   pub only : (s′ : List ℕ) (answer : Outcome) → Promise s′ answer → answer ≡ wanted
 
--- the close, into any second buffer of a state's length, gets this answer
+-- the close, into any second buffer of the state's length, gets this answer
 abbrev pub CloseGets : List ℕ → Outcome → Type 0
-CloseGets t wanted = (second : List ℕ) → length second ≡ stateLength → Gets (Closes t second) wanted
+CloseGets t wanted = (second : List ℕ) → length second ≡ stateLength (formIn t) → Gets (Closes t second) wanted
 
 -- the close is accepted, or gets 7, 8 or 15: the next layout has too many slots or nodes, or no tick can be counted any more
 pub data Closing (t : List ℕ) : Type 0 where

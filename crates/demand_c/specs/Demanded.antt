@@ -9,7 +9,7 @@ use Rattle.answers.specs.Said.{verdictNumber}
 use Rattle.answers.specs.declared.Verdict.the-variants.{False, True, Pending}
 use Rattle.ltl.specs.Meaning.{Event, Trace, Satisfies, continued}
 use Rattle.rules.specs.RuleFile.{masksInFile}
-use Rattle.state.specs.Fields.{stateLength}
+use Rattle.state.specs.Form.{formIn, stateLength}
 use Rattle.state.specs.Calls.{doneIn}
 use Rattle.loading.specs.Load.{ruleIn}
 use Rattle.asking.specs.declared.Standing.{Standing}
@@ -23,9 +23,9 @@ pub record Answers (Promise : List ℕ → ℕ → Type 0) (number : ℕ) : Type
   pub allowed : Promise leaves number
   pub only : (s′ : List ℕ) (n : ℕ) → Promise s′ n → n ≡ number
 
--- the close, into any second buffer of a state's length, answers this number
+-- the close, into any second buffer of the state's length, answers this number
 abbrev pub CloseAnswers : List ℕ → ℕ → Type 0
-CloseAnswers t number = (second : List ℕ) → length second ≡ stateLength → Answers (CloseExported t second) number
+CloseAnswers t number = (second : List ℕ) → length second ≡ stateLength (formIn t) → Answers (CloseExported t second) number
 
 -- some sample answers 0, or some step; or every board has sampled and every slot is stepped, and the close answers 0, 7, 8 or 15
 pub data GoesOnFromC (t : List ℕ) : Type 0 where

@@ -16,6 +16,7 @@ use Rattle.rules.specs.RuleFile.{fileMost, masksInFile, formulaInFile, fileOf}
 use Rattle.rules.specs.Read.{readSays}
 use Rattle.rules.specs.Write.{writeSays}
 use Rattle.central.specs.Central.{centralSays}
+use Rattle.state.specs.Form.{formIn}
 use Rattle.state.specs.Calls.{loadedState, askSays, sampleSays, sampleLeaves, stepSays, stepLeaves, closeSays, closeLeaves}
 use Rattle.loading.specs.Load.{ruleIn, loadSays}
 
@@ -44,7 +45,7 @@ pub record CentralExported (formula : List ℕ) (event : ℕ) (output output′ 
 
 pub record LoadExported (file state state′ : List ℕ) (answer : ℕ) : Type 0 where
   pub says : answer ≡ loadSays file (length state) .number
-  pub leaves : state′ ≡ left (loadSays file (length state)) (loadedState (masksInFile file) (ruleIn file)) state
+  pub leaves : state′ ≡ left (loadSays file (length state)) (loadedState (formIn state) (masksInFile file) (ruleIn file)) state
 
 pub record SampleExported (state : List ℕ) (board bits : ℕ) (state′ : List ℕ) (answer : ℕ) : Type 0 where
   pub says : answer ≡ sampleSays state board bits .number

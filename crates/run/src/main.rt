@@ -14,7 +14,7 @@ use programs::output;
 use programs::turns;
 use programs::turns::NextEvent;
 use programs::turns::Turned;
-use storing::STATE_LENGTH;
+use state::STATE_ROOM;
 
 // Two ticks a turn. The state counts ticks in 32 bits, so the last of these ticks is refused at the latest.
 const TURNS: u64 = 2147483648;
@@ -109,7 +109,7 @@ fn watch(piece: &mut [u8], state: &mut [u8], second: &mut [u8])
 
 fn main() {
     let mut piece = [0u8; PIECE];
-    let mut state = [0u8; STATE_LENGTH];
-    let mut second = [0u8; STATE_LENGTH];
+    let mut state = [0u8; STATE_ROOM];
+    let mut second = [0u8; STATE_ROOM];
     watch(&mut piece, &mut state, &mut second);
 }

@@ -1,7 +1,7 @@
--- The worked values of slots that keep their board: the table's rows, `Kept`, and that they hold, `kept`. The rule is next (b and b, and
--- always a), with a on board 0 and b on board 1. It is laid on board 1; after a tick its choice would be board 0, by a tie, and it stays
--- where it is. Each row is computed from the definitions that the promises of `load`, `sample`, `step`, `close` and `ask` cite. a and b are
--- 64 and 65. Assumes nothing.
+-- The worked values of slots that keep their board: the table's rows, `KeptBoards`, and that they hold, `kept`. The rule is next (b and
+-- b, and always a), with a on board 0 and b on board 1. It is laid on board 1; after a tick its choice would be board 0, by a tie, and it
+-- stays where it is. Each row is computed from the definitions that the promises of `load`, `sample`, `step`, `close` and `ask` cite. a
+-- and b are 64 and 65. Assumes nothing.
 use mathlib.Core.Path.{_≡_, refl}
 use mathlib.Core.List.{List, [], _∷_}
 use mathlib.Core.Option.{some}
@@ -21,8 +21,10 @@ use Rattle.rules.specs.Read.{offsetsOk}
 use Rattle.network.specs.Scores.{highest, chosen}
 use Rattle.network.specs.Layout.{looked, laid, load, relaid, close}
 use Rattle.network.specs.Tick.{holdsOnly}
+use Rattle.state.specs.Form.{formOf, boardAt}
 use Rattle.state.specs.Fields.{stretchEnd}
-use Rattle.state.specs.Clauses.{eachBelow, allZero, eachTrue, tidy, unfoldedOwn, loneOther, heldBy, among, distinct, boardOk, recordOk, gapOk, holdersIn, headerOk, masksOk, restOk, stateOk}
+use Rattle.state.specs.Writes.{sampleGiven, slotStepped}
+use Rattle.state.specs.Clauses.{eachBelow, allZero, eachTrue, tidy, unfoldedOwn, loneOther, heldBy, among, distinct, boardOk, recordOk, gapOk, holdersIn, placesOk, headerOk, masksOk, restOk, stateOk}
 use Rattle.state.specs.Bytes.{stateOf}
 use Rattle.state.specs.Calls.{finishedIn, verdictIn, askSays, sampleSays, readyIn, stepSays, steppedTo, doneIn, closeSays}
 use Rattle.loading.specs.Load.{loadLengthsOk, loadSays}
@@ -52,7 +54,7 @@ abbrev pub laidAgain : List ℕ
 laidAgain = state 1 unsampled (slot 1 0 0 5 ∷ slot 0 0 5 5 ∷ []) (3 ∷ 3 ∷ 65 ∷ 65 ∷ 129 ∷ 3 ∷ 64 ∷ 5 ∷ 8 ∷ 64 ∷ [])
 
 -- ---- the rows
-pub record Kept : Type 0 where
+pub record KeptBoards : Type 0 where
   pub loads : LoadGives ruleFile (asLaid unsampled)
   pub begins : AskGives (asLaid unsampled) Pending 0 1 7
   pub first : SampleGives (asLaid unsampled) 0 0 (asLaid (halfSampled 0))
@@ -67,8 +69,8 @@ pub record Kept : Type 0 where
       close (chosen twoMasks) (on 0 (3 ∷ 129 ∷ 130 ∷ []) ∷ on 1 later ∷ on 1 (65 ∷ []) ∷ [])
       ≡ on 0 (3 ∷ 129 ∷ 131 ∷ []) ∷ on 1 (3 ∷ 3 ∷ 65 ∷ 65 ∷ 130 ∷ []) ∷ on 0 (3 ∷ 64 ∷ 5 ∷ 8 ∷ 64 ∷ []) ∷ on 1 (65 ∷ []) ∷ []
 
-pub kept : Kept
-unfolding pick both either bit inOrder left kindOf le leAt sumTo onesOf sumOnes unionWith masksRule leafOver over isFormula countsOk maskBytes fileOf listed offsetsOk highest chosen looked laid load relaid close holdsOnly stretchEnd eachBelow allZero eachTrue tidy unfoldedOwn loneOther heldBy among distinct boardOk recordOk gapOk holdersIn headerOk masksOk restOk stateOk stateOf finishedIn verdictIn askSays sampleSays readyIn stepSays steppedTo doneIn closeSays loadLengthsOk loadSays
+pub kept : KeptBoards
+unfolding pick both either bit inOrder left kindOf le leAt sumTo onesOf sumOnes unionWith masksRule leafOver over isFormula countsOk maskBytes fileOf listed offsetsOk highest chosen looked laid load relaid close holdsOnly stretchEnd eachBelow allZero eachTrue tidy unfoldedOwn loneOther heldBy among distinct boardOk recordOk gapOk holdersIn placesOk headerOk masksOk restOk formOf boardAt sampleGiven slotStepped stateOk stateOf finishedIn verdictIn askSays sampleSays readyIn stepSays steppedTo doneIn closeSays loadLengthsOk loadSays
 kept =
     record {
       loads = record { says = refl; leaves = λ before. refl };

@@ -17,7 +17,8 @@ use Rattle.rules.specs.RuleFile.{countsOk, maskBytes, fileOf}
 use Rattle.rules.specs.Read.{offsetsOk}
 use Rattle.network.specs.Scores.{highest, chosen}
 use Rattle.network.specs.Layout.{Slot, looked, laid, load}
-use Rattle.state.specs.Fields.{stateLength}
+use Rattle.state.specs.declared.Form.the-variants.{Plain}
+use Rattle.state.specs.Form.{formOf, stateLength}
 use Rattle.state.specs.Bytes.{nodesOf}
 use Rattle.state.specs.Calls.{firstOf}
 use Rattle.loading.specs.Load.{loadLengthsOk, loadSays}
@@ -45,7 +46,7 @@ always zero = 64 ∷ []
 always (suc n) = 8 ∷ always n
 
 -- a layout has so many slots and nodes
-pub record Counts (slots : List Slot) (s n : ℕ) : Type 0 where
+pub record LayoutCounted (slots : List Slot) (s n : ℕ) : Type 0 where
   pub slots-are : length slots ≡ s
   pub nodes-are : nodesOf slots ≡ n
 
@@ -53,20 +54,20 @@ pub record Layouts : Type 0 where
   -- copies made by unfolding count, and what stands under next counts as it stands
   pub until-ever : boards (overTwo (6 ∷ 64 ∷ 7 ∷ 65 ∷ [])) ≡ 1 ∷ 0 ∷ []
   -- a tie goes to the lowest board, even where the slot's own is among the tied
-  pub tie : Counts (overTwo (3 ∷ 65 ∷ 3 ∷ 64 ∷ 65 ∷ [])) 3 7
+  pub tie : LayoutCounted (overTwo (3 ∷ 65 ∷ 3 ∷ 64 ∷ 65 ∷ [])) 3 7
   -- a next that is an operand may be cut, whole
-  pub next : Counts (overTwo (3 ∷ 64 ∷ 5 ∷ 65 ∷ [])) 2 5
+  pub next : LayoutCounted (overTwo (3 ∷ 64 ∷ 5 ∷ 65 ∷ [])) 2 5
   -- 63 copies need all the slots that there are, and 64 one more
-  pub copies-most : Counts (overTwo (copies 62)) 64 314
-  pub copies-load : loadSays (fileOf twoMasks 2 (copies 62)) stateLength ≡ accepted []
-  pub copies-over : loadSays (fileOf twoMasks 2 (copies 63)) stateLength ≡ refused 7
+  pub copies-most : LayoutCounted (overTwo (copies 62)) 64 314
+  pub copies-load : loadSays (fileOf twoMasks 2 (copies 62)) (stateLength Plain) ≡ accepted []
+  pub copies-over : loadSays (fileOf twoMasks 2 (copies 63)) (stateLength Plain) ≡ refused 7
   -- 87 times always has room, and 88 times has not
-  pub always-most : Counts (firstOf (1 ∷ []) (formulaOf (always 87))) 1 4090
-  pub always-load : loadSays (fileOf (1 ∷ []) 1 (always 87)) stateLength ≡ accepted []
-  pub always-over : loadSays (fileOf (1 ∷ []) 1 (always 88)) stateLength ≡ refused 8
+  pub always-most : LayoutCounted (firstOf (1 ∷ []) (formulaOf (always 87))) 1 4090
+  pub always-load : loadSays (fileOf (1 ∷ []) 1 (always 87)) (stateLength Plain) ≡ accepted []
+  pub always-over : loadSays (fileOf (1 ∷ []) 1 (always 88)) (stateLength Plain) ≡ refused 8
 
 pub layouts : Layouts
-unfolding pick both bit inOrder kindOf le leAt sumTo onesOf sumOnes unionWith masksRule leafOver over isFormula countsOk maskBytes fileOf listed offsetsOk highest chosen looked laid load loadLengthsOk loadSays
+unfolding pick both bit inOrder kindOf le leAt sumTo onesOf sumOnes unionWith masksRule leafOver over isFormula countsOk maskBytes fileOf listed offsetsOk highest chosen looked laid load formOf loadLengthsOk loadSays
 layouts =
     record {
       until-ever = refl;

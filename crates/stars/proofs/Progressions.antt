@@ -4,6 +4,7 @@ use mathlib.Core.Path.{_≡_, refl}
 use mathlib.Core.List.{List, [], _∷_}
 use Prim.Native.Nat.{ℕ}
 use lib.ListN.{length}
+use Rattle.limits.specs.Limits.{centralNodesMost}
 use Rattle.lists.specs.Tests.{pick, both, either, bit}
 use Rattle.answers.specs.Said.{accepted, inOrder, verdictNumber}
 use Rattle.answers.specs.declared.Verdict.{Verdict}
@@ -17,7 +18,7 @@ use Rattle.central.specs.Central.{centralLengthsOk, centralSays}
 
 -- progressing the bytes of a formula over one event gives the bytes of another: what the call answers, and what it leaves
 pub record Gives (before : List ℕ) (event : Event) (verdict : Verdict) (after : List ℕ) : Type 0 where
-  pub says : centralSays before event 4096 ≡ accepted (verdictNumber verdict ∷ length after ∷ [])
+  pub says : centralSays before event centralNodesMost ≡ accepted (verdictNumber verdict ∷ length after ∷ [])
   pub leaves : encode (progressed event (formulaOf before)) ≡ after
 
 pub record Progressions : Type 0 where

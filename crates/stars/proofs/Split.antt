@@ -1,4 +1,4 @@
--- The worked values of a until b, a on board 0 and b on board 1: the table's rows, `Split`, and that they hold, `split`. Each is
+-- The worked values of a until b, a on board 0 and b on board 1: the table's rows, `SplitUntil`, and that they hold, `split`. Each is
 -- computed from the definitions that the promises of `load`, `sample`, `step`, `close` and `ask` cite, over the state's bytes.
 -- a and b are 64 and 65. Assumes nothing.
 use mathlib.Core.Path.{_≡_, refl}
@@ -21,8 +21,10 @@ use Rattle.rules.specs.Read.{offsetsOk}
 use Rattle.network.specs.Scores.{highest, chosen}
 use Rattle.network.specs.Layout.{Slot, looked, laid, load, close}
 use Rattle.network.specs.Tick.{holdsOnly}
+use Rattle.state.specs.Form.{formOf, boardAt}
 use Rattle.state.specs.Fields.{stretchEnd}
-use Rattle.state.specs.Clauses.{eachBelow, allZero, eachTrue, tidy, unfoldedOwn, loneOther, heldBy, among, distinct, boardOk, recordOk, gapOk, holdersIn, headerOk, masksOk, restOk, stateOk}
+use Rattle.state.specs.Writes.{sampleGiven, slotStepped}
+use Rattle.state.specs.Clauses.{eachBelow, allZero, eachTrue, tidy, unfoldedOwn, loneOther, heldBy, among, distinct, boardOk, recordOk, gapOk, holdersIn, placesOk, headerOk, masksOk, restOk, stateOk}
 use Rattle.state.specs.Bytes.{stateOf}
 use Rattle.state.specs.Calls.{finishedIn, verdictIn, askSays, sampleSays, readyIn, stepSays, steppedTo, doneIn, closeSays}
 use Rattle.loading.specs.Load.{loadLengthsOk, loadSays}
@@ -81,7 +83,7 @@ pub record RootWaits (x y : ℕ) : Type 0 where
   pub second : (t : ℕ) → SampleGives (asLaid t (halfSampled x)) 1 y (asLaid t (sampled x y))
   pub early : (t : ℕ) → stepSays (asLaid t (sampled x y)) 0 ≡ refused 14
 
-pub record Split : Type 0 where
+pub record SplitUntil : Type 0 where
   -- its file's bytes
   pub file : ruleFile ≡ 1 ∷ 0 ∷ 2 ∷ 0 ∷ 2 ∷ 0 ∷ 3 ∷ 0 ∷ 16 ∷ 0 ∷ 32 ∷ 0 ∷ 35 ∷ 0 ∷ 0 ∷ 0 ∷ 1 ∷ 0 ∷ 0 ∷ 0 ∷ 0 ∷ 0 ∷ 0 ∷ 0 ∷ 2 ∷ 0 ∷ 0 ∷ 0 ∷ 0 ∷ 0 ∷ 0 ∷ 0 ∷ 6 ∷ 64 ∷ 65 ∷ []
   -- the boards that the unfolded rule and its two operands are chosen for, and the layout
@@ -117,8 +119,8 @@ pub record Split : Type 0 where
   pub b-stands : AskGives finished True 2 1 1
   pub b-over : (b bits : ℕ) → sampleSays finished b bits ≡ refused 10
 
-pub split : Split
-unfolding pick both either bit inOrder left kindOf le leAt sumTo onesOf sumOnes unionWith masksRule sameBool leafOver over isFormula isConstant joined countsOk maskBytes fileOf listed offsetsOk highest chosen looked laid load close holdsOnly stretchEnd eachBelow allZero eachTrue tidy unfoldedOwn loneOther heldBy among distinct boardOk recordOk gapOk holdersIn headerOk masksOk restOk stateOk stateOf finishedIn verdictIn askSays sampleSays readyIn stepSays steppedTo doneIn closeSays loadLengthsOk loadSays
+pub split : SplitUntil
+unfolding pick both either bit inOrder left kindOf le leAt sumTo onesOf sumOnes unionWith masksRule sameBool leafOver over isFormula isConstant joined countsOk maskBytes fileOf listed offsetsOk highest chosen looked laid load close holdsOnly stretchEnd eachBelow allZero eachTrue tidy unfoldedOwn loneOther heldBy among distinct boardOk recordOk gapOk holdersIn placesOk headerOk masksOk restOk formOf boardAt sampleGiven slotStepped stateOk stateOf finishedIn verdictIn askSays sampleSays readyIn stepSays steppedTo doneIn closeSays loadLengthsOk loadSays
 split =
     record {
       file = refl;

@@ -2,10 +2,10 @@
 -- Assumes nothing.
 use Rattle.stars.proofs.Progressions.{Progressions, progressions}
 use Rattle.stars.proofs.Layouts.{Layouts, layouts}
-use Rattle.stars.proofs.Split.{Split, split}
+use Rattle.stars.proofs.Split.{SplitUntil, split}
 use Rattle.stars.proofs.Surviving.{Surviving, surviving}
 use Rattle.stars.proofs.Renumbered.{Renumbered, renumbered}
-use Rattle.stars.proofs.Kept.{Kept, kept}
+use Rattle.stars.proofs.Kept.{KeptBoards, kept}
 use Rattle.stars.proofs.Unsplit.{Unsplit, unsplit}
 
 pub record Stars : Type 0 where
@@ -14,13 +14,13 @@ pub record Stars : Type 0 where
   -- rules laid out
   pub laid-out : Layouts
   -- a until b, split over two boards
-  pub over-two : Split
+  pub over-two : SplitUntil
   -- always a, or always b: a slot that survives, two orders of one tick, refused calls in between, the verdict false
   pub surviving-two : Surviving
   -- two slots stepped in either order, one of which survives with another number
   pub renumbered-two : Renumbered
   -- slots that keep their board where another would be chosen
-  pub kept-two : Kept
+  pub kept-two : KeptBoards
   -- rules that stay on one board
   pub on-one : Unsplit
 

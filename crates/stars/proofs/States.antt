@@ -12,8 +12,10 @@ use Rattle.answers.specs.declared.Verdict.{Verdict}
 use Rattle.answers.proofs.Answers.{left-refused}
 use Rattle.le.specs.Le.{le}
 use Rattle.rules.specs.RuleFile.{masksInFile}
+use Rattle.state.specs.declared.Form.the-variants.{Plain}
+use Rattle.state.specs.Form.{formIn, stateLength}
 use Rattle.state.specs.Fields as fields
-use Rattle.state.specs.Fields.{stateLength, ticksIn}
+use Rattle.state.specs.Fields.{ticksIn}
 use Rattle.state.specs.Bytes.{stateHeader, stateOf}
 use Rattle.state.specs.Calls.{askSays, sampleSays, sampleLeaves, stepSays, stepLeaves, nextIn, closeSays, closeLeaves, loadedState}
 use Rattle.loading.specs.Load.{ruleIn, loadSays}
@@ -35,13 +37,13 @@ together (r ∷ rs) = r ++ together rs
 -- the whole buffer
 abbrev pub state : ℕ → List (List ℕ) → List (List ℕ) → List ℕ → List ℕ
 state ticks boards slots nodes =
-    padded stateLength (stateHeader (length boards) (length slots) (length nodes) ticks ++ (together boards ++ (together slots ++ nodes)))
+    padded (stateLength Plain) (stateHeader Plain (length boards) (length slots) (length nodes) ticks ++ (together boards ++ (together slots ++ nodes)))
 
 -- ---- calls that are accepted, and what they leave
 -- loading the file, whatever the lent state held
 pub record LoadGives (file after : List ℕ) : Type 0 where
-  pub says : loadSays file stateLength ≡ accepted []
-  pub leaves : (before : List ℕ) → left (loadSays file stateLength) (loadedState (masksInFile file) (ruleIn file)) before ≡ after
+  pub says : loadSays file (stateLength Plain) ≡ accepted []
+  pub leaves : (before : List ℕ) → left (loadSays file (stateLength Plain)) (loadedState Plain (masksInFile file) (ruleIn file)) before ≡ after
 
 -- a board gives its sample
 pub record SampleGives (before : List ℕ) (board bits : ℕ) (after : List ℕ) : Type 0 where
@@ -55,37 +57,37 @@ pub record StepGives (before : List ℕ) (slot : ℕ) (after : List ℕ) : Type 
 
 -- the tick is closed, whatever the second buffer held
 pub record CloseGives (before after : List ℕ) : Type 0 where
-  pub says : closeSays before stateLength ≡ accepted []
-  pub leaves : (second : List ℕ) → length second ≡ stateLength → closeLeaves before second ≡ after
+  pub says : closeSays before (stateLength (formIn before)) ≡ accepted []
+  pub leaves : (second : List ℕ) → length second ≡ stateLength (formIn before) → closeLeaves before second ≡ after
 
-pub close-gives : (before after : List ℕ) → closeSays before stateLength ≡ accepted [] → stateOf (fields.masksIn before) (nextIn before) (ticksIn before + 1) ≡ after
+pub close-gives : (before after : List ℕ) → closeSays before (stateLength (formIn before)) ≡ accepted [] → stateOf (formIn before) (fields.masksIn before) (nextIn before) (ticksIn before + 1) ≡ after
     → CloseGives before after
 unfolding left pick
 close-gives before after e f =
     record {
       says = e;
       leaves = λ second long.
-          let next = stateOf (fields.masksIn before) (nextIn before) (ticksIn before + 1) in
+          let next = stateOf (formIn before) (fields.masksIn before) (nextIn before) (ticksIn before + 1) in
           ap (λ (n : ℕ). left (closeSays before n) next second) long ∙ ap (λ (x : Said). left x next second) e ∙ f;
     }
 
 -- ---- calls that are refused with a number, and leave what they were lent
 -- loading the file, whatever the lent state held
 pub record LoadRefuses (file : List ℕ) (number : ℕ) : Type 0 where
-  pub says : loadSays file stateLength ≡ refused number
-  pub leaves : (before : List ℕ) → left (loadSays file stateLength) (loadedState (masksInFile file) (ruleIn file)) before ≡ before
+  pub says : loadSays file (stateLength Plain) ≡ refused number
+  pub leaves : (before : List ℕ) → left (loadSays file (stateLength Plain)) (loadedState Plain (masksInFile file) (ruleIn file)) before ≡ before
 
 -- closing the tick, whatever the second buffer held
 pub record CloseRefuses (before : List ℕ) (number : ℕ) : Type 0 where
-  pub says : closeSays before stateLength ≡ refused number
-  pub leaves : (second : List ℕ) → length second ≡ stateLength → closeLeaves before second ≡ second
+  pub says : closeSays before (stateLength (formIn before)) ≡ refused number
+  pub leaves : (second : List ℕ) → length second ≡ stateLength (formIn before) → closeLeaves before second ≡ second
 
-pub close-refuses : (before : List ℕ) (why : Refusal) → closeSays before stateLength ≡ refused (numberOf why) → CloseRefuses before (numberOf why)
+pub close-refuses : (before : List ℕ) (why : Refusal) → closeSays before (stateLength (formIn before)) ≡ refused (numberOf why) → CloseRefuses before (numberOf why)
 close-refuses before why e =
     record {
       says = e;
       leaves = λ second long.
-          let next = stateOf (fields.masksIn before) (nextIn before) (ticksIn before + 1) in
+          let next = stateOf (formIn before) (fields.masksIn before) (nextIn before) (ticksIn before + 1) in
           ap (λ (n : ℕ). left (closeSays before n) next second) long ∙ ap (λ (x : Said). left x next second) e ∙ left-refused why next second;
     }
 

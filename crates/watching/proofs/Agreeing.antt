@@ -1,6 +1,6 @@
 -- Two ways through a tick from one network, with equal samples, that leave nothing but the close: the networks are then the same
--- (`lasts-agree`); with as many ticks the close answers the same (`answers-agree`) and what it leaves is the same (`nexts-agree`).
--- Assumes nothing.
+-- (`lasts-agree`); with as many ticks, in states of one form, the close answers the same (`answers-agree`) and what it leaves is the same
+-- (`nexts-agree`). Assumes nothing.
 use mathlib.Core.Path.{_≡_, sym, ap₂, _∙_, subst}
 use mathlib.Core.Bool.{true, false}
 use mathlib.Core.List.{List}
@@ -14,6 +14,7 @@ use Rattle.network.specs.Layout.{Slot, slotAt, close}
 use Rattle.network.specs.Tick.{Steps}
 use Rattle.network.proofs.Settling.{partly-agree}
 use Rattle.network.proofs.Choosing.{masks-choice}
+use Rattle.state.specs.Form.{formIn}
 use Rattle.state.specs.Fields.{boardsIn, ticksIn, masksIn, sampleIn}
 use Rattle.state.specs.Bytes.{stateOf, networkOf}
 use Rattle.state.specs.Calls.{doneIn, nextIn, closeSays}
@@ -50,8 +51,11 @@ module _ (masks : List ℕ) (p : ℕ) (rule : Formula) (us : List Event) (s : Li
   next-agrees : nextIn t ≡ nextIn u
   next-agrees = ap₂ (λ (ms : List ℕ) (ns : List Slot). close (chosen ms) ns) masks-agree lasts-agree
 
-  -- and with as many ticks
-  module _ (as-many : ticksIn s ≡ ticksIn s₂) where
+  -- and with as many ticks, in states of one form
+  module _ (as-many : ticksIn s ≡ ticksIn s₂) (as-formed : formIn s ≡ formIn s₂) where
+    forms-agree : formIn t ≡ formIn u
+    forms-agree = in-t .form-kept ∙ as-formed ∙ sym (in-u .form-kept)
+
     ticks-agree : ticksIn t ≡ ticksIn u
     ticks-agree = in-t .ticks-kept ∙ as-many ∙ sym (in-u .ticks-kept)
 
@@ -60,7 +64,7 @@ module _ (masks : List ℕ) (p : ℕ) (rule : Formula) (us : List Event) (s : Li
     answers-agree room =
         let f = done-unfinished t (passing t (in-t .passes) .header .some-slots) done-t in
         let g = done-unfinished u (passing u (in-u .passes) .header .some-slots) done-u in
-        rw (in-t .passes, in-u .passes, f, g, done-t, done-u, next-agrees, ticks-agree)
+        rw (in-t .passes, in-u .passes, f, g, done-t, done-u, forms-agree, next-agrees, ticks-agree)
 
-    pub nexts-agree : stateOf (masksIn t) (nextIn t) (ticksIn t + 1) ≡ stateOf (masksIn u) (nextIn u) (ticksIn u + 1)
-    nexts-agree = λ i. stateOf (masks-agree i) (next-agrees i) (ticks-agree i + 1)
+    pub nexts-agree : stateOf (formIn t) (masksIn t) (nextIn t) (ticksIn t + 1) ≡ stateOf (formIn u) (masksIn u) (nextIn u) (ticksIn u + 1)
+    nexts-agree = λ i. stateOf (forms-agree i) (masks-agree i) (next-agrees i) (ticks-agree i + 1)

@@ -1,6 +1,7 @@
--- What ask answers in a watch: at load and after each close the verdict of one place (`started-central`, and what it means: `started-true`,
--- `started-false`), as many ticks as events, and the network's slots and nodes (`started-asks`); and within a tick what it answered before (`calls-ask`, with `calls-verdict`). `pending-unfinished`: a pending
--- verdict is that of a state that is not finished. Assumes nothing.
+-- What ask answers in a watch: at load and after each close the verdict of one place (`started-central`, and what it means:
+-- `started-true`, `started-false`), as many ticks as events, and the network's slots and nodes (`started-asks`); and within a tick what
+-- it answered before (`calls-ask`, with `calls-verdict`). `pending-unfinished`: a pending verdict is that of a state that is not
+-- finished. Assumes nothing.
 use mathlib.Core.Path.{_≡_, refl, sym, ap, _∙_}
 use mathlib.Core.Bool.{Bool, true, false}
 use mathlib.Core.List.{List, [], _∷_}
@@ -21,7 +22,7 @@ use Rattle.state.specs.Fields.{slotsIn, nodesIn, ticksIn, slotBytes}
 use Rattle.state.specs.Clauses.{stateOk}
 use Rattle.state.specs.Bytes.{nodesOf, networkOf}
 use Rattle.state.specs.Calls.{finishedIn, verdictIn, askSays}
-use Rattle.state.proofs.Rows.{network-length, network-at}
+use Rattle.state.proofs.Listed.{network-length, network-at}
 use Rattle.checked.proofs.Passing.{passing}
 use Rattle.watching.specs.Watch.{Calls}
 use Rattle.watching.proofs.InTick.{slots-kept}

@@ -9,6 +9,7 @@ use lib.Dec.{leb, eqb}
 use borrow.Author.Tests.{ne-eqb, lt-leb}
 use Rattle.lists.specs.Tests.{both}
 use Rattle.kinds.specs.declared.Leaf.the-variants.{Const, Prop, Hold}
+use Rattle.kinds.specs.Kinds.{propCode, holdCode}
 use Rattle.ltl.specs.Formula.{Formula, leaf, one, two, size, encode}
 use Rattle.ltl.specs.Progression.{verdictOf}
 use Rattle.ltl.proofs.Decoding.{size-some}
@@ -21,8 +22,8 @@ test-is : (f : Formula) → both (eqb (size f) 1) (leb (getD (encode f) 0 0) 1) 
 unfolding both
 test-is (leaf (Const true)) = refl
 test-is (leaf (Const false)) = refl
-test-is (leaf (Prop i)) = lt-leb (64 + i) 1 (omega arith)
-test-is (leaf (Hold m)) = lt-leb (128 + m) 1 (omega arith)
+test-is (leaf (Prop i)) = lt-leb (propCode + i) 1 (omega arith)
+test-is (leaf (Hold m)) = lt-leb (holdCode + m) 1 (omega arith)
 test-is (one o f) = let e : eqb (1 + size f) 1 ≡ false = ne-eqb (1 + size f) 1 (λ q. omega (arith, size-some f)) in rw e
 test-is (two o f g) = let e : eqb (1 + size f + size g) 1 ≡ false = ne-eqb (1 + size f + size g) 1 (λ q. omega (arith, size-some f)) in rw e
 

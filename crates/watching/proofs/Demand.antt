@@ -16,8 +16,8 @@ use Rattle.state.specs.Fields.{boardsIn, sampleIn}
 use Rattle.state.specs.Clauses.{stateOk}
 use Rattle.state.specs.Bytes.{nodesOf, networkOf}
 use Rattle.state.specs.Calls.{finishedIn, verdictIn, askSays, doneIn, closeSays, closeLeaves}
-use Rattle.watching.specs.Watch.{Calls, Tick, Watch}
-use Rattle.watching.specs.Claims.{known, GoesOn, Reached, Over}
+use Rattle.watching.specs.Watch.{Calls, Tick, StateWatch}
+use Rattle.watching.specs.Claims.{known, StateGoesOn, StateReached, StateOver}
 use Rattle.watching.proofs.Started.{Started}
 use Rattle.watching.proofs.Ticked.{close-passed, close-leaves, started-in-tick, tick-network, watch-started}
 use Rattle.watching.proofs.Telling.{finished-over, started-finished, started-verdict, calls-unfinished}
@@ -27,7 +27,7 @@ use Rattle.watching.proofs.GoingOn.{goes-on}
 use Rattle.watching.proofs.Events.{eventOf, tick-of}
 use Rattle.watching.proofs.Existing.{tick-reached}
 
-module _ (p : ℕ) (masks : List ℕ) (rule : Formula) (us : List Event) (s : List ℕ) (watch : Watch p masks rule us s) where
+module _ (p : ℕ) (masks : List ℕ) (rule : Formula) (us : List Event) (s : List ℕ) (watch : StateWatch p masks rule us s) where
   started : Started p masks rule us s
   started = watch-started p masks rule watch
 
@@ -52,7 +52,7 @@ module _ (p : ℕ) (masks : List ℕ) (rule : Formula) (us : List Event) (s : Li
   pub watch-finished : finishedIn s ≡ known (verdictOf (progressedOver us rule))
   watch-finished = started-finished p masks rule us s started ∙ ap known (sym (started-verdict p masks rule us s started) ∙ watch-verdict)
 
-  pub watch-over : finishedIn s ≡ true → Over s
+  pub watch-over : finishedIn s ≡ true → StateOver s
   watch-over e = finished-over s (started .passes) e
 
   -- ---- within a tick: after any samples and steps, in any order, accepted or refused
@@ -69,7 +69,7 @@ module _ (p : ℕ) (masks : List ℕ) (rule : Formula) (us : List Event) (s : Li
     tick-pending e = calls-verdict p masks rule us s started t calls ∙ e
 
     -- until a verdict no tick gets stuck
-    pub tick-goes-on : verdictIn s ≡ Pending → GoesOn t
+    pub tick-goes-on : verdictIn s ≡ Pending → StateGoesOn t
     tick-goes-on e = goes-on t tick-passes (calls-unfinished p masks rule us s started t calls (pending-unfinished s e))
 
     -- whatever was sampled, an accepted close is a tick: there is an event that the boards have seen
@@ -78,7 +78,7 @@ module _ (p : ℕ) (masks : List ℕ) (rule : Formula) (us : List Event) (s : Li
 
   -- ---- from close to close
   -- from one network equal samples close to the same next one, whatever the watch was before and whatever was called in the tick
-  pub networks-agree : (q : ℕ) (other : Formula) (vs : List Event) (s₂ : List ℕ) → Watch q masks other vs s₂ → networkOf s ≡ networkOf s₂
+  pub networks-agree : (q : ℕ) (other : Formula) (vs : List Event) (s₂ : List ℕ) → StateWatch q masks other vs s₂ → networkOf s ≡ networkOf s₂
       → (d e : Event) (a b : List ℕ) (x : Tick s d a) (y : Tick s₂ e b) → ((c : ℕ) → c < boardsIn s → sampleIn (x .last) c ≡ sampleIn (y .last) c) → networkOf a ≡ networkOf b
   networks-agree q other vs s₂ w alike d e a b x y same =
       let z = watch-started q masks other w in
@@ -92,14 +92,14 @@ module _ (p : ℕ) (masks : List ℕ) (rule : Formula) (us : List Event) (s : Li
   ticks-agree d e a b x y same =
       x .leaves ∙ close-leaves (x .last) (x .second) (x .closes)
       ∙ nexts-agree masks p rule us s started p rule us s started refl (x .last) (y .last) (x .calls) (y .calls)
-      (close-passed (x .last) (length (x .second)) (x .closes) .done) (close-passed (y .last) (length (y .second)) (y .closes) .done) same refl
+      (close-passed (x .last) (length (x .second)) (x .closes) .done) (close-passed (y .last) (length (y .second)) (y .closes) .done) same refl refl
       ∙ sym (y .leaves ∙ close-leaves (y .last) (y .second) (y .closes))
 
   -- and where the close is all that is left it answers the same
   pub closes-agree : (t u : List ℕ) → Calls s t → Calls s u → doneIn t ≡ true → doneIn u ≡ true → ((c : ℕ) → c < boardsIn s → sampleIn t c ≡ sampleIn u c)
       → (room : ℕ) → closeSays t room ≡ closeSays u room
-  closes-agree t u a b done-t done-u same = answers-agree masks p rule us s started p rule us s started refl t u a b done-t done-u same refl
+  closes-agree t u a b done-t done-u same = answers-agree masks p rule us s started p rule us s started refl t u a b done-t done-u same refl refl
 
   -- until a verdict there are, for every event, accepted calls after which the close is all that is left
-  pub tick-exists : verdictIn s ≡ Pending → (e : Event) → Reached s e
+  pub tick-exists : verdictIn s ≡ Pending → (e : Event) → StateReached s e
   tick-exists v e = tick-reached p masks rule us s started (pending-unfinished s v) e

@@ -18,7 +18,7 @@ use Rattle.network.proofs.Choosing.{masks-below}
 use Rattle.state.specs.Fields.{boardsIn, masksIn, sampleIn}
 use Rattle.state.specs.Clauses.{stateOk}
 use Rattle.state.specs.Calls.{closeSays, closeLeaves}
-use Rattle.state.proofs.Rows.{masks-length, masks-at}
+use Rattle.state.proofs.Listed.{masks-length, masks-at}
 use Rattle.checked.proofs.Passing.{passing}
 use Rattle.watching.specs.Watch.{Calls, Saw, Tick}
 use Rattle.lists.specs.Listed.{listed}

@@ -1,6 +1,6 @@
 -- A tick exists: from a watch's state that is not finished, and for every event, calls that are all accepted lead to a state where the close
 -- is all that is left and every board has seen the event (`tick-reached`). Boards sample from the first up, slots step from the last down:
--- `Progress` is how far that has come, and one more board or slot is `sample-says` and `sample-more`, `step-says` and `step-more`.
+-- `TickProgress` is how far that has come, and one more board or slot is `sample-says` and `sample-more`, `step-says` and `step-more`.
 -- Assumes nothing.
 use mathlib.Core.Path.{_≡_, sym, ap, _∙_, subst}
 use mathlib.Core.Bool.{true, false}
@@ -20,13 +20,15 @@ use Rattle.ltl.specs.Meaning.{Event}
 use Rattle.network.specs.Scores.{sampleOf}
 use Rattle.state.specs.Fields.{boardsIn, slotsIn, maskIn, sampleIn, sampledIn, masksIn, boardOfIn, steppedIn}
 use Rattle.state.specs.Clauses.{inMask, stateOk}
+use Rattle.state.specs.Writes.{sampleGiven}
 use Rattle.state.specs.Calls.{finishedIn, sampleSays, sampleLeaves, stepSays, stepLeaves, doneIn}
-use Rattle.state.proofs.Rows.{masks-at}
-use Rattle.checked.proofs.Passing.{passing}
+use Rattle.state.proofs.Listed.{masks-at}
+use Rattle.state.proofs.Sampled.{sample-slot, sample-other, sample-other-flag, sample-bits, sample-flag}
+use Rattle.checked.proofs.Passing.{passing, passing-sized, passing-stretched}
 use Rattle.watching.specs.Watch.{Calls, none, sample, step, Saw}
-use Rattle.watching.specs.Claims.{Accepted, Closing, Reached}
+use Rattle.watching.specs.Claims.{Accepted, StateClosing, StateReached}
 use Rattle.watching.proofs.Bits.{and-twice}
-use Rattle.watching.proofs.Sampling.{sampled, sample-slot, sample-other, sample-other-flag, sample-bits, sample-flag}
+use Rattle.watching.proofs.Sampling.{bits-few}
 use Rattle.watching.proofs.Stepping.{after, step-sample, step-flag, step-slot, step-mark}
 use Rattle.watching.proofs.InTick.{InTick, slots-kept, boards-kept}
 use Rattle.watching.proofs.Started.{Started, started-laid}
@@ -44,7 +46,7 @@ module _ (p : ℕ) (masks : List ℕ) (rule : Formula) (us : List Event) (s : Li
   due b = sampleOf (masksIn s) e b
 
   -- boards below n have sampled, slots from d on are stepped
-  pub record Progress (n d : ℕ) (t : List ℕ) : Type 0 where
+  pub record TickProgress (n d : ℕ) (t : List ℕ) : Type 0 where
     pub given : (b : ℕ) → b < n → b < boardsIn s → (sampledIn t b ≡ 1) × (sampleIn t b ≡ due b)
     pub waiting : (b : ℕ) → n ≤ b → b < boardsIn s → sampledIn t b ≡ 0
     pub stepped : (k : ℕ) → d ≤ k → k < slotsIn s → steppedIn t k ≡ 1
@@ -54,13 +56,13 @@ module _ (p : ℕ) (masks : List ℕ) (rule : Formula) (us : List Event) (s : Li
     last : List ℕ
     calls : Calls s last
     all : Accepted calls
-    progress : Progress n d last
+    progress : TickProgress n d last
 
   in-tick : (t : List ℕ) → Calls s t → InTick s (x .passes) (started-laid p masks rule us s x) t
   in-tick t c = started-in-tick p masks rule us s t x c
 
   -- ---- the next board
-  module _ (t : List ℕ) (c : Calls s t) (n : ℕ) (l : n < boardsIn s) (made : Progress n (slotsIn s) t) where
+  module _ (t : List ℕ) (c : Calls s t) (n : ℕ) (l : n < boardsIn s) (made : TickProgress n (slotsIn s) t) where
     ok : stateOk t ≡ true
     ok = in-tick t c .passes
 
@@ -85,31 +87,31 @@ module _ (p : ℕ) (masks : List ℕ) (rule : Formula) (us : List Event) (s : Li
     pub sample-says : sampleSays t n (due n) ≡ accepted []
     sample-says = sample-accepted t ok (calls-unfinished p masks rule us s x t c unfinished) n (due n) there inside unsampled
 
-    pub sample-more : Progress (suc n) (slotsIn s) (sampleLeaves t n (due n))
+    pub sample-more : TickProgress (suc n) (slotsIn s) (sampleLeaves t n (due n))
     sample-more =
-        let t′ = sampled t ok n (due n) there inside unsampled in
+        let t′ = sampleGiven t n (due n) in
         let q = slots-kept s (x .passes) (started-laid p masks rule us s x) t (in-tick t c) in
-        subst (λ (u : List ℕ). Progress (suc n) (slotsIn s) u) (sym (accepted-leaves _ t′ t sample-says))
+        subst (λ (u : List ℕ). TickProgress (suc n) (slotsIn s) u) (sym (accepted-leaves _ t′ t sample-says))
         (record {
           given = λ b h i. given b i (ℕ-discrete b n) h;
-          waiting = λ b h i. sample-other-flag t ok n (due n) there inside unsampled b (λ z. omega arith) ∙ made .waiting b (omega arith) i;
+          waiting = λ b h i. sample-other-flag t (passing-sized t ok) n (due n) there b (λ z. omega arith) ∙ made .waiting b (omega arith) i;
           stepped = λ k h i. absurd (omega arith);
-          fresh = λ k h i. sample-slot t ok n (due n) there inside unsampled k (omega arith) .mark ∙ made .fresh k h i;
+          fresh = λ k h i. sample-slot t (passing-sized t ok) n (due n) there k (omega arith) (passing-stretched t ok k (omega arith)) .mark ∙ made .fresh k h i;
         })
       where
         given : (b : ℕ) → b < boardsIn s → Dec (b ≡ n) → b < suc n
-            → (sampledIn (sampled t ok n (due n) there inside unsampled) b ≡ 1) × (sampleIn (sampled t ok n (due n) there inside unsampled) b ≡ due b)
+            → (sampledIn (sampleGiven t n (due n)) b ≡ 1) × (sampleIn (sampleGiven t n (due n)) b ≡ due b)
         given b i (yes z) h =
-            subst (λ (c : ℕ). (sampledIn (sampled t ok n (due n) there inside unsampled) c ≡ 1) × (sampleIn (sampled t ok n (due n) there inside unsampled) c ≡ due c)) (sym z)
-            (sample-flag t ok n (due n) there inside unsampled, sample-bits t ok n (due n) there inside unsampled)
+            subst (λ (c : ℕ). (sampledIn (sampleGiven t n (due n)) c ≡ 1) × (sampleIn (sampleGiven t n (due n)) c ≡ due c)) (sym z)
+            (sample-flag t (passing-sized t ok) n (due n) there, sample-bits t (passing-sized t ok) n (due n) there (bits-few t ok n (due n) there inside))
         given b i (no z) h =
             let g = made .given b (under z h) i in
-            (sample-other-flag t ok n (due n) there inside unsampled b z ∙ g .0, sample-other t ok n (due n) there inside unsampled b z ∙ g .1)
+            (sample-other-flag t (passing-sized t ok) n (due n) there b z ∙ g .0, sample-other t (passing-sized t ok) n (due n) there b z ∙ g .1)
           where
             under : (b ≡ n → ⊥) → b < suc n → b < n
             under z h = omega arith
 
-  pub progress-none : Progress 0 (slotsIn s) s
+  pub progress-none : TickProgress 0 (slotsIn s) s
   progress-none = record { given = λ b h i. absurd (omega arith); waiting = λ b h i. x .unsampled b i; stepped = λ k h i. absurd (omega arith); fresh = λ k h i. x .unstepped k i }
 
   all-sampled : (n : ℕ) → n ≤ boardsIn s → Made n (slotsIn s)
@@ -124,7 +126,7 @@ module _ (p : ℕ) (masks : List ℕ) (rule : Formula) (us : List Event) (s : Li
       }
 
   -- ---- the next slot
-  module _ (t : List ℕ) (c : Calls s t) (k : ℕ) (l : k < slotsIn s) (made : Progress (boardsIn s) (suc k) t) where
+  module _ (t : List ℕ) (c : Calls s t) (k : ℕ) (l : k < slotsIn s) (made : TickProgress (boardsIn s) (suc k) t) where
     abbrev passes : stateOk t ≡ true
     passes = in-tick t c .passes
 
@@ -139,12 +141,12 @@ module _ (p : ℕ) (masks : List ℕ) (rule : Formula) (us : List Event) (s : Li
         step-accepted t passes (calls-unfinished p masks rule us s x t c unfinished) k slot-there (made .fresh k (omega arith) l)
         (made .given (boardOfIn t k) (omega arith) (omega arith) .0) (λ m h i. made .stepped m (omega arith) (omega arith))
 
-    pub step-more : Progress (boardsIn s) k (stepLeaves t k)
+    pub step-more : TickProgress (boardsIn s) k (stepLeaves t k)
     step-more =
-        let t′ = after t passes k slot-there in
+        let t′ = after t k in
         let q = slots-kept s (x .passes) (started-laid p masks rule us s x) t (in-tick t c) in
         let n = boards-kept s (x .passes) (started-laid p masks rule us s x) t (in-tick t c) in
-        subst (λ (u : List ℕ). Progress (boardsIn s) k u) (sym (accepted-leaves _ t′ t step-says))
+        subst (λ (u : List ℕ). TickProgress (boardsIn s) k u) (sym (accepted-leaves _ t′ t step-says))
         (record {
           given = λ b h i.
               (let g = made .given b h i in
@@ -168,7 +170,7 @@ module _ (p : ℕ) (masks : List ℕ) (rule : Formula) (us : List Event) (s : Li
       })
 
   -- ---- all boards have sampled and all slots are stepped
-  module _ (t : List ℕ) (c : Calls s t) (made : Progress (boardsIn s) 0 t) where
+  module _ (t : List ℕ) (c : Calls s t) (made : TickProgress (boardsIn s) 0 t) where
     same-boards : boardsIn t ≡ boardsIn s
     same-boards = boards-kept s (x .passes) (started-laid p masks rule us s x) t (in-tick t c)
 
@@ -187,10 +189,10 @@ module _ (p : ℕ) (masks : List ℕ) (rule : Formula) (us : List Event) (s : Li
         let q = same-slots in
         done-of t (in-tick t c .passes) still-unfinished (λ b h. made .given b (omega arith) (omega arith) .0) (λ k h. made .stepped k (omega arith) (omega arith))
 
-    pub progress-closing : Closing t
+    pub progress-closing : StateClosing t
     progress-closing = close-left t (in-tick t c .passes) still-unfinished progress-done
 
-  pub tick-reached : Reached s e
+  pub tick-reached : StateReached s e
   tick-reached =
       let m = all-stepped (slotsIn s) (omega arith) (all-sampled (boardsIn s) (omega arith)) in
       record {

@@ -8,6 +8,7 @@ use mathlib.Core.Option.{Option}
 use Prim.Native.Nat.{ℕ, _+_, _<_, _≤_}
 use native.Mathlib.Omega.{arith}
 use lib.ListN.{getD}
+use Rattle.limits.specs.Limits.{propositionsMost}
 use Rattle.lists.proofs.Tests.{both-true}
 use Rattle.kinds.specs.declared.Leaf.the-variants.{Const, Prop, Hold}
 use Rattle.kinds.specs.declared.Unary.the-variants.{Not, Next, Ever}
@@ -46,7 +47,7 @@ module _ (choose : Formula → Option ℕ) where
   clean-tidy (two (Joined j) f g) x = both-true _ _ (clean-tidy f (x .0)) (clean-tidy g (x .1))
   clean-tidy (two Until f g) x = both-true _ _ (free-only choose (λ m. false) f (x .0)) (free-only choose (λ m. false) g (x .1))
 
-module _ (p : ℕ) (masks : List ℕ) (few : p ≤ 64) (rule : masksRule p masks ≡ true) where
+module _ (p : ℕ) (masks : List ℕ) (few : p ≤ propositionsMost) (rule : masksRule p masks ≡ true) where
   pub clean-within : (end : ℕ) (f : Formula) → Clean (chosen masks) f → HoldsIn (λ m. m < end) f → Within p end f
   clean-within end (leaf (Const v)) x h = tt
   clean-within end (leaf (Prop i)) x h = masks-below p masks few rule i (x .0) (masks-has masks i (x .0) (x .1))

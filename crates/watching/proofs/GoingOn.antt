@@ -5,7 +5,7 @@ use mathlib.Core.Path.{_≡_, refl, ap, _∙_}
 use mathlib.Core.Bool.{Bool, true, false, not}
 use mathlib.Core.List.{List, [], _∷_}
 use mathlib.Core.Logic.{_⊎_, inl, inr, ⊎-elim}
-use Prim.Native.Nat.{ℕ, zero, suc, _+_, _-_, _^_, _<_, _≤_}
+use Prim.Native.Nat.{ℕ, zero, suc, _+_, _^_, _<_, _≤_}
 use native.Mathlib.Nat.{eq-or-lt-of-le}
 use native.Mathlib.Decide.{ℕ-discrete}
 use native.Mathlib.Omega.{arith}
@@ -17,17 +17,17 @@ use Rattle.watching.proofs.Slots.{zero-flag}
 use Rattle.lists.proofs.Tests.{both-true}
 use Rattle.answers.specs.Said.{accepted, check, inOrder}
 use Rattle.answers.proofs.Answers.{order-ok, order-refused, order-done}
-use Rattle.limits.specs.Limits.{nodesMost}
 use Rattle.network.proofs.Holding.{holds-map}
-use Rattle.state.specs.Fields.{stateLength, boardsIn, slotsIn, ticksIn, maskIn, sampledIn, boardOfIn, steppedIn}
-use Rattle.state.specs.Clauses.{slotsMost, inMask, stateOk}
+use Rattle.state.specs.Form.{formIn, stateLength, slotsMost, nodesMost}
+use Rattle.state.specs.Fields.{boardsIn, slotsIn, ticksIn, maskIn, sampledIn, boardOfIn, steppedIn}
+use Rattle.state.specs.Clauses.{inMask, stateOk}
 use Rattle.state.specs.Bytes.{nodesOf, formulaAt}
 use Rattle.state.specs.Calls.{finishedIn, sampleSays, readyIn, stepSays, doneIn, nextIn, closeSays}
 use Rattle.checked.proofs.Checked.{each-of}
 use Rattle.checked.proofs.Passing.{passing}
 use Rattle.checked.proofs.Held.{slot-holds}
 use Rattle.checked.proofs.Tidy.{tidy-only}
-use Rattle.watching.specs.Claims.{Closing, accepts, refuses, GoesOn, samples, steps, closes}
+use Rattle.watching.specs.Claims.{StateClosing, accepts, refuses, StateGoesOn, samples, steps, closes}
 
 -- the last of n flags that is not 1
 record Last (flag : ℕ → ℕ) (n : ℕ) : Type 0 where
@@ -71,23 +71,23 @@ module _ (t : List ℕ) (ok : stateOk t ≡ true) (unfinished : finishedIn t ≡
 
   -- ---- all boards have sampled and all slots are stepped: the close is left
   module _ (done : doneIn t ≡ true) where
-    to-ticks : closeSays t stateLength ≡ inOrder (check 15 (ltb (ticksIn t + 1) (2 ^ 32)) ∷ check 7 (leb (length (nextIn t)) slotsMost) ∷ check 8 (leb (nodesOf (nextIn t)) nodesMost) ∷ []) (accepted [])
+    to-ticks : closeSays t (stateLength (formIn t)) ≡ inOrder (check 15 (ltb (ticksIn t + 1) (2 ^ 32)) ∷ check 7 (leb (length (nextIn t)) (slotsMost (formIn t))) ∷ check 8 (leb (nodesOf (nextIn t)) (nodesMost (formIn t))) ∷ []) (accepted [])
     unfolding closeSays
-    to-ticks = order-ok 1 _ _ _ refl ∙ order-ok 9 _ _ _ ok ∙ order-ok 10 _ _ _ (ap not unfinished) ∙ order-ok 14 _ _ _ done
+    to-ticks = order-ok 1 _ _ _ (eq-eqb (stateLength (formIn t)) _ refl) ∙ order-ok 9 _ _ _ ok ∙ order-ok 10 _ _ _ (ap not unfinished) ∙ order-ok 14 _ _ _ done
 
-    pub close-left : Closing t
+    pub close-left : StateClosing t
     close-left = ticks (ltb (ticksIn t + 1) (2 ^ 32)) refl
       where
-        nodes : ltb (ticksIn t + 1) (2 ^ 32) ≡ true → leb (length (nextIn t)) slotsMost ≡ true → (b : Bool) → leb (nodesOf (nextIn t)) nodesMost ≡ b → Closing t
+        nodes : ltb (ticksIn t + 1) (2 ^ 32) ≡ true → leb (length (nextIn t)) (slotsMost (formIn t)) ≡ true → (b : Bool) → leb (nodesOf (nextIn t)) (nodesMost (formIn t)) ≡ b → StateClosing t
         nodes d e true f = accepts (to-ticks ∙ order-ok 15 _ _ _ d ∙ order-ok 7 _ _ _ e ∙ order-ok 8 _ _ _ f ∙ order-done _)
         nodes d e false f = refuses 8 (inr (inl refl)) (to-ticks ∙ order-ok 15 _ _ _ d ∙ order-ok 7 _ _ _ e ∙ order-refused 8 _ _ _ f)
 
-        slots : ltb (ticksIn t + 1) (2 ^ 32) ≡ true → (b : Bool) → leb (length (nextIn t)) slotsMost ≡ b → Closing t
-        slots d true e = nodes d e (leb (nodesOf (nextIn t)) nodesMost) refl
+        slots : ltb (ticksIn t + 1) (2 ^ 32) ≡ true → (b : Bool) → leb (length (nextIn t)) (slotsMost (formIn t)) ≡ b → StateClosing t
+        slots d true e = nodes d e (leb (nodesOf (nextIn t)) (nodesMost (formIn t))) refl
         slots d false e = refuses 7 (inl refl) (to-ticks ∙ order-ok 15 _ _ _ d ∙ order-refused 7 _ _ _ e)
 
-        ticks : (b : Bool) → ltb (ticksIn t + 1) (2 ^ 32) ≡ b → Closing t
-        ticks true d = slots d (leb (length (nextIn t)) slotsMost) refl
+        ticks : (b : Bool) → ltb (ticksIn t + 1) (2 ^ 32) ≡ b → StateClosing t
+        ticks true d = slots d (leb (length (nextIn t)) (slotsMost (formIn t))) refl
         ticks false d = refuses 15 (inr (inr refl)) (to-ticks ∙ order-refused 15 _ _ _ d)
 
   pub done-of : ((b : ℕ) → b < boardsIn t → sampledIn t b ≡ 1) → ((k : ℕ) → k < slotsIn t → steppedIn t k ≡ 1) → doneIn t ≡ true
@@ -95,17 +95,17 @@ module _ (t : List ℕ) (ok : stateOk t ≡ true) (unfinished : finishedIn t ≡
   done-of sampled stepped =
       both-true _ _ (each-of (λ i. eqb (sampledIn t i) 1) (boardsIn t) (λ b h. eq-eqb _ _ (sampled b h))) (each-of (λ k. eqb (steppedIn t k) 1) (slotsIn t) (λ k h. eq-eqb _ _ (stepped k h)))
 
-  pub goes-on : GoesOn t
+  pub goes-on : StateGoesOn t
   goes-on = boards (last-unset (sampledIn t) (boardsIn t))
     where
-      slots : ((b : ℕ) → b < boardsIn t → sampledIn t b ≡ 1) → ((k : ℕ) → k < slotsIn t → steppedIn t k ≡ 1) ⊎ Last (steppedIn t) (slotsIn t) → GoesOn t
+      slots : ((b : ℕ) → b < boardsIn t → sampledIn t b ≡ 1) → ((k : ℕ) → k < slotsIn t → steppedIn t k ≡ 1) ⊎ Last (steppedIn t) (slotsIn t) → StateGoesOn t
       slots sampled (inl stepped) = let done = done-of sampled stepped in closes done (close-left done)
       slots sampled (inr r) =
           let k = r .place in
           let x = passing t ok .slots k (r .below) in
           steps k (step-accepted k (r .below) (zero-flag (steppedIn t k) (x .flag) (r .unset)) (sampled (boardOfIn t k) (x .board-there)) (r .above))
 
-      boards : ((b : ℕ) → b < boardsIn t → sampledIn t b ≡ 1) ⊎ Last (sampledIn t) (boardsIn t) → GoesOn t
+      boards : ((b : ℕ) → b < boardsIn t → sampledIn t b ≡ 1) ⊎ Last (sampledIn t) (boardsIn t) → StateGoesOn t
       boards (inl sampled) = slots sampled (last-unset (steppedIn t) (slotsIn t))
       boards (inr r) =
           let b = r .place in

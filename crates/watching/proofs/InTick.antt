@@ -1,5 +1,5 @@
--- What every state within a tick is, from a state s whose slots are as laying leaves them: it passes its check, has the masks and the
--- ticks of s, and its network is that of s after the steps that are marked, under the samples that its boards hold (`InTick`).
+-- What every state within a tick is, from a state s whose slots are as laying leaves them: it passes its check, has the form, the masks
+-- and the ticks of s, and its network is that of s after the steps that are marked, under the samples that its boards hold (`InTick`).
 -- `calls-in-tick`: so is every state that calls lead to, accepted or refused. `call-elim`: a call has passed its checks, or it leaves the
 -- state as it was.
 -- Assumes nothing.
@@ -23,18 +23,21 @@ use Rattle.network.proofs.Holding.{holds-map, only-holds}
 use Rattle.network.proofs.Relaying.{AllOk}
 use Rattle.network.proofs.Settling.{slot-ok, Partly, partly-start, partly-steps}
 use Rattle.network.proofs.Choosing.{masks-choice}
+use Rattle.state.specs.Form.{formIn}
 use Rattle.state.specs.Fields.{boardsIn, slotsIn, nodesIn, ticksIn, maskIn, sampleIn, sampledIn, masksIn, boardOfIn, steppedIn}
 use Rattle.state.specs.Clauses.{inMask, stateOk}
 use Rattle.state.specs.Bytes.{formulaAt, networkOf}
+use Rattle.state.specs.Writes.{sampleGiven}
 use Rattle.state.specs.Calls.{readyIn, sampleSays, stepSays}
-use Rattle.state.proofs.Rows.{masks-length, network-length, network-at}
-use Rattle.checked.proofs.Passing.{passing}
+use Rattle.state.proofs.Listed.{masks-length, network-length, network-at}
+use Rattle.state.proofs.Framed.{form-same, masks-same}
+use Rattle.state.proofs.Sampled.{sample-framed, sample-other}
+use Rattle.checked.proofs.Passing.{passing, passing-sized}
 use Rattle.checked.proofs.Held.{slot-holds}
 use Rattle.checked.proofs.Tidy.{tidy-only}
 use Rattle.watching.specs.Watch.{Calls, none, sample, step}
-use Rattle.watching.proofs.Framed.{nodes-same, ticks-same, masks-same}
 use Rattle.watching.proofs.Slots.{holds-both}
-use Rattle.watching.proofs.Sampling.{sampled, sample-framed, sample-other, sample-passes}
+use Rattle.watching.proofs.Sampling.{sample-passes}
 use Rattle.watching.proofs.Stepping.{after, step-framed, step-sample}
 use Rattle.watching.proofs.StepPasses.{step-passes}
 use Rattle.watching.proofs.Resampled.{steps-more, steps-agreed}
@@ -58,6 +61,7 @@ module _ (s : List ℕ) (begins : stateOk s ≡ true) (laid : AllOk (chosen (mas
 
   pub record InTick (t : List ℕ) : Type 0 where
     pub passes : stateOk t ≡ true
+    pub form-kept : formIn t ≡ formIn s
     pub masks-kept : masksIn t ≡ masksIn s
     pub nodes-kept : nodesIn t ≡ nodesIn s
     pub ticks-kept : ticksIn t ≡ ticksIn s
@@ -93,28 +97,29 @@ module _ (s : List ℕ) (begins : stateOk s ≡ true) (laid : AllOk (chosen (mas
 
     -- ---- a sample
     module _ (b bits : ℕ) (there : b < boardsIn t) (inside : inMask bits (maskIn t b) ≡ true) (fresh : sampledIn t b ≡ 0) where
-      sample-in-tick : InTick (sampled t (in-tick .passes) b bits there inside fresh)
+      sample-in-tick : InTick (sampleGiven t b bits)
       sample-in-tick =
           let ok = in-tick .passes in
-          let t′ = sampled t ok b bits there inside fresh in
-          let f = sample-framed t ok b bits there inside fresh in
+          let t′ = sampleGiven t b bits in
+          let f = sample-framed t (passing-sized t ok) b bits there in
           let p = steps-by (sampleIn t) (sampleIn t′) (networkOf t) (marksOf t) (in-tick .steps) agree in
           record {
             passes = sample-passes t ok b bits there inside fresh;
-            masks-kept = masks-same t t′ f ∙ in-tick .masks-kept;
-            nodes-kept = nodes-same t t′ f ∙ in-tick .nodes-kept;
-            ticks-kept = ticks-same t t′ f ∙ in-tick .ticks-kept;
-            steps = rw (sample-network t ok b bits there inside fresh, sample-marks t ok b bits there inside fresh) p;
+            form-kept = form-same f ∙ in-tick .form-kept;
+            masks-kept = masks-same f ∙ in-tick .masks-kept;
+            nodes-kept = f .nodes ∙ in-tick .nodes-kept;
+            ticks-kept = f .ticks ∙ in-tick .ticks-kept;
+            steps = rw (sample-network t ok b bits there, sample-marks t ok b bits there) p;
           }
         where
           agree : (k : ℕ) → k < length (networkOf s) → marked (marksOf t) k ≡ true
-              → sampleIn t (slotAt (networkOf s) k .board) ≡ sampleIn (sampled t (in-tick .passes) b bits there inside fresh) (slotAt (networkOf s) k .board)
+              → sampleIn t (slotAt (networkOf s) k .board) ≡ sampleIn (sampleGiven t b bits) (slotAt (networkOf s) k .board)
           agree k l m =
               let h : k < slotsIn t = omega (arith, network-length s, slots-kept) in
               let e : steppedIn t k ≡ 1 = eqb-true _ _ (sym (mark-is t k h) ∙ m) in
               let c = board-kept k h e in
               let q = passing t (in-tick .passes) .slots k h .sampled e in
-              sym (sample-other t (in-tick .passes) b bits there inside fresh (slotAt (networkOf s) k .board) (λ d. (let z = ap (sampledIn t) (sym c ∙ d) in omega (arith, fresh))))
+              sym (sample-other t (passing-sized t (in-tick .passes)) b bits there (slotAt (networkOf s) k .board) (λ d. (let z = ap (sampledIn t) (sym c ∙ d) in omega (arith, fresh))))
 
     -- ---- a step
     module _ (k : ℕ) (l : k < slotsIn t) (fresh : steppedIn t k ≡ 0) where
@@ -144,17 +149,18 @@ module _ (s : List ℕ) (begins : stateOk s ≡ true) (laid : AllOk (chosen (mas
         steps-after : StepsBy (sampleIn t) (stepped (sampleIn t) (networkOf t) k) (set (marksOf t) k true)
         steps-after = steps-more (sampleIn t) (in-tick .steps) k (omega (arith, network-length t)) unmarked ready-now
 
-        step-in-tick : InTick (after t (in-tick .passes) k l)
+        step-in-tick : InTick (after t k)
         step-in-tick =
             let ok = in-tick .passes in
-            let t′ = after t ok k l in
+            let t′ = after t k in
             let f = step-framed t ok k l in
             let p : StepsBy (sampleIn t) (networkOf t′) (marksOf t′) = rw (step-network t ok k l fresh ready plain, step-marks t ok k l fresh ready plain) steps-after in
             record {
               passes = step-passes t ok k l fresh ready plain;
-              masks-kept = masks-same t t′ f ∙ in-tick .masks-kept;
-              nodes-kept = nodes-same t t′ f ∙ in-tick .nodes-kept;
-              ticks-kept = ticks-same t t′ f ∙ in-tick .ticks-kept;
+              form-kept = form-same f ∙ in-tick .form-kept;
+              masks-kept = masks-same f ∙ in-tick .masks-kept;
+              nodes-kept = f .nodes ∙ in-tick .nodes-kept;
+              ticks-kept = f .ticks ∙ in-tick .ticks-kept;
               steps = steps-by (sampleIn t) (sampleIn t′) (networkOf t′) (marksOf t′) p (λ j h m. sym (step-sample t ok k l (slotAt (networkOf s) j .board) (board-there j h)));
             }
 

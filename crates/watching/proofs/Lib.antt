@@ -1,13 +1,10 @@
 -- What the calls of a watch keep, and the claims about a watch.
 pub mod Bits
-pub mod Puts
-pub mod Framed
 pub mod Parts
 pub mod Slots
 pub mod Once
 pub mod Sampling
 pub mod Formulas
-pub mod Stretches
 pub mod Stepping
 pub mod Constants
 pub mod StepPasses

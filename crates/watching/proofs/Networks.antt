@@ -19,18 +19,20 @@ use Rattle.network.specs.Tick.{marked, verdictAt, stepped}
 use Rattle.network.proofs.Owned.{Plain}
 use Rattle.network.proofs.Holding.{holds-map}
 use Rattle.network.proofs.Settling.{filled-same}
-use Rattle.state.specs.Fields.{boardsIn, slotsIn, maskIn, sampleIn, sampledIn, masksIn, boardOfIn, steppedIn}
-use Rattle.state.specs.Clauses.{inMask, stateOk}
+use Rattle.state.specs.Fields.{boardsIn, slotsIn, sampleIn, masksIn, boardOfIn, steppedIn}
+use Rattle.state.specs.Clauses.{stateOk}
 use Rattle.state.specs.Bytes.{formulaAt, networkOf}
+use Rattle.state.specs.Writes.{sampleGiven}
 use Rattle.state.specs.Calls.{readyIn, steppedTo}
-use Rattle.state.proofs.Rows.{network-length, network-at}
-use Rattle.checked.proofs.Passing.{passing}
+use Rattle.state.proofs.Listed.{network-length, network-at}
+use Rattle.state.proofs.Framed.{Framed}
+use Rattle.state.proofs.SameSlots.{SameSlot}
+use Rattle.state.proofs.Sampled.{sample-framed, sample-slot}
+use Rattle.checked.proofs.Passing.{passing, passing-sized, passing-stretched}
 use Rattle.checked.proofs.Held.{slot-holds}
 use Rattle.lists.specs.Listed.{listed}
 use Rattle.lists.proofs.Listed.{listed-length, listed-at}
-use Rattle.watching.proofs.Framed.{slots-same, board-of-same}
 use Rattle.watching.proofs.Slots.{same-formula-at}
-use Rattle.watching.proofs.Sampling.{sampled, sample-framed, sample-slot}
 use Rattle.watching.proofs.Stepping.{after, step-framed, step-slot, step-mark}
 use Rattle.watching.proofs.StepPasses.{step-reads}
 
@@ -61,33 +63,35 @@ marks-are t marks n h =
     ext-getD false (marksOf t) marks (m ∙ n) (λ k l. (let i : k < slotsIn t = omega arith in mark-is t k i ∙ sym (h k i)))
 
 -- ---- after a sample
-module _ (s : List ℕ) (ok : stateOk s ≡ true) (b bits : ℕ) (there : b < boardsIn s) (inside : inMask bits (maskIn s b) ≡ true) (fresh : sampledIn s b ≡ 0) where
+module _ (s : List ℕ) (ok : stateOk s ≡ true) (b bits : ℕ) (there : b < boardsIn s) where
   abbrev given : List ℕ
-  given = sampled s ok b bits there inside fresh
+  given = sampleGiven s b bits
+
+  frame : Framed s given
+  frame = sample-framed s (passing-sized s ok) b bits there
+
+  same : (k : ℕ) → k < slotsIn s → SameSlot s given k
+  same k l = sample-slot s (passing-sized s ok) b bits there k l (passing-stretched s ok k l)
 
   pub sample-network : networkOf given ≡ networkOf s
   sample-network =
-      let f = sample-framed s ok b bits there inside fresh in
-      let n = slots-same s given f in
+      let n = frame .slots in
       network-is given (networkOf s) (n ∙ sym (network-length s))
       (λ k l.
       (let i : k < slotsIn s = omega arith in
-      network-at s k i
-      ∙ ap₂ (λ (c : ℕ) (g : Formula). record { board = c; formula = g }) (sym (board-of-same s given f k i)) (sym (same-formula-at s given k (sample-slot s ok b bits there inside fresh k i)))))
+      network-at s k i ∙ ap₂ (λ (c : ℕ) (g : Formula). record { board = c; formula = g }) (sym (frame .board k i)) (sym (same-formula-at (same k i)))))
 
   pub sample-marks : marksOf given ≡ marksOf s
   sample-marks =
-      let n = slots-same s given (sample-framed s ok b bits there inside fresh) in
+      let n = frame .slots in
       marks-are given (marksOf s) (n ∙ sym (marks-length s))
-      (λ k l.
-      (let i : k < slotsIn s = omega arith in
-      mark-is s k i ∙ ap (λ (m : ℕ). eqb m 1) (sym (sample-slot s ok b bits there inside fresh k i .mark))))
+      (λ k l. (let i : k < slotsIn s = omega arith in mark-is s k i ∙ ap (λ (m : ℕ). eqb m 1) (sym (same k i .mark))))
 
 -- ---- after a step
 module _ (s : List ℕ) (ok : stateOk s ≡ true) (k : ℕ) (l : k < slotsIn s) (fresh : steppedIn s k ≡ 0) (ready : readyIn s k ≡ true)
     (plain : Plain (chosen (masksIn s)) (boardOfIn s k) (formulaAt s k)) where
   abbrev left : List ℕ
-  left = after s ok k l
+  left = after s k
 
   -- the slot as it becomes
   abbrev new : Slot
@@ -106,20 +110,20 @@ module _ (s : List ℕ) (ok : stateOk s ≡ true) (k : ℕ) (l : k < slotsIn s) 
   pub step-network : networkOf left ≡ stepped (sampleIn s) (networkOf s) k
   step-network =
       let f = step-framed s ok k l in
-      let n = slots-same s left f in
+      let n = f .slots in
       network-is left (set (networkOf s) k new) (n ∙ sym (length-set (networkOf s) k new ∙ network-length s)) (λ j i. slot j (omega arith) (ℕ-discrete j k)) ∙ sym new-is
     where
       slot : (j : ℕ) → j < slotsIn s → Dec (j ≡ k) → slotAt (set (networkOf s) k new) j ≡ record { board = boardOfIn left j; formula = formulaAt left j }
       slot j h (yes e) = subst (λ (i : ℕ). slotAt (set (networkOf s) k new) i ≡ record { board = boardOfIn left i; formula = formulaAt left i }) (sym e)
           (getD-set-same (networkOf s) k new noSlot (omega (arith, network-length s))
-          ∙ ap₂ (λ (c : ℕ) (g : Formula). record { board = c; formula = g }) (sym (board-of-same s left (step-framed s ok k l) k l)) (sym (ap someFormula (step-reads s ok k l fresh ready plain))))
+          ∙ ap₂ (λ (c : ℕ) (g : Formula). record { board = c; formula = g }) (sym (step-framed s ok k l .board k l)) (sym (ap someFormula (step-reads s ok k l fresh ready plain))))
       slot j h (no e) =
           getD-set-other (networkOf s) k j new noSlot e ∙ network-at s j h
-          ∙ ap₂ (λ (c : ℕ) (g : Formula). record { board = c; formula = g }) (sym (board-of-same s left (step-framed s ok k l) j h)) (sym (same-formula-at s left j (step-slot s ok k l j h e)))
+          ∙ ap₂ (λ (c : ℕ) (g : Formula). record { board = c; formula = g }) (sym (step-framed s ok k l .board j h)) (sym (same-formula-at (step-slot s ok k l j h e)))
 
   pub step-marks : marksOf left ≡ set (marksOf s) k true
   step-marks =
-      let n = slots-same s left (step-framed s ok k l) in
+      let n = step-framed s ok k l .slots in
       marks-are left (set (marksOf s) k true) (n ∙ sym (length-set (marksOf s) k true ∙ marks-length s)) (λ j i. mark j (omega arith) (ℕ-discrete j k))
     where
       mark : (j : ℕ) → j < slotsIn s → Dec (j ≡ k) → marked (set (marksOf s) k true) j ≡ eqb (steppedIn left j) 1

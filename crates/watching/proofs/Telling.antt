@@ -20,16 +20,17 @@ use Rattle.answers.proofs.Answers.{left-refused, order-ok, order-refused}
 use Rattle.ltl.specs.Formula.{Formula, leaf, one, two, constant, encode}
 use Rattle.ltl.specs.Meaning.{Event}
 use Rattle.ltl.specs.Progression.{verdictOf}
-use Rattle.checking.proofs.Each.{each-at}
 use Rattle.network.specs.Layout.{Slot}
-use Rattle.state.specs.Fields.{stateLength, slotsIn, steppedIn}
+use Rattle.state.specs.Form.{formIn, stateLength}
+use Rattle.state.specs.Fields.{slotsIn, steppedIn}
 use Rattle.state.specs.Clauses.{isConstantIn, stateOk}
 use Rattle.state.specs.Bytes.{formulaAt}
 use Rattle.state.specs.Calls.{finishedIn, verdictIn, doneIn, sampleSays, sampleLeaves, stepSays, stepLeaves, closeSays}
-use Rattle.state.proofs.Rows.{network-at}
+use Rattle.state.proofs.Listed.{network-at}
+use Rattle.records.proofs.Each.{each-at}
 use Rattle.checked.proofs.Passing.{SlotPassing, passing}
 use Rattle.watching.specs.Watch.{Calls, none, sample, step}
-use Rattle.watching.specs.Claims.{known, Over}
+use Rattle.watching.specs.Claims.{known, StateOver}
 use Rattle.watching.proofs.Constants.{constant-is}
 use Rattle.watching.proofs.InTick.{slots-kept, slot-kept}
 use Rattle.watching.proofs.Started.{Started, started-laid}
@@ -76,16 +77,16 @@ module _ (s : List ℕ) (ok : stateOk s ≡ true) (finished : finishedIn s ≡ t
   unfolding stepSays
   step-refused k = order-ok 9 _ _ _ ok ∙ order-refused 10 _ _ _ (ap not finished)
 
-  close-refused : closeSays s stateLength ≡ refused 10
+  close-refused : closeSays s (stateLength (formIn s)) ≡ refused 10
   unfolding closeSays
-  close-refused = order-ok 1 _ _ _ refl ∙ order-ok 9 _ _ _ ok ∙ order-refused 10 _ _ _ (ap not finished)
+  close-refused = order-ok 1 _ _ _ (eq-eqb (stateLength (formIn s)) _ refl) ∙ order-ok 9 _ _ _ ok ∙ order-refused 10 _ _ _ (ap not finished)
 
   calls-stay : {t : List ℕ} → Calls s t → t ≡ s
   calls-stay none = refl
   calls-stay (sample c board bits) = ap (λ (u : List ℕ). sampleLeaves u board bits) (calls-stay c) ∙ refused-leaves _ _ s (sample-refused board bits)
   calls-stay (step c k) = ap (λ (u : List ℕ). stepLeaves u k) (calls-stay c) ∙ refused-leaves _ _ s (step-refused k)
 
-  pub finished-over : Over s
+  pub finished-over : StateOver s
   finished-over = record { no-sample = sample-refused; no-step = step-refused; no-close = close-refused; stays = λ t c. calls-stay c }
 
 -- ---- a watch's state

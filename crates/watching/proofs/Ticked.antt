@@ -2,7 +2,7 @@
 -- and holds the network of the last state laid out again (`tick-network`).
 -- So every state of a watch is one (`watch-started`), and every state that calls lead to from there is within a tick (`started-in-tick`).
 -- `close-passed` and `close-leaves` are an accepted close. Assumes nothing.
-use mathlib.Core.Path.{_≡_, refl, sym, ap, _∙_, subst}
+use mathlib.Core.Path.{_≡_, refl, sym, ap, ap₂, _∙_, subst}
 use mathlib.Core.Bool.{true, false}
 use mathlib.Core.List.{List, [], _∷_, _++_}
 use Prim.Native.Nat.{ℕ, _+_, _^_, _<_, _≤_}
@@ -13,44 +13,45 @@ use borrow.Author.Tests.{leb-true, ltb-true, ne-eqb}
 use Rattle.lists.proofs.Tests.{both-1}
 use Rattle.answers.specs.Said.{Said, accepted, left}
 use Rattle.answers.proofs.Answers.{left-accepted, order-passed}
-use Rattle.limits.specs.Limits.{nodesMost}
 use Rattle.ltl.specs.Formula.{Formula}
 use Rattle.ltl.specs.Meaning.{Event}
-use Rattle.checking.proofs.Each.{each-at}
 use Rattle.network.specs.Scores.{chosen, sampleOf}
 use Rattle.network.specs.Layout.{Slot, slotAt, close}
 use Rattle.network.specs.Tick.{rest, AllMarked, Ticks, begun, ticked}
 use Rattle.network.proofs.Relaying.{AllOk}
 use Rattle.network.proofs.Choosing.{masks-choice}
+use Rattle.state.specs.declared.Form.{Form}
+use Rattle.state.specs.Form.{formIn, slotsMost, nodesMost}
 use Rattle.state.specs.Fields.{slotsIn, ticksIn, masksIn, sampleIn, steppedIn}
-use Rattle.state.specs.Clauses.{slotsMost, stateOk}
+use Rattle.state.specs.Clauses.{stateOk}
 use Rattle.state.specs.Bytes.{nodesOf, stateOf, networkOf}
 use Rattle.state.specs.Calls.{doneIn, nextIn, closeSays, closeLeaves}
-use Rattle.state.proofs.Rows.{network-length}
+use Rattle.state.proofs.Listed.{network-length}
+use Rattle.records.proofs.Each.{each-at}
 use Rattle.checked.proofs.Loaded.{loaded-passes}
 use Rattle.checked.proofs.Closed.{closed-passes}
-use Rattle.watching.specs.Watch.{Calls, Tick, Watch, begun, ticked}
+use Rattle.watching.specs.Watch.{Calls, Tick, StateWatch, begun, ticked}
 use Rattle.watching.proofs.Networks.{marksOf, mark-is, marks-are}
 use Rattle.watching.proofs.InTick.{InTick, steps-by, board-there, calls-in-tick}
 use Rattle.watching.proofs.Single.{load-single, close-single}
 use Rattle.watching.proofs.Started.{Started, started-laid, written-network, written-started}
 
 -- ---- an accepted close
-pub record Closes (t : List ℕ) : Type 0 where
+pub record ClosePassed (t : List ℕ) : Type 0 where
   pub done : doneIn t ≡ true
   pub few-ticks : ticksIn t + 1 < 2 ^ 32
-  pub few-slots : length (nextIn t) ≤ slotsMost
-  pub few-nodes : nodesOf (nextIn t) ≤ nodesMost
+  pub few-slots : length (nextIn t) ≤ slotsMost (formIn t)
+  pub few-nodes : nodesOf (nextIn t) ≤ nodesMost (formIn t)
 
-pub close-passed : (t : List ℕ) (room : ℕ) → closeSays t room ≡ accepted [] → Closes t
+pub close-passed : (t : List ℕ) (room : ℕ) → closeSays t room ≡ accepted [] → ClosePassed t
 unfolding closeSays
 close-passed t room e =
     let x = order-passed _ (accepted []) (omega arith, (omega arith, (omega arith, (omega arith, (omega arith, (omega arith, (omega arith, tt))))))) (ap (λ (a : Said). a .number) e) in
     record { done = x .1 .1 .1 .0; few-ticks = ltb-true _ _ (x .1 .1 .1 .1 .0); few-slots = leb-true _ _ (x .1 .1 .1 .1 .1 .0); few-nodes = leb-true _ _ (x .1 .1 .1 .1 .1 .1 .0) }
 
-pub close-leaves : (t second : List ℕ) → closeSays t (length second) ≡ accepted [] → closeLeaves t second ≡ stateOf (masksIn t) (nextIn t) (ticksIn t + 1)
+pub close-leaves : (t second : List ℕ) → closeSays t (length second) ≡ accepted [] → closeLeaves t second ≡ stateOf (formIn t) (masksIn t) (nextIn t) (ticksIn t + 1)
 close-leaves t second e =
-    let next = stateOf (masksIn t) (nextIn t) (ticksIn t + 1) in
+    let next = stateOf (formIn t) (masksIn t) (nextIn t) (ticksIn t + 1) in
     ap (λ (a : Said). left a next second) e ∙ left-accepted [] next second
 
 -- all slots are stepped
@@ -65,7 +66,7 @@ start-in-tick s begins laid unstepped =
     let n = network-length s in
     let none = marks-are s (replicate (length (networkOf s)) false) (sym (length-replicate (length (networkOf s)) false ∙ n))
     (λ k l. getD-replicate (length (networkOf s)) k false false (omega arith) ∙ sym (ne-eqb (steppedIn s k) 1 (λ e. omega (arith, unstepped k l)))) in
-    record { passes = begins; masks-kept = refl; nodes-kept = refl; ticks-kept = refl; steps = rw none rest }
+    record { passes = begins; form-kept = refl; masks-kept = refl; nodes-kept = refl; ticks-kept = refl; steps = rw none rest }
 
 module _ (p : ℕ) (masks : List ℕ) (rule : Formula) where
   pub started-in-tick : (us : List Event) (s t : List ℕ) (x : Started p masks rule us s) → Calls s t → InTick s (x .passes) (started-laid p masks rule us s x) t
@@ -81,7 +82,7 @@ module _ (p : ℕ) (masks : List ℕ) (rule : Formula) where
     i : InTick s (x .passes) laid t
     i = started-in-tick us s t x (tick .calls)
 
-    closes : Closes t
+    closes : ClosePassed t
     closes = close-passed t (length (tick .second)) (tick .closes)
 
     masks-are : masksIn t ≡ masks
@@ -101,14 +102,18 @@ module _ (p : ℕ) (masks : List ℕ) (rule : Formula) where
     counted : ticksIn t + 1 ≡ length (us ++ (e ∷ []))
     counted = omega (arith, i .ticks-kept, x .ticks-are, length-append us (e ∷ []))
 
-    few-slots : length next ≤ slotsMost
-    few-slots = subst (λ (ms : List ℕ). length (close (chosen ms) (networkOf t)) ≤ slotsMost) masks-are (closes .few-slots)
+    -- the state that is closed, and so the next one, has the form of s; the masks are those of the rule
+    few-slots : length next ≤ slotsMost (formIn s)
+    few-slots = (let h = closes .few-slots in let e = ap slotsMost (i .form-kept) in let q = ap (λ (ms : List ℕ). length (close (chosen ms) (networkOf t))) masks-are in omega arith)
 
-    few-nodes : nodesOf next ≤ nodesMost
-    few-nodes = subst (λ (ms : List ℕ). nodesOf (close (chosen ms) (networkOf t)) ≤ nodesMost) masks-are (closes .few-nodes)
+    few-nodes : nodesOf next ≤ nodesMost (formIn s)
+    few-nodes = (let h = closes .few-nodes in let e = ap nodesMost (i .form-kept) in let q = ap (λ (ms : List ℕ). nodesOf (close (chosen ms) (networkOf t))) masks-are in omega arith)
 
-    closed : s′ ≡ stateOf masks next (ticksIn t + 1)
-    closed = tick .leaves ∙ close-leaves t (tick .second) (tick .closes) ∙ ap (λ (ms : List ℕ). stateOf ms (close (chosen ms) (networkOf t)) (ticksIn t + 1)) masks-are
+    next-is : stateOf (formIn t) (masksIn t) (nextIn t) (ticksIn t + 1) ≡ stateOf (formIn s) masks next (ticksIn t + 1)
+    next-is = ap₂ (λ (φ : Form) (ms : List ℕ). stateOf φ ms (close (chosen ms) (networkOf t)) (ticksIn t + 1)) (i .form-kept) masks-are
+
+    closed : s′ ≡ stateOf (formIn s) masks next (ticksIn t + 1)
+    closed = tick .leaves ∙ close-leaves t (tick .second) (tick .closes) ∙ next-is
 
     pub tick-network : networkOf s′ ≡ next
     tick-network =
@@ -116,14 +121,14 @@ module _ (p : ℕ) (masks : List ℕ) (rule : Formula) where
 
     tick-started : Started p masks rule (us ++ (e ∷ [])) s′
     tick-started =
-        let ok = subst (λ (ms : List ℕ). stateOk (stateOf ms (close (chosen ms) (networkOf t)) (ticksIn t + 1)) ≡ true) masks-are (closed-passes t (i .passes) (closes .done) (closes .few-slots) (closes .few-nodes)) in
+        let ok = ap stateOk (sym next-is) ∙ closed-passes t (i .passes) (closes .done) (closes .few-slots) (closes .few-nodes) in
         subst (λ (y : List ℕ). Started p masks rule (us ++ (e ∷ [])) y) (sym closed)
         (written-started p masks rule (x .loads) (us ++ (e ∷ [])) next (ticked (x .network) e ticks) (ticksIn t + 1) counted (closes .few-ticks) few-slots few-nodes ok
         (close-single (chosen masks) (networkOf t)))
 
-  pub watch-started : {us : List Event} {s : List ℕ} → Watch p masks rule us s → Started p masks rule us s
-  watch-started (begun l) =
+  pub watch-started : {us : List Event} {s : List ℕ} → StateWatch p masks rule us s → Started p masks rule us s
+  watch-started (begun {φ = φ} l) =
       written-started p masks rule l [] _ begun 0 refl (omega arith) (l .few-slots) (l .few-nodes)
-      (loaded-passes masks p rule (l .follow) (l .some-propositions) (l .few-propositions) (l .some-boards) (l .few-boards) (l .within) (l .few-slots) (l .few-nodes))
+      (loaded-passes φ masks p rule (l .follow) (l .some-propositions) (l .few-propositions) (l .some-boards) (l .few-boards) (l .within) (l .few-slots) (l .few-nodes))
       (load-single (chosen masks) rule)
   watch-started (ticked {us = us} {s = s} {s′ = s′} w e t) = tick-started us s s′ e (watch-started w) t

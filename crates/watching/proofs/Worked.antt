@@ -22,17 +22,20 @@ use Rattle.masks.specs.Masks.{sumTo, onesOf, sumOnes, unionWith, masksRule}
 use Rattle.network.specs.Scores.{highest, chosen, sampleOf}
 use Rattle.network.specs.Layout.{looked, laid, load, relaid, close}
 use Rattle.network.specs.Tick.{holdsOnly}
+use Rattle.state.specs.declared.Form.the-variants.{Plain}
+use Rattle.state.specs.Form.{formOf, stateLength, boardAt}
+use Rattle.state.specs.Writes.{sampleGiven, slotStepped}
 use Rattle.state.specs.Fields.{boardsIn, stretchEnd}
-use Rattle.state.specs.Clauses.{eachBelow, allZero, eachTrue, tidy, unfoldedOwn, loneOther, heldBy, among, distinct, boardOk, recordOk, gapOk, holdersIn, headerOk, masksOk, restOk, stateOk}
+use Rattle.state.specs.Clauses.{eachBelow, allZero, eachTrue, tidy, unfoldedOwn, loneOther, heldBy, among, distinct, boardOk, recordOk, gapOk, holdersIn, placesOk, headerOk, masksOk, restOk, stateOk}
 use Rattle.state.specs.Bytes.{stateOf}
 use Rattle.state.specs.Calls.{finishedIn, sampleSays, sampleLeaves, readyIn, stepSays, steppedTo, stepLeaves, doneIn, closeSays, closeLeaves, loadedState}
-use Rattle.watching.specs.Watch.{Loads, none, sample, step, Saw, Watch, begun, ticked}
+use Rattle.watching.specs.Watch.{Loads, none, sample, step, Saw, StateWatch, begun, ticked}
 use Rattle.watching.proofs.Demand.{watch-verdict, watch-true}
 
 abbrev rule : Formula
 rule = two Until (leaf (Prop 0)) (leaf (Prop 1))
 
-loads : Loads 2 (1 ∷ 2 ∷ []) rule
+loads : Loads Plain 2 (1 ∷ 2 ∷ []) rule
 unfolding pick both bit sumTo onesOf sumOnes unionWith masksRule highest chosen looked laid load
 loads =
     record {
@@ -48,20 +51,20 @@ loads =
 
 -- board 0 sees nothing, board 1 sees b; slot 1 first, then slot 0
 pub answered : List ℕ
-answered = stepLeaves (stepLeaves (sampleLeaves (sampleLeaves (loadedState (1 ∷ 2 ∷ []) rule) 0 0) 1 2) 1) 0
+answered = stepLeaves (stepLeaves (sampleLeaves (sampleLeaves (loadedState Plain (1 ∷ 2 ∷ []) rule) 0 0) 1 2) 1) 0
 
 pub closed : List ℕ
-closed = closeLeaves answered (replicate 4768 7)
+closed = closeLeaves answered (replicate (stateLength Plain) 7)
 
 saw : Saw answered 2
-unfolding answered pick both either bit left inOrder kindOf le leAt sameBool sameLeaf same leafOver over isConstant negated member joined sumTo onesOf sumOnes unionWith masksRule highest chosen sampleOf looked laid load relaid close holdsOnly listed stretchEnd eachBelow allZero eachTrue tidy unfoldedOwn loneOther heldBy among distinct boardOk recordOk gapOk holdersIn headerOk masksOk restOk stateOk stateOf finishedIn sampleSays readyIn stepSays steppedTo doneIn closeSays
+unfolding answered pick both either bit left inOrder kindOf le leAt sameBool sameLeaf same leafOver over isConstant negated member joined sumTo onesOf sumOnes unionWith masksRule highest chosen sampleOf looked laid load relaid close holdsOnly listed stretchEnd eachBelow allZero eachTrue tidy unfoldedOwn loneOther heldBy among distinct boardOk recordOk gapOk holdersIn placesOk headerOk masksOk restOk formOf boardAt sampleGiven slotStepped stateOk stateOf finishedIn sampleSays readyIn stepSays steppedTo doneIn closeSays
 saw zero l = refl
 saw (suc zero) l = refl
 saw (suc (suc b)) l = let e : boardsIn answered ≡ 2 = refl in absurd (omega arith)
 
-pub until-watch : Watch 2 (1 ∷ 2 ∷ []) rule (2 ∷ []) closed
-unfolding answered closed pick both either bit left inOrder kindOf le leAt sameBool sameLeaf same leafOver over isConstant negated member joined sumTo onesOf sumOnes unionWith masksRule highest chosen looked laid load relaid close holdsOnly listed stretchEnd eachBelow allZero eachTrue tidy unfoldedOwn loneOther heldBy among distinct boardOk recordOk gapOk holdersIn headerOk masksOk restOk stateOk stateOf finishedIn sampleSays readyIn stepSays steppedTo doneIn closeSays
-until-watch = ticked (begun loads) 2 (record { last = answered; calls = step (step (sample (sample none 0 0) 1 2) 1) 0; saw = saw; second = replicate 4768 7; closes = refl; leaves = refl })
+pub until-watch : StateWatch 2 (1 ∷ 2 ∷ []) rule (2 ∷ []) closed
+unfolding answered closed pick both either bit left inOrder kindOf le leAt sameBool sameLeaf same leafOver over isConstant negated member joined sumTo onesOf sumOnes unionWith masksRule highest chosen looked laid load relaid close holdsOnly listed stretchEnd eachBelow allZero eachTrue tidy unfoldedOwn loneOther heldBy among distinct boardOk recordOk gapOk holdersIn placesOk headerOk masksOk restOk formOf boardAt sampleGiven slotStepped stateOk stateOf finishedIn sampleSays readyIn stepSays steppedTo doneIn closeSays
+until-watch = ticked (begun loads) 2 (record { last = answered; calls = step (step (sample (sample none 0 0) 1 2) 1) 0; saw = saw; second = replicate (stateLength Plain) 7; closes = refl; leaves = refl })
 
 pub until-met : (w : Trace) → Satisfies (continued (2 ∷ []) w) rule
 unfolding pick either bit sameBool isConstant joined
@@ -69,7 +72,7 @@ until-met = watch-true 2 (1 ∷ 2 ∷ []) rule (2 ∷ []) closed until-watch (wa
 
 -- ---- a state that no rule leads to: one slot on board 0 with next b, b being board 1's
 pub handed : List ℕ
-handed = stateOf (1 ∷ 2 ∷ []) (record { board = 0; formula = one Next (leaf (Prop 1)) } ∷ []) 0
+handed = stateOf Plain (1 ∷ 2 ∷ []) (record { board = 0; formula = one Next (leaf (Prop 1)) } ∷ []) 0
 
 -- it passes its check, its step is accepted, and what that leaves does not pass
 pub record Handed : Type 0 where
@@ -78,5 +81,5 @@ pub record Handed : Type 0 where
   pub fails : stateOk (stepLeaves (sampleLeaves handed 0 0) 0) ≡ false
 
 pub handed-fails : Handed
-unfolding handed pick both either bit left inOrder kindOf le leAt sameBool sameLeaf same leafOver over isConstant negated member joined sumTo onesOf sumOnes unionWith masksRule highest chosen looked laid load relaid close holdsOnly listed stretchEnd eachBelow allZero eachTrue tidy unfoldedOwn loneOther heldBy among distinct boardOk recordOk gapOk holdersIn headerOk masksOk restOk stateOk stateOf finishedIn sampleSays readyIn stepSays steppedTo doneIn closeSays
+unfolding handed pick both either bit left inOrder kindOf le leAt sameBool sameLeaf same leafOver over isConstant negated member joined sumTo onesOf sumOnes unionWith masksRule highest chosen looked laid load relaid close holdsOnly listed stretchEnd eachBelow allZero eachTrue tidy unfoldedOwn loneOther heldBy among distinct boardOk recordOk gapOk holdersIn placesOk headerOk masksOk restOk formOf boardAt sampleGiven slotStepped stateOk stateOf finishedIn sampleSays readyIn stepSays steppedTo doneIn closeSays
 handed-fails = record { passes = refl; steps = refl; fails = refl }

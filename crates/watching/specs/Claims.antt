@@ -9,7 +9,7 @@ use Rattle.answers.specs.Said.{accepted, refused}
 use Rattle.answers.specs.declared.Verdict.{Verdict}
 use Rattle.answers.specs.declared.Verdict.the-variants.{False, True, Pending}
 use Rattle.ltl.specs.Meaning.{Event}
-use Rattle.state.specs.Fields.{stateLength}
+use Rattle.state.specs.Form.{formIn, stateLength}
 use Rattle.state.specs.Calls.{sampleSays, stepSays, doneIn, closeSays}
 use Rattle.watching.specs.Watch.{Calls, none, sample, step, Saw}
 
@@ -25,29 +25,29 @@ Accepted none = Unit {0}
 Accepted (sample {t = t} c board bits) = Accepted c × (sampleSays t board bits ≡ accepted [])
 Accepted (step {t = t} c k) = Accepted c × (stepSays t k ≡ accepted [])
 
--- the close, into a second buffer of a state's length, is accepted, or gets 7, 8 or 15
-pub data Closing (t : List ℕ) : Type 0 where
-  accepts : closeSays t stateLength ≡ accepted [] → Closing t
-  refuses : (n : ℕ) → (n ≡ 7) ⊎ ((n ≡ 8) ⊎ (n ≡ 15)) → closeSays t stateLength ≡ refused n → Closing t
+-- the close, into a second buffer of the state's length, is accepted, or gets 7, 8 or 15
+pub data StateClosing (t : List ℕ) : Type 0 where
+  accepts : closeSays t (stateLength (formIn t)) ≡ accepted [] → StateClosing t
+  refuses : (n : ℕ) → (n ≡ 7) ⊎ ((n ≡ 8) ⊎ (n ≡ 15)) → closeSays t (stateLength (formIn t)) ≡ refused n → StateClosing t
 
 -- some sample or some step is accepted; or the close is all that is left, every board having sampled and every slot being stepped
-pub data GoesOn (t : List ℕ) : Type 0 where
-  samples : (board bits : ℕ) → sampleSays t board bits ≡ accepted [] → GoesOn t
-  steps : (k : ℕ) → stepSays t k ≡ accepted [] → GoesOn t
-  closes : doneIn t ≡ true → Closing t → GoesOn t
+pub data StateGoesOn (t : List ℕ) : Type 0 where
+  samples : (board bits : ℕ) → sampleSays t board bits ≡ accepted [] → StateGoesOn t
+  steps : (k : ℕ) → stepSays t k ≡ accepted [] → StateGoesOn t
+  closes : doneIn t ≡ true → StateClosing t → StateGoesOn t
 
 -- accepted calls that lead from s to a state where the boards have seen the event and the close is all that is left
-pub record Reached (s : List ℕ) (e : Event) : Type 0 where
+pub record StateReached (s : List ℕ) (e : Event) : Type 0 where
   pub last : List ℕ
   pub calls : Calls s last
   pub all : Accepted calls
   pub saw : Saw last e
   pub done : doneIn last ≡ true
-  pub closing : Closing last
+  pub closing : StateClosing last
 
 -- every call that would change something is refused with 10, so that nothing does
-pub record Over (s : List ℕ) : Type 0 where
+pub record StateOver (s : List ℕ) : Type 0 where
   pub no-sample : (board bits : ℕ) → sampleSays s board bits ≡ refused 10
   pub no-step : (k : ℕ) → stepSays s k ≡ refused 10
-  pub no-close : closeSays s stateLength ≡ refused 10
+  pub no-close : closeSays s (stateLength (formIn s)) ≡ refused 10
   pub stays : (t : List ℕ) → Calls s t → t ≡ s
