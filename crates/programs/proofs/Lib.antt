@@ -1,4 +1,2 @@
--- Laws of the bytes that came, of where they stand, and of lines.
-pub mod Coming
+-- Laws of where the bytes that came stand.
 pub mod Standing
-pub mod Adding

@@ -9,7 +9,7 @@ use lib.ListN.{length, take, drop, length-drop}
 use lib.Seq.{length-take-le, take-take, take-at, drop-at}
 use Rattle.lists.specs.Runs.{tailAs}
 use Rattle.lists.proofs.Stretches.{take-two}
-use Rattle.programs.specs.declared.came.Next.the-variants.{Event}
+use Rattle.came.specs.declared.Next.the-variants.{Event}
 use Rattle.programs.specs.declared.input.Hand.{Hand}
 use Rattle.programs.specs.declared.input.Brought.{Brought}
 use Rattle.programs.specs.declared.input.Brought.the-variants.{More}
@@ -20,10 +20,10 @@ use Rattle.programs.specs.declared.input.Taken.{Taken}
 use Rattle.programs.specs.declared.input.Taken.the-variants as taken
 use Rattle.programs.specs.declared.turns.NextEvent.{NextEvent}
 use Rattle.programs.specs.declared.turns.NextEvent.the-variants as next
-use Rattle.programs.specs.Came.{nextIn}
+use Rattle.came.specs.Came.{nextIn}
 use Rattle.programs.specs.Hand.{ReadsWithin, Brings, CameBehind, Takes, TakenBehind}
 use Rattle.programs.specs.Turns.{FileFound, FileInFront, EventBehind}
-use Rattle.programs.proofs.Coming.{event-whole}
+use Rattle.came.proofs.Coming.{event-whole}
 
 -- ---- answers that hold bytes
 pub read-within : (end piece more : ℕ) (r : Brought) → r ≡ More more → ReadsWithin end piece r → (0 < more) × (end + more ≤ piece)

@@ -3,8 +3,8 @@ use mathlib.Core.Path.{_≡_}
 use mathlib.Core.List.{List}
 use Prim.Native.Nat.{ℕ, _+_, _-_, _≤_, _<_}
 use lib.ListN.{length, take, drop}
-use Rattle.programs.specs.declared.came.Next.{Next}
-use Rattle.programs.specs.declared.came.Next.the-variants as next
+use Rattle.came.specs.declared.Next.{Next}
+use Rattle.came.specs.declared.Next.the-variants as next
 use Rattle.programs.specs.declared.input.Hand.{Hand}
 use Rattle.programs.specs.declared.input.Taking.{Taking}
 use Rattle.programs.specs.declared.input.Brought.{Brought}
@@ -13,7 +13,7 @@ use Rattle.programs.specs.declared.input.Came.{Came}
 use Rattle.programs.specs.declared.input.Came.the-variants as came
 use Rattle.programs.specs.declared.input.Taken.{Taken}
 use Rattle.programs.specs.declared.input.Taken.the-variants as taken
-use Rattle.programs.specs.Came.{nextIn}
+use Rattle.came.specs.Came.{nextIn}
 
 -- they stand within a piece of so many bytes
 abbrev pub InHand : ℕ → Hand → Type 0

@@ -1,6 +1,4 @@
 -- What the contracts of `programs` cite.
-pub mod Came
 pub mod Hand
 pub mod Turns
-pub mod Lines
 pub mod Going

@@ -8,7 +8,7 @@ use Rattle.programs.specs.declared.input.Came.{Came}
 use Rattle.programs.specs.declared.input.Came.the-variants as came
 use Rattle.programs.specs.declared.turns.NextEvent.{NextEvent}
 use Rattle.programs.specs.declared.turns.NextEvent.the-variants as next
-use Rattle.programs.specs.Came.{fileLength}
+use Rattle.came.specs.Came.{fileLength}
 use Rattle.programs.specs.Hand.{InHand, bytesOf, Takes}
 
 -- the file is the first of the bytes that came, and the others are in hand

@@ -6,9 +6,8 @@ ghost use Prim.Native.Nat.{_≤_};
 ghost use mathlib.Core.List.{[]};
 ghost use lib.ListN.{length, take};
 ghost use Rattle.programs.specs.Hand.{InHand, bytesOf, ReadsWithin, CameBehind, TakenBehind};
-use crate::came;
-use crate::came::EVENT;
-use crate::came::Next;
+use came::EVENT;
+use came::Next;
 use rules::MASKS_AT;
 
 // The length of a piece.

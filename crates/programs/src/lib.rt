@@ -1,8 +1,5 @@
-// What the programs share: how bytes are taken from standard input, what the bytes that came are, the turns that a program makes of them,
-// and the lines that are written.
-pub mod came;
+// What the programs share: how bytes are taken from standard input, the turns that a program makes of them, and how lines are written.
 pub mod input;
-pub mod lines;
 pub mod output;
 pub mod turns;
 

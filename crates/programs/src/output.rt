@@ -1,8 +1,7 @@
 // Standard output: one write for a line, which is out before anything more is read.
-use crate::lines;
-use crate::lines::LINE;
 use answers::Refusal;
 use answers::Verdict;
+use lines::LINE;
 
 // The line of a watch: whether it was written whole. Where it was not, the program is to end.
 pub fn standing(ticks: u64, verdict: Verdict, slots: u64, nodes: u64) -> bool {

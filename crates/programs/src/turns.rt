@@ -5,7 +5,6 @@ ghost use Prim.Native.Nat.{_≤_};
 ghost use lib.ListN.{length};
 ghost use Rattle.programs.specs.Hand.{InHand, bytesOf};
 ghost use Rattle.programs.specs.Turns.{FileInFront, EventBehind};
-use crate::came;
 use crate::goes_on;
 use crate::input;
 use crate::input::Came;

@@ -5,7 +5,6 @@ ghost use lib.ListN.{length};
 use crate::header;
 use crate::lent;
 use answers::Refusal;
-use programs::lines;
 
 // What a call has answered: 0 or the refusal's number, and so many values.
 pub struct Answered {

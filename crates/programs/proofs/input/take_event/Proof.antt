@@ -2,8 +2,8 @@
 -- hand. Assumes nothing.
 use mathlib.Core.Path.{_≡_, sym, _∙_}
 use native.Mathlib.Omega.{arith}
-use Rattle.programs.specs.declared.came.Next.the-variants.{Event}
-use Rattle.programs.specs.Came.{nextIn}
+use Rattle.came.specs.declared.Next.the-variants.{Event}
+use Rattle.came.specs.Came.{nextIn}
 use Rattle.programs.specs.Hand.{bytesOf, Brings}
 use Rattle.programs.proofs.Standing.{came-brings, event-room, event-takes}
 use borrow.Author.Needs.{needs}

@@ -1,0 +1,2 @@
+-- What the contracts of `came` cite.
+pub mod Came

@@ -1,0 +1,2 @@
+-- Laws of lines that are built in a buffer.
+pub mod Adding
