@@ -1,21 +1,27 @@
 # What the scripts of tests/, bench/, examples/ and tools/ share; they source it from the project's root.
 
-# Compiles the generator and the second program into target/tests/, and runs the second program's own tests.
+# Compiles the generator and the second program into target/tests/, side by side, and runs the second program's own tests.
 build_tests() {
     command -v rustc >/dev/null || { echo "this needs rustc, 1.63 or newer" >&2; return 2; }
     mkdir -p target/tests
-    rustc -O --edition 2021 -o target/tests/generate tests/generate.rs
+    rustc -O --edition 2021 -o target/tests/generate tests/generate.rs & generate=$!
+    rustc -O --test --edition 2021 -o target/tests/worked tests/second.rs & worked=$!
     rustc -O --edition 2021 -o target/tests/second tests/second.rs
-    rustc -O --test --edition 2021 -o target/tests/worked tests/second.rs
+    wait $generate || return
+    wait $worked || return
     target/tests/worked -q >target/tests/worked.log || { cat target/tests/worked.log; return 1; }
 }
 
 # Proves the library for C and puts it into target/staticlib/libvydrulka.a. rt names an archive after the crate, which is
-# libexports.a; the library's own name is a copy of that.
+# libexports.a; the library's own name is a copy of that. rt makes an archive anew each time, so the stamp of the proof that it was
+# made of is kept beside it: one that was made of this proof is taken as it is.
 build_library() {
     mkdir -p target/staticlib
+    rt check exports >target/staticlib/rt.log 2>&1 || { tail -n 20 target/staticlib/rt.log; return 1; }
+    cmp -s target/stamp/exports target/staticlib/stamp && return
     rt staticlib exports >target/staticlib/rt.log 2>&1 || { tail -n 20 target/staticlib/rt.log; return 1; }
     cp target/staticlib/libexports.a target/staticlib/libvydrulka.a
+    cp target/stamp/exports target/staticlib/stamp
 }
 
 # The kit's tools for this machine: the guide that rt names stands in the kit's docs/.
@@ -30,6 +36,18 @@ run_rattle() {
     emulator=$tools/bin/qemu-x86_64
     [ -x "$emulator" ] || emulator=
     ${emulator:+"$emulator"} "$tools/lib/ld-linux-x86-64.so.2" --library-path "$tools/lib" "$@"
+}
+
+# Whether files can be made in this folder, and run there.
+runs_programs() {
+    [ -d "$1" ] && [ -w "$1" ] || return 1
+    made=$(mktemp "$1/vydrulka.XXXXXX" 2>/dev/null) || return 1
+    printf '#!/bin/sh\n' >"$made"
+    chmod +x "$made"
+    ran=0
+    "$made" 2>/dev/null || ran=1
+    rm -f "$made"
+    return $ran
 }
 
 # The compiler for C programs that link the library, which is for x86-64 alone: on another machine a cross compiler.
