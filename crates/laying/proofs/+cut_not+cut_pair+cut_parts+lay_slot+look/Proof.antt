@@ -21,7 +21,7 @@ use Rattle.laying.proofs.Room.{Entry, entry, Done, cut-done, Begun, beg
 use Rattle.laying.proofs.Cutting.{constant, proposition, next, ever, until, whole-asks, whole-cuts, leaf-cuts, not-cuts, pair-cuts, stay-looks, cut-looks, slot-lays, hold-cuts}
 use native.Mathlib.Omega.{arith}
 use borrow.Author.Needs.{needs}
-use Prim.Native.Nat.{ℕ, _+_, _*_, _^_, _<_}
+use Prim.Native.Nat.{ℕ, _+_, _*_, _^_, _<_, _≤_}
 use lib.ListN.{length, getD, set}
 use borrow.Fn.Kinds.{In}
 use borrow.Fn.PlainCycle.{Measures, is, falls, and}
@@ -231,7 +231,11 @@ module _ (t : ℕ) where
       both-done (left-done l) (l .look .kept .1 .1 .1 .1 .0) (right-begins (right-in c)) (c .look2 .ensures) (c .look2 .kept .1 .1 .1 .0) (c .look2 .kept .1 .1 .1 .1 .0)
 
   pair-sums : (c : PairOut) → let x = both-left c .look .result in let y = c .look2 .result in (1 + x .read + y .read < 2 ^ 64) × (1 + x .here + y .here < 2 ^ 64)
-  pair-sums c = let d = pair-done c in let g = pair-first (pair-in (both-left c)) .good in (omega arith, omega arith)
+  pair-sums c = let g = pair-first (pair-in (both-left c)) .good in ((let n = pair-done c .reads in omega arith), (let n = pair-done c .here in omega arith))
+
+  -- the nodes behind what the left one has taken
+  here-there : (c : LeftOut) → 1 + c .look .result .here ≤ length (left-nodes c)
+  here-there c = let x = left-done c .here in let n = left-done c .nodes in let k = left-done c .kept in omega arith
 
   pair-spec : {M : Type 1} → cut-pair-lts.Closed pair-calls pair-here cut-pair.Post M
   pair-spec =
@@ -249,31 +253,31 @@ module _ (t : ℕ) where
       (λ c. let n = pair-begun (c .before .before .before) in omega arith)
       (λ c. let n = pair-begun (c .before .before .before) in omega arith)
       (λ c κs. let i = c .before .before .before .before .before in let n = pair-begun i in let q = pair-first i .pre .0 in (omega arith, n .asks))
-      (λ c. let l = left-out c in let x = left-done l in let g = pair-first (pair-in l) .good in omega arith)
-      (λ c. let l = left-out (c .before) in let x = left-done l in let g = pair-first (pair-in l) .good in omega arith)
-      (λ c κs. let x = left-done (left-out (c .before)) in omega arith)
-      (λ c. let x = left-done (left-out (left-known (c .before .before))) in omega arith)
-      (λ c. let x = left-done (left-out (left-known (c .before .before .before .before))) in omega arith)
-      (λ c. let x = left-done (left-out (left-known (c .before .before .before .before .before))) in omega arith)
-      (λ c. let l = left-of c in let x = left-done l in let g = pair-first (pair-in l) .good in omega arith)
-      (λ c. let x = left-done (left-of c) in omega arith)
-      (λ c. let x = left-done (left-of c) in omega arith)
-      (λ c. let x = left-done (left-of c) in omega arith)
-      (λ c. let l = left-of (c .before) in let x = left-done l in let g = pair-first (pair-in l) .good in omega arith)
-      (λ c. let x = left-done (left-of (c .before)) in omega arith)
-      (λ c. let x = left-done (left-of (c .before)) in omega arith)
-      (λ c. let x = left-done (left-of (c .before)) in omega arith)
-      (λ c. let x = left-done (left-of (c .before .before)) in omega arith)
-      (λ c. let x = left-done (left-of (c .before .before)) in omega arith)
-      (λ c. let x = left-done (left-of (c .before .before)) in omega arith)
-      (λ c. let x = right-begins (c .before .before .before) in omega arith)
-      (λ c. let x = right-begins (c .before .before .before) in omega arith)
-      (λ c. let x = right-begins (c .before .before .before) in omega arith)
-      (λ c κs. let i = c .before .before .before .before in let n = right-begins i in let q = pair-first (pair-in (left-of i)) .pre .0 in (omega arith, n .asks))
-      (λ c. let x = pair-sums (pair-out c) in omega arith)
-      (λ c. let x = pair-sums (pair-out (c .before)) in omega arith)
-      (λ c. let x = pair-done (pair-out (c .before .before .before)) in omega arith)
-      (λ c. let x = pair-done (pair-end c) in omega arith)
+      (λ c. let l = left-out c in let x = left-done l .reads in let g = pair-first (pair-in l) .good in omega arith)
+      (λ c. let l = left-out (c .before) in let x = left-done l .here in let n = left-done l .nodes in let g = pair-first (pair-in l) .good in omega arith)
+      (λ c κs. let x = left-done (left-out (c .before)) .slots in omega arith)
+      (λ c. let x = left-done (left-out (left-known (c .before .before))) .slots in omega arith)
+      (λ c. let x = left-done (left-out (left-known (c .before .before .before .before))) .numbers in omega arith)
+      (λ c. let x = left-done (left-out (left-known (c .before .before .before .before .before))) .here in omega arith)
+      (λ c. let l = left-of c in let x = left-done l .nodes in let g = pair-first (pair-in l) .good in omega arith)
+      (λ c. let x = left-done (left-of c) .reads in omega arith)
+      (λ c. let x = left-done (left-of c) .reads in omega arith)
+      (λ c. let x = left-done (left-of c) .reads in omega arith)
+      (λ c. let l = left-of (c .before) in let x = left-done l .tags-there in let g = pair-first (pair-in l) .good in omega arith)
+      (λ c. let x = left-done (left-of (c .before)) .tags-there in omega arith)
+      (λ c. let x = left-done (left-of (c .before)) .tags-there in omega arith)
+      (λ c. let x = left-done (left-of (c .before)) .tags-there in omega arith)
+      (λ c. let x = here-there (left-of (c .before .before)) in omega arith)
+      (λ c. let x = here-there (left-of (c .before .before)) in omega arith)
+      (λ c. let x = here-there (left-of (c .before .before)) in omega arith)
+      (λ c. let x = right-begins (c .before .before .before) .records in omega arith)
+      (λ c. let x = right-begins (c .before .before .before) .records in omega arith)
+      (λ c. let x = right-begins (c .before .before .before) .records in omega arith)
+      (λ c κs. let i = c .before .before .before .before in let n = right-begins i .fewer in let q = pair-first (pair-in (left-of i)) .pre .0 in (omega arith, right-begins i .asks))
+      (λ c. let x = pair-sums (pair-out c) .0 in omega arith)
+      (λ c. let x = pair-sums (pair-out (c .before)) .1 in omega arith)
+      (λ c. let x = pair-done (pair-out (c .before .before .before)) .slots in omega arith)
+      (λ c. let x = pair-done (pair-end c) .nodes in omega arith)
       (λ c. pair-done (pair-end c) .kept)
       (λ c. pair-done (pair-end c) .records-kept)
       (λ c.
