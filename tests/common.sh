@@ -38,9 +38,11 @@ run_rattle() {
     ${emulator:+"$emulator"} "$tools/lib/ld-linux-x86-64.so.2" --library-path "$tools/lib" "$@"
 }
 
-# Whether files can be made in this folder, and run there.
+# Whether files can be made in this folder, up to 2 GB of them, and run there.
 runs_programs() {
     [ -d "$1" ] && [ -w "$1" ] || return 1
+    free=$(df -Pk "$1" 2>/dev/null | awk 'NR == 2 { print $4 }')
+    [ "${free:-0}" -ge 2000000 ] || return 1
     made=$(mktemp "$1/vydrulka.XXXXXX" 2>/dev/null) || return 1
     printf '#!/bin/sh\n' >"$made"
     chmod +x "$made"
