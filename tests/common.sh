@@ -43,7 +43,7 @@ runs_programs() {
     [ -d "$1" ] && [ -w "$1" ] || return 1
     free=$(df -Pk "$1" 2>/dev/null | awk 'NR == 2 { print $4 }')
     [ "${free:-0}" -ge 2000000 ] || return 1
-    made=$(mktemp "$1/vydrulka.XXXXXX" 2>/dev/null) || return 1
+    made=$(TMPDIR=$1 mktemp 2>/dev/null) || return 1
     printf '#!/bin/sh\n' >"$made"
     chmod +x "$made"
     ran=0

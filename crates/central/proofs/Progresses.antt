@@ -21,10 +21,8 @@ use Rattle.ltl.specs.Meaning.{Event}
 use Rattle.ltl.specs.Progression.{unfolded, resolved, progressed, verdictOf, filled, filledBy}
 use Rattle.ltl.proofs.Decoding.{unfolded-coded}
 use Rattle.nodes.specs.Begins.{Front, Begins}
-use Rattle.slot_sets.specs.SlotSets.{noSlots}
 use Rattle.slot_sets.proofs.SlotSets.{none-has}
-use Rattle.resolving.specs.declared.Seen.{Seen}
-use Rattle.resolving.specs.Settles.{heldBy, settled, Rewritten}
+use Rattle.resolving.specs.Settles.{heldBy, eventAlone, settled, Rewritten}
 use Rattle.joining.proofs.Firsts.{first, first-is, unary-high, binary-high}
 use Rattle.unfolding.specs.Unfolds.{UnfoldedTo}
 use Rattle.central.specs.Progressing.{verdictByte}
@@ -54,12 +52,9 @@ filled-none held h (one (Ever j) f) = refl
 filled-none held h (two (Joined j) f g) = ap₂ (join j) (filled-none held h f) (filled-none held h g)
 filled-none held h (two Until f g) = refl
 
-abbrev pub alone : Event → Seen
-alone event = record { event = event; yes = noSlots; no = noSlots }
-
-pub settled-alone : (event : Event) (f : Formula) → settled (alone event) f ≡ resolved event f
+pub settled-alone : (event : Event) (f : Formula) → settled (eventAlone event) f ≡ resolved event f
 unfolding pick
-settled-alone event f = ap (resolved event) (filled-none (heldBy (alone event)) (λ k. rw (none-has k)) f)
+settled-alone event f = ap (resolved event) (filled-none (heldBy (eventAlone event)) (λ k. rw (none-has k)) f)
 
 -- ---- from the unfolded formula in the output to the progressed one, and zeros
 module _ (f : Formula) {out out₁ : List ℕ} {read written : ℕ} (coded : Coded f) (u : UnfoldedTo f out out₁ read written) where
@@ -69,7 +64,7 @@ module _ (f : Formula) {out out₁ : List ℕ} {read written : ℕ} (coded : Cod
   pub unfolded-begins : Begins out₁
   unfolded-begins = record { formula = unfolded f; rest = drop (size (unfolded f)) out; front = unfolded-front }
 
-  pub progress-done : (event : Event) {out₂ : List ℕ} (n : ℕ) → Rewritten (alone event) out₁ out₂ n → length out₁ ≡ length out
+  pub progress-done : (event : Event) {out₂ : List ℕ} (n : ℕ) → Rewritten (eventAlone event) out₁ out₂ n → length out₁ ≡ length out
       → (out₂ ≡ padded (length out) (encode (progressed event f))) × (n ≡ size (progressed event f))
   progress-done event n r l =
       let e = settled-alone event (unfolded f) in

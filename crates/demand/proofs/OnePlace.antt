@@ -21,7 +21,8 @@ use Rattle.resolving.proofs.Coded.{settled-coded}
 use Rattle.central.specs.declared.Progress.{Progress}
 use Rattle.central.specs.declared.CentralAnswer.the-variants.{Progressed}
 use Rattle.central.specs.Central.{answerOf, centralSays, Centrally}
-use Rattle.central.proofs.Progresses.{alone, settled-alone}
+use Rattle.resolving.specs.Settles.{eventAlone}
+use Rattle.central.proofs.Progresses.{settled-alone}
 use Rattle.rules.specs.RuleFile.{formulaInFile}
 use Rattle.asking.specs.declared.Standing.{Standing}
 use Rattle.asking.specs.declared.AskAnswer.the-variants.{Told}
@@ -40,7 +41,7 @@ over-more [] e f = refl
 over-more (u ∷ us) e f = over-more us e (ltl.progressed u f)
 
 progressed-coded : (e : Event) (f : Formula) → Coded f → Coded (ltl.progressed e f)
-progressed-coded e f w = subst (λ (g : Formula). Coded g) (settled-alone e (unfolded f)) (settled-coded (alone e) (unfolded f) (unfolded-coded propositionsMost holderCodes f w))
+progressed-coded e f w = subst (λ (g : Formula). Coded g) (settled-alone e (unfolded f)) (settled-coded (eventAlone e) (unfolded f) (unfolded-coded propositionsMost holderCodes f w))
 
 -- ---- an accepted call on a formula's bytes
 record CentralTells (f : Formula) (e : Event) (output′ : List ℕ) (p : Progress) : Type 0 where

@@ -14,7 +14,7 @@ use Rattle.answers.specs.declared.Verdict.the-variants.{False, True, Pending}
 use Rattle.ltl.specs.Formula.{Formula, size, encode, Coded}
 use Rattle.ltl.specs.Progression.{negated, deciding, joined, resolved, filledBy, filled}
 use Rattle.nodes.specs.Begins.{Front}
-use Rattle.slot_sets.specs.SlotSets.{hasSlot}
+use Rattle.slot_sets.specs.SlotSets.{noSlots, hasSlot}
 use Rattle.joining.specs.declared.Settled.{Settled}
 use Rattle.joining.specs.Results.{Settles}
 use Rattle.resolving.specs.declared.Seen.{Seen}
@@ -22,6 +22,10 @@ use Rattle.resolving.specs.declared.Seen.{Seen}
 -- the verdict of slot k, by the set of the slots that are true and the set of those that are false
 abbrev pub heldBy : Seen → ℕ → Verdict
 heldBy seen k = pick (hasSlot (seen .yes) k) True (pick (hasSlot (seen .no) k) False Pending)
+
+-- an event, and no slot that is seen to be true or false
+abbrev pub eventAlone : ℕ → Seen
+eventAlone event = record { event = event; yes = noSlots; no = noSlots }
 
 -- constant held slots replaced by their values, then resolved under the event
 abbrev pub settled : Seen → Formula → Formula

@@ -26,9 +26,10 @@ use Rattle.checked.proofs.Passing.{SlotPassing}
 use Rattle.central.specs.Progressing.{verdictByte}
 use Rattle.central.proofs.Progresses.{verdict-first, first-of}
 use Rattle.resolving.specs.declared.Seen.{Seen}
+use Rattle.resolving.specs.Settles.{eventAlone}
 use Rattle.seeing.specs.declared.Sight.{Sight}
 use Rattle.seeing.specs.declared.Sight.the-variants.{Waits, Sees}
-use Rattle.seeing.specs.Seeing.{answerIn, told, toldEach, sampleAlone, seenBy, sightIn, sightAfter, goOn, sightOver}
+use Rattle.seeing.specs.Seeing.{answerIn, told, toldEach, seenBy, sightIn, sightAfter, goOn, sightOver}
 use Rattle.seeing.proofs.Telling.{each-append}
 
 -- ---- a held slot, by its first byte
@@ -119,11 +120,11 @@ module _ (s : List ℕ) where
     unfolding sightIn readyIn pick both
     sight-unsampled h = rw (ne-eqb (sampledIn s (boardOfIn s k)) 1 h)
 
-    pub sight-sampled : SlotPassing s k → sampledIn s (boardOfIn s k) ≡ 1 → sightOver s (slotBytes s k) (sampleAlone (sampleIn s (boardOfIn s k))) ≡ sightIn s k
+    pub sight-sampled : SlotPassing s k → sampledIn s (boardOfIn s k) ≡ 1 → sightOver s (slotBytes s k) (eventAlone (sampleIn s (boardOfIn s k))) ≡ sightIn s k
     unfolding sightIn readyIn sightOver both
     sight-sampled q e =
         let f = formulaAt s k in
-        let x = sampleAlone (sampleIn s (boardOfIn s k)) in
+        let x = eventAlone (sampleIn s (boardOfIn s k)) in
         ap (λ (l : List ℕ). sightOver s l x) (q .bytes ∙ sym (append-nil (encode f)))
         ∙ over-formula f [] x (q .coded)
         ∙ ap (λ (b : Bool). pick (both b (holdsOnly stepped f)) (Sees (seenBy s k)) Waits) (sym (eq-eqb (sampledIn s (boardOfIn s k)) 1 e))

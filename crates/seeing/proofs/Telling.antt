@@ -26,11 +26,11 @@ use Rattle.state.specs.Calls.{readyIn, steppedTo}
 use Rattle.slot_sets.specs.SlotSets.{hasSlot}
 use Rattle.slot_sets.proofs.SlotSets.{none-has, with-same, with-other}
 use Rattle.resolving.specs.declared.Seen.{Seen}
-use Rattle.resolving.specs.Settles.{settled}
+use Rattle.resolving.specs.Settles.{eventAlone, settled}
 use Rattle.resolving.specs.Settles as settles
 use Rattle.seeing.specs.declared.Sight.{Sight}
 use Rattle.seeing.specs.declared.Sight.the-variants.{Waits, Sees}
-use Rattle.seeing.specs.Seeing.{answerIn, told, toldEach, sampleAlone, seenBy, sightIn}
+use Rattle.seeing.specs.Seeing.{answerIn, told, toldEach, seenBy, sightIn}
 
 -- ---- one slot told
 told-other : (x : Seen) (n m : ℕ) (v : Verdict) → (n ≡ m → ⊥) → settles.heldBy (told x n v) m ≡ settles.heldBy x m
@@ -118,7 +118,7 @@ told-each answer [] x h = tt
 told-each answer (m ∷ ms) x h =
     (each-kept answer ms (told x m (answer m)) m (told-same x m (answer m) (h m)), told-each answer ms (told x m (answer m)) (told-honest answer x m h))
 
-alone-honest : (answer : ℕ → Verdict) (event : ℕ) → Honest answer (sampleAlone event)
+alone-honest : (answer : ℕ → Verdict) (event : ℕ) → Honest answer (eventAlone event)
 unfolding pick
 alone-honest answer event m = inl (rw (none-has m))
 
@@ -127,7 +127,7 @@ seen-settles : (s : List ℕ) (k : ℕ) → settled (seenBy s k) (formulaAt s k)
 unfolding steppedTo
 seen-settles s k =
     let f = formulaAt s k in
-    let x = sampleAlone (sampleIn s (boardOfIn s k)) in
+    let x = eventAlone (sampleIn s (boardOfIn s k)) in
     let a : ℕ → Verdict = answerIn s in
     ap₂ resolved (each-event a (heldBy f) x)
     (filled-same (settles.heldBy (seenBy s k)) a f

@@ -12,8 +12,9 @@ use Rattle.state.specs.Fields.{sampleIn, boardOfIn, steppedIn}
 use Rattle.state.specs.Clauses.{heldBy}
 use Rattle.state.specs.Bytes.{formulaAt}
 use Rattle.state.specs.Calls.{readyIn}
-use Rattle.slot_sets.specs.SlotSets.{noSlots, withSlot}
+use Rattle.slot_sets.specs.SlotSets.{withSlot}
 use Rattle.resolving.specs.declared.Seen.{Seen}
+use Rattle.resolving.specs.Settles.{eventAlone}
 use Rattle.seeing.specs.declared.Sight.{Sight}
 use Rattle.seeing.specs.declared.Sight.the-variants.{Waits, Sees}
 
@@ -32,13 +33,9 @@ abbrev pub toldEach : (ℕ → Verdict) → List ℕ → Seen → Seen
 toldEach answer [] x = x
 toldEach answer (m ∷ ms) x = toldEach answer ms (told x m (answer m))
 
--- a sample, with nothing seen of any slot yet
-abbrev pub sampleAlone : ℕ → Seen
-sampleAlone event = record { event = event; yes = noSlots; no = noSlots }
-
 -- what slot k sees: its board's sample and each slot that it holds
 abbrev pub seenBy : List ℕ → ℕ → Seen
-seenBy s k = toldEach (answerIn s) (heldBy (formulaAt s k)) (sampleAlone (sampleIn s (boardOfIn s k)))
+seenBy s k = toldEach (answerIn s) (heldBy (formulaAt s k)) (eventAlone (sampleIn s (boardOfIn s k)))
 
 -- where it is ready
 unfoldable pub sightIn : List ℕ → ℕ → Sight

@@ -5,7 +5,8 @@ ghost use Rattle.limits.specs.Limits.{holderCodes};
 ghost use Rattle.kinds.specs.Kinds.{holdCode};
 ghost use Rattle.opening.specs.Opening.{Opened};
 ghost use Rattle.checked.specs.Holds.{Holds};
-ghost use Rattle.seeing.specs.Seeing.{answerIn, told, sampleAlone, sightAfter, sightOver, sightIn};
+ghost use Rattle.resolving.specs.Settles.{eventAlone};
+ghost use Rattle.seeing.specs.Seeing.{answerIn, told, sightAfter, sightOver, sightIn};
 use answers::Verdict;
 use kinds::Kind;
 use resolving::Seen;
@@ -69,7 +70,7 @@ fn sight_after(b: u8, s: &[u8], c: Counts, seen: Seen) -> Sight
 // The pass over a slot's bytes p in the state s.
 fn sight_over(p: &[u8], s: &[u8], c: Counts, event: u64) -> Sight
     requires { ⌜ Opened (now s) c × Holds (c .slots) (now p) ⌝ }
-    ensures { λ r. ⌜ r ≡ sightOver (now (s .entry)) (now (p .entry)) (sampleAlone event) ⌝ }
+    ensures { λ r. ⌜ r ≡ sightOver (now (s .entry)) (now (p .entry)) (eventAlone event) ⌝ }
 {
     let none = no_slots();
     let mut seen = Seen {

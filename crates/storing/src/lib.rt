@@ -1,4 +1,4 @@
-// Writing a whole state: the stateHeader, the boards with nothing sampled, and the network that a tagged formula is laid out to.
+// Writing a whole state: the header, the boards with nothing sampled, and the network that a tagged formula is laid out to.
 ghost use Rattle.state.specs.Form.{formIn};
 ghost use Rattle.storing.specs.Stores.{NetworkAsk, StoresNetwork, StateAsk, Stores};
 use state::ROWS_ROOM;

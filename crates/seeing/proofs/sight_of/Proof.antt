@@ -8,7 +8,8 @@ use Rattle.checking.specs.Slotted.{SlotThere}
 use Rattle.checking.proofs.Records.{board-few, bytes-at}
 use Rattle.opening.proofs.Opened.{opened-slot}
 use Rattle.checked.proofs.Lying.{slot-passing, lent-holds}
-use Rattle.seeing.specs.Seeing.{sampleAlone, sightOver}
+use Rattle.resolving.specs.Settles.{eventAlone}
+use Rattle.seeing.specs.Seeing.{sightOver}
 use Rattle.seeing.proofs.Sights.{sight-unsampled, sight-sampled}
 use native.Mathlib.Omega.{arith}
 use borrow.Author.Needs.{needs}
@@ -51,5 +52,5 @@ sight-of-spec =
     (λ c κs. let p = sampled (c .before .before .before) .pre in (p .0, lent-holds (p .0) _ (p .1) (c .before .before .span-of .ensures)))
     (λ c. let d = c .before .before .before in let e = d .before in let a = sampled e .args in let p = sampled e .pre in
     c .sight-over .ensures
-    ∙ ap₂ (λ (l : List ℕ) (n : ℕ). sightOver (a .s .now) l (sampleAlone n)) (bytes-at (d .span-of .ensures)) (c .before .sample-of .ensures ∙ ap (sampleIn (a .s .now)) (e .before .before .board-of .ensures))
+    ∙ ap₂ (λ (l : List ℕ) (n : ℕ). sightOver (a .s .now) l (eventAlone n)) (bytes-at (d .span-of .ensures)) (c .before .sample-of .ensures ∙ ap (sampleIn (a .s .now)) (e .before .before .board-of .ensures))
     ∙ sight-sampled _ _ (slot-passing (p .0) _ (p .1)) (sym (flag (e .before)) ∙ e .if1 .left)))

@@ -1,7 +1,8 @@
 -- At each turn the pass from here sees as the whole does, and the bytes left fall. Assumes nothing.
 use Prim.Native.Nat.{_-_}
 use lib.ListN.{length}
-use Rattle.seeing.specs.Seeing.{sampleAlone, sightOver}
+use Rattle.resolving.specs.Settles.{eventAlone}
+use Rattle.seeing.specs.Seeing.{sightOver}
 use Rattle.seeing.proofs.Sights.{Scanned, scanned-begins, scanned-more, scanned-waits, scanned-ends}
 use native.Mathlib.Omega.{arith}
 use borrow.Author.Needs.{needs}
@@ -9,7 +10,7 @@ use Rattle.seeing.proofs.sight_over.Statement.{statement}
 use Rattle.seeing.proofs.sight_over.Tie as tie
 
 abbrev Inv-loop : tie.InvT-loop
-Inv-loop p s c event seen₀ i₀ seen i = Scanned s p (sightOver s p (sampleAlone event)) i seen
+Inv-loop p s c event seen₀ i₀ seen i = Scanned s p (sightOver s p (eventAlone event)) i seen
 
 abbrev μ-loop : tie.MeasureT-loop
 μ-loop p s c event seen₀ i₀ seen i = length p - i
