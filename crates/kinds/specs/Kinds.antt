@@ -61,6 +61,13 @@ abbrev pub binaryCode : Binary → ℕ
 binaryCode (Joined j) = joinCode j
 binaryCode Until = 6
 
+-- how many operands a node has
+abbrev pub operands : Kind → ℕ
+operands (Zero a) = 0
+operands (One o) = 1
+operands (Two o) = 2
+operands NoCode = 0
+
 -- a proposition's number is below p, a place holder's below s
 abbrev pub leafWithin : ℕ → ℕ → Leaf → Type 0
 leafWithin p s (Const v) = Unit {0}

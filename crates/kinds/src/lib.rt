@@ -2,7 +2,7 @@
 // of `Kind`, and `Kind::of` gives a byte its kind. Where one kind alone matters, other crates compare the byte itself.
 ghost use mathlib.Core.Path.{_≡_};
 ghost use Prim.Native.Nat.{_≤_};
-ghost use Rattle.kinds.specs.Kinds.{kindOf, joinCode};
+ghost use Rattle.kinds.specs.Kinds.{kindOf, joinCode, operands};
 
 // A node with no operand: a constant, a proposition, or the place holder of a slot.
 pub enum Leaf {
@@ -92,6 +92,18 @@ impl Kind {
             Kind::EVENTUALLY => Kind::One(Unary::Ever(Join::Or)),
             Kind::ALWAYS => Kind::One(Unary::Ever(Join::And)),
             _ => Kind::of_range(b),
+        }
+    }
+
+    // How many operands a node has.
+    pub fn operands(k: Kind) -> usize
+        ensures { λ r. ⌜ r ≡ operands k ⌝ }
+    {
+        match k {
+            Kind::Zero(_) => 0,
+            Kind::One(_) => 1,
+            Kind::Two(_) => 2,
+            Kind::NoCode => 0,
         }
     }
 

@@ -8,6 +8,7 @@ use mathlib.Core.Option.{Option, none, some}
 use Prim.Native.Nat.{ℕ, _+_, _-_, _*_}
 use native.Mathlib.Omega.{arith}
 use lib.ListN.{length, getD, length-append}
+use borrow.Author.Tests.{eqb-true}
 use Rattle.state.specs.Form.{slotRow, slotRows}
 use Rattle.lists.specs.Tests.{pick}
 use Rattle.lists.proofs.Tests.{no-true}
@@ -18,7 +19,7 @@ use Rattle.limits.specs.Limits.{boardsMost}
 use Rattle.ltl.specs.Formula.{Formula, one, two, size}
 use Rattle.network.specs.Layout.{Laid, cut, looked, laid}
 use Rattle.nodes.specs.Begins.{Front}
-use Rattle.cutting.specs.Cuts.{codeOf, staysOn}
+use Rattle.cutting.specs.Cuts.{codeOf, staysOn, Rests}
 use Rattle.cutting.proofs.Looking.{stays-none, stays-board}
 use Rattle.tagging.specs.Packed.{boardIn}
 use Rattle.tagging.specs.Tags.{Tags, Tagged}
@@ -48,6 +49,14 @@ module _ {choose : Formula → Option ℕ} {hold : ℕ → ℕ → Laid} {u tags
       go : (o : Option ℕ) → choose f ≡ o → staysOn (codeOf o) b ≡ true → looked o b k (laid choose hold f) ≡ laid choose hold f b k
       go none z q = refl
       go (some c) z q = let l = s .boards f c z in let t = sym (stays-board c b (λ w. omega arith)) ∙ q in rw t
+
+  -- the board is one that it may stay on
+  pub looked-rests : staysOn (boardIn (getD tags 0 0)) b ≡ true → Rests choose f b
+  looked-rests e = go (choose f) refl (ap (λ (i : ℕ). staysOn i b) (sym choice-is) ∙ e)
+    where
+      go : (o : Option ℕ) → choose f ≡ o → staysOn (codeOf o) b ≡ true → Rests choose f b
+      go none z q = inl z
+      go (some c) z q = let l = s .boards f c z in let t = eqb-true c b (sym (stays-board c b (λ w. omega arith)) ∙ q) in inr (z ∙ ap some t)
 
   pub looked-cut : staysOn (boardIn (getD tags 0 0)) b ≡ false → CutTo choose hold u tags f rest b k
   unfolding looked pick

@@ -22,8 +22,9 @@ use Rattle.ltl.specs.Formula.{Formula, size, encode}
 use Rattle.network.specs.Layout.{Laid, whole, beside, cut, looked, laid}
 use Rattle.cutting.specs.Cuts.{staysOn}
 use Rattle.tagging.specs.Packed.{boardIn, aheadIn}
+use Rattle.tagging.specs.Tags.{hereOn}
 use Rattle.tagging.proofs.Packing.{Has}
-use Rattle.nodes.proofs.Fronts.{Parts, isZero, isOne, isTwo, parts-as, zero-size}
+use Rattle.nodes.proofs.Fronts.{Parts, isZero, isOne, isTwo, parts-as, zero-size, front-begins, begins-some}
 use Rattle.laying.specs.declared.Place.{Place}
 use Rattle.laying.specs.declared.Lain.{Lain}
 use Rattle.laying.specs.Lays.{Fits, Lays, CutAsk, Cuts, Looks, LaysSlot, Plain, WholeAsk, PutsWhole, IsJoin}
@@ -55,12 +56,25 @@ stays-whole next (isOne e y) choose hold b k = refl
 stays-whole ever (isOne e y) choose hold b k = refl
 stays-whole until (isTwo e y z) choose hold b k = refl
 
--- there is room for such a part
-pub whole-asks : {u tags p r : List ℕ} {at : Place} {i : Kind} → CutAsk u tags at p r → Stays i → kindOf (getD u 0 0) ≡ i → WholeAsk u p
+-- its length in the slot is its own
+stays-here : {u rest : List ℕ} {f : Formula} {i : Kind} → Stays i → Parts u rest f i → (choose : Formula → Option ℕ) (b : ℕ) → hereOn choose f b ≡ size f
+unfolding hereOn
+stays-here constant (isZero w e) choose b = refl
+stays-here proposition (isZero w e) choose b = refl
+stays-here next (isOne e y) choose b = refl
+stays-here ever (isOne e y) choose b = refl
+stays-here until (isTwo e y z) choose b = refl
+
+-- there is room for such a part, and its tag has its length
+pub whole-asks : {u tags p r : List ℕ} {at : Place} {i : Kind} → CutAsk u tags at p r → Stays i → kindOf (getD u 0 0) ≡ i → WholeAsk u tags p
 whole-asks {u} {p = p} {r = r} {at = at} ask t kind =
-    let w = stays-whole t (parts-as u (ask .formula) (ask .rest) (ask .front) refl kind) (ask .choose) (ask .hold) (at .board) (at .slot) in
+    let q = parts-as u (ask .formula) (ask .rest) (ask .front) refl kind in
+    let w = stays-whole t q (ask .choose) (ask .hold) (at .board) (at .slot) in
     let f = subst (λ (x : Laid). Fits x at (length p) (length r)) w (ask .fits) in
-    record { begins = record { formula = ask .formula; rest = ask .rest; front = ask .front }; room = omega arith }
+    let b = front-begins (ask .front) in
+    let l = begins-some u b in
+    let s = ask .source .long in
+    record { begins = b; tag = omega arith; length-is = ask .here-is ∙ stays-here t q (ask .choose) (at .board); room = omega arith }
 
 module _ {u tags : List ℕ} {at : Place} {p r : List ℕ} where
   pub whole-cuts : {p′ : List ℕ} {y : Lain} {i : Kind} → Stays i → kindOf (getD u 0 0) ≡ i → PutsWhole u p p′ y → Cuts u tags at p r p′ r y

@@ -20,7 +20,7 @@ use Rattle.tagging.proofs.Packing.{Has}
 use Rattle.laying.specs.declared.Lain.{Lain}
 use Rattle.laying.specs.Lays.{Fits, Lays, CutAsk, Cuts, RootAsk, LaysRoot}
 use Rattle.laying.proofs.Places.{first}
-use Rattle.laying.proofs.Slots.{slot-size, slot-board}
+use Rattle.laying.proofs.Slots.{slot-size, slot-board, slot-here}
 use Rattle.laying.proofs.Writing.{slot-records}
 
 -- the numbers that the code needs, and what it asks behind the record, of a slot of n nodes on board c
@@ -54,6 +54,7 @@ module _ {u tags p r : List ℕ} {n c : ℕ} (ask : RootAsk u tags p r) (has : H
         rest = ask .rest;
         source = ask .source;
         front = ask .stands .front;
+        here-is = slot-here has (ask .stands);
         tagged = ask .stands .tagged;
         fits =
             subst (λ (i : ℕ). Fits (laid (ask .choose) (ask .hold) (ask .formula) i 1) (first i n) (length p) (length t)) (slot-board has (ask .stands)) room;

@@ -2,6 +2,7 @@
 use mathlib.Core.Path.{_≡_, refl, sym, ap, _∙_, subst}
 use mathlib.Core.Bool.{true, false}
 use mathlib.Core.List.{List}
+use mathlib.Core.Logic.{inl}
 use mathlib.Core.Option.{Option}
 use Prim.Native.Nat.{ℕ, _+_, _-_}
 use native.Mathlib.Omega.{arith}
@@ -16,14 +17,15 @@ use Rattle.ltl.specs.Formula.{Formula, size}
 use Rattle.network.specs.Layout.{Laid, cut, laid}
 use Rattle.cutting.specs.Cuts.{staysOn}
 use Rattle.nodes.proofs.Fronts.{Parts, isZero, parts-as}
-use Rattle.tagging.specs.Packed.{boardIn, aheadIn}
+use Rattle.tagging.specs.Packed.{boardIn, hereIn, aheadIn}
+use Rattle.tagging.specs.Tags.{hereOn}
 use Rattle.tagging.proofs.Packing.{Has}
 use Rattle.laying.specs.declared.Place.{Place}
 use Rattle.laying.specs.Lays.{OnBoard, HeldAt, Source, Fits, CutAsk, LookAsk, SlotAsk}
 use Rattle.laying.proofs.Places.{owned}
 use Rattle.laying.proofs.Sizes.{here-size}
 use Rattle.laying.proofs.Sources.{source-tail}
-use Rattle.laying.proofs.Asking.{looked-stays, looked-cut, fits-as, fits-slot}
+use Rattle.laying.proofs.Asking.{looked-stays, looked-rests, looked-cut, fits-as, fits-slot}
 
 -- ---- a part that is looked at
 module _ {u tags p r : List ℕ} {at : Place} (ask : LookAsk u tags at p r) where
@@ -36,6 +38,7 @@ module _ {u tags p r : List ℕ} {at : Place} (ask : LookAsk u tags at p r) wher
         rest = ask .rest;
         source = ask .source;
         front = ask .front;
+        here-is = ask .tag .here-is (at .board) (inl (refl, looked-rests (ask .source) (ask .front) (ask .tag) (ask .tagged) (at .board) (at .slot) e));
         tagged = ask .tagged;
         fits = subst (λ (x : Laid). Fits x at (length p) (length r)) (looked-stays (ask .source) (ask .front) (ask .tag) (ask .tagged) (at .board) (at .slot) e) (ask .fits);
       }
@@ -62,6 +65,10 @@ slot-size {choose = choose} {hold = hold} {f = f} {board = board} has s o k = sy
 pub slot-board : {u tags : List ℕ} {n c : ℕ} {choose : Formula → Option ℕ} {f : Formula} {rest : List ℕ} {board : ℕ} → Has (getD tags 0 0) n c → OnBoard choose u tags f rest board → board ≡ c
 slot-board has o = sym (o .board-is) ∙ has .board-is
 
+pub slot-here : {u tags : List ℕ} {n c : ℕ} {choose : Formula → Option ℕ} {f : Formula} {rest : List ℕ} {board : ℕ} → Has (getD tags 0 0) n c → OnBoard choose u tags f rest board
+    → hereIn (getD tags 0 0) ≡ hereOn choose f c
+slot-here {choose = choose} {f = f} has o = o .here-is ∙ ap (hereOn choose f) (slot-board has o)
+
 pub slot-asks : {u tags p r : List ℕ} {at : Place} {n c : ℕ} → Has (getD tags 0 0) n c → (ask : SlotAsk u tags at p r) (q t : List ℕ) → length q ≡ length p - at .gap → length t ≡ length r - slotRow
     → CutAsk u tags (owned at c n) q t
 slot-asks {at = at} {n = n} has ask q t e g =
@@ -73,6 +80,7 @@ slot-asks {at = at} {n = n} has ask q t e g =
       rest = ask .rest;
       source = ask .source;
       front = ask .stands .front;
+      here-is = slot-here has (ask .stands);
       tagged = ask .stands .tagged;
       fits =
           subst (λ (c : ℕ). Fits (laid (ask .choose) (ask .hold) (ask .formula) c (at .slot + 1)) (owned at c n) (length q) (length t)) (slot-board has (ask .stands)) (fits-as room e g);

@@ -71,6 +71,7 @@ pub record CutAsk (u tags : List ℕ) (at : Place) (p r : List ℕ) : Type 0 whe
   pub rest : List ℕ
   pub source : Source choose hold u tags
   pub front : Front u formula rest
+  pub here-is : hereIn (getD tags 0 0) ≡ hereOn choose formula (at .board)
   pub tagged : Tagged choose formula tags
   pub fits : Fits (laid choose hold formula (at .board) (at .slot)) at (length p) (length r)
 
@@ -120,8 +121,10 @@ pub record Plain (n : ℕ) (y : Lain) : Type 0 where
   pub slots-none : y .slots ≡ 0
   pub nodes-none : y .nodes ≡ 0
 
-pub record WholeAsk (u p : List ℕ) : Type 0 where
+pub record WholeAsk (u tags p : List ℕ) : Type 0 where
   pub begins : Begins u
+  pub tag : 0 < length tags
+  pub length-is : hereIn (getD tags 0 0) ≡ size (begins .formula)
   pub room : size (begins .formula) ≤ length p
 
 abbrev pub PutsWhole : List ℕ → List ℕ → List ℕ → Lain → Type 0

@@ -58,12 +58,12 @@ pub fn cut_parts(u: &[u8], tags: &[u32], at: Place, p: &mut [u8], r: &mut [u8]) 
         },
         Kind::One(o) => match o {
             Unary::Not => cut_not(u, tags, at, p, r),
-            Unary::Next => put_whole(p, u),
-            Unary::Ever(_) => put_whole(p, u),
+            Unary::Next => put_whole(u, tags, p),
+            Unary::Ever(_) => put_whole(u, tags, p),
         },
         Kind::Two(o) => match o {
             Binary::Joined(_) => cut_pair(u, tags, at, p, r),
-            Binary::Until => put_whole(p, u),
+            Binary::Until => put_whole(u, tags, p),
         },
         // No formula begins with such a byte.
         Kind::NoCode => put_leaf(p, b),
@@ -84,12 +84,12 @@ fn put_leaf(p: &mut [u8], b: u8) -> Lain
     }
 }
 
-// The formula that u begins with, as it stands.
-fn put_whole(p: &mut [u8], u: &[u8]) -> Lain
-    requires { ⌜ WholeAsk (now u) (now p) ⌝ }
+// The formula that u begins with, as it stands: its tag has its length.
+fn put_whole(u: &[u8], tags: &[u32], p: &mut [u8]) -> Lain
+    requires { ⌜ WholeAsk (now u) (now tags) (now p) ⌝ }
     ensures { λ x. ⌜ PutsWhole (now (u .entry)) (now (p .entry)) (now (p .exit)) x ⌝ }
 {
-    let n = nodes::operand_end(u);
+    let n = packed::length_of(tags[0]);
     buffers::copy(p, &u[..n]);
     Lain {
         read: n,

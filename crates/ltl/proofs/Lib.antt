@@ -1,5 +1,6 @@
 -- Laws of the rule language, and the soundness of progression.
 pub mod Equal
 pub mod Decoding
+pub mod Owing
 pub mod Joining
 pub mod Soundness

@@ -12,6 +12,8 @@ use Rattle.kinds.specs.declared.Unary.{Unary}
 use Rattle.kinds.specs.declared.Join.{Join}
 use Rattle.kinds.specs.declared.Binary.{Binary}
 use Rattle.kinds.specs.declared.Binary.the-variants.{Joined}
+use Rattle.kinds.specs.declared.Kind.{Kind}
+use Rattle.kinds.specs.declared.Kind.the-variants.{Zero, One, Two, NoCode}
 use Rattle.kinds.specs.Kinds.{leafCode, unaryCode, joinCode, binaryCode, leafWithin}
 
 pub data Formula : Type 0 where
@@ -92,6 +94,13 @@ unfoldable pub leafOver : ℕ → ℕ → Leaf → Bool
 leafOver p s (Const v) = true
 leafOver p s (Prop i) = ltb i p
 leafOver p s (Hold k) = ltb k s
+
+-- a node of this kind may stand in such a formula
+abbrev pub nodeOver : ℕ → ℕ → Kind → Bool
+nodeOver p s (Zero a) = leafOver p s a
+nodeOver p s (One o) = true
+nodeOver p s (Two o) = true
+nodeOver p s NoCode = false
 
 unfoldable pub over : ℕ → ℕ → Formula → Bool
 over p s (leaf a) = leafOver p s a

@@ -1,3 +1,4 @@
 -- Laws of bytes that begin with a formula, for every walk over them.
 pub mod Fronts
 pub mod Operands
+pub mod Ends

@@ -2,20 +2,16 @@
 ghost use Rattle.nodes.specs.Begins.{Begins, Ends};
 use kinds::Kind;
 
-// The length of the formula that s begins with. Calls itself once per level.
+// The length of the formula that s begins with: one pass, with a count of the operands still owed.
 pub fn operand_end(s: &[u8]) -> usize
     requires { ⌜ Begins (now s) ⌝ }
     ensures { λ r. ⌜ Ends (now (s .entry)) r ⌝ }
 {
-    let k = Kind::of(s[0]);
-    match k {
-        Kind::Zero(_) => 1,
-        Kind::One(_) => 1 + operand_end(&s[1..]),
-        Kind::Two(_) => {
-            let m = 1 + operand_end(&s[1..]);
-            m + operand_end(&s[m..])
-        }
-        // No formula begins with such a byte.
-        Kind::NoCode => 0,
+    let mut owed: usize = 1;
+    let mut i: usize = 0;
+    while 0 < owed {
+        owed = owed - 1 + Kind::operands(Kind::of(s[i]));
+        i += 1;
     }
+    i
 }

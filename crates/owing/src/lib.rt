@@ -1,40 +1,23 @@
 // Whether bytes are one whole formula: one pass with a count of the operands still owed.
 ghost use mathlib.Core.Path.{_≡_};
-ghost use Prim.Native.Nat.{_+_, _<_, _^_};
 ghost use Rattle.ltl.specs.Decode.{isFormula, isRule};
-ghost use Rattle.owing.specs.Scan.{owedAfter};
+ghost use Rattle.ltl.specs.Formula.{nodeOver};
 use kinds::Kind;
 use kinds::Leaf;
 
-// How many operands are still owed behind a node, or that the node may not stand there.
-pub enum Owed {
-    Operands(usize),
-    Broken,
-}
-
-// What is owed behind a node of kind k that was itself owed, with `others` operands owed beside it.
-// Propositions are below p, place holders below h.
-pub fn after(k: Kind, others: usize, p: u64, h: u64) -> Owed
-    requires { ⌜ others + 2 < 2 ^ 64 ⌝ }
-    ensures { λ r. ⌜ r ≡ owedAfter p h k others ⌝ }
+// Whether a node of kind k may stand: propositions are below p, place holders below h.
+pub fn stands(k: Kind, p: u64, h: u64) -> bool
+    ensures { λ r. ⌜ r ≡ nodeOver p h k ⌝ }
 {
     match k {
         Kind::Zero(a) => match a {
-            Leaf::Const(_) => Owed::Operands(others),
-            Leaf::Prop(i) => if (i as u64) < p {
-                Owed::Operands(others)
-            } else {
-                Owed::Broken
-            },
-            Leaf::Hold(m) => if (m as u64) < h {
-                Owed::Operands(others)
-            } else {
-                Owed::Broken
-            },
+            Leaf::Const(_) => true,
+            Leaf::Prop(i) => (i as u64) < p,
+            Leaf::Hold(m) => (m as u64) < h,
         },
-        Kind::One(_) => Owed::Operands(others + 1),
-        Kind::Two(_) => Owed::Operands(others + 2),
-        Kind::NoCode => Owed::Broken,
+        Kind::One(_) => true,
+        Kind::Two(_) => true,
+        Kind::NoCode => false,
     }
 }
 
@@ -48,11 +31,11 @@ pub fn is_formula(s: &[u8], p: u64, h: u64) -> bool
         if owed == 0 {
             return false;
         }
-        let next = after(Kind::of(s[i]), owed - 1, p, h);
-        let Owed::Operands(n) = next else {
+        let k = Kind::of(s[i]);
+        if !stands(k, p, h) {
             return false;
-        };
-        owed = n;
+        }
+        owed = owed - 1 + Kind::operands(k);
         i += 1;
     }
     owed == 0

@@ -18,10 +18,10 @@ use Rattle.kinds.specs.declared.Unary.the-variants.{Not, Next, Ever}
 use Rattle.kinds.specs.declared.Binary.{Binary}
 use Rattle.kinds.specs.declared.Binary.the-variants.{Joined, Until}
 use Rattle.kinds.specs.declared.Kind.{Kind}
-use Rattle.kinds.specs.Kinds.{kindOf, leafCode, unaryCode, binaryCode, leafCoded}
+use Rattle.kinds.specs.Kinds.{kindOf, leafCode, unaryCode, binaryCode, operands}
 use Rattle.kinds.proofs.Codes.{kind-leaf, kind-unary, kind-binary}
-use Rattle.ltl.specs.Formula.{Formula, leaf, one, two, encode, leafOver, over, Coded}
-use Rattle.owing.specs.declared.Owed.the-variants.{Operands, Broken}
+use Rattle.ltl.specs.Formula.{Formula, leaf, one, two, encode, leafOver, nodeOver, over, Coded}
+use Rattle.ltl.proofs.Owing.{Owes, owed-front, tested, pick-both, acts-tested}
 use Rattle.state.specs.Clauses.{heldBy}
 use Rattle.slot_sets.specs.declared.SlotSet.{SlotSet}
 use Rattle.slot_sets.specs.SlotSets.{hasSlot, withSlot}
@@ -31,7 +31,7 @@ use Rattle.scanning.specs.declared.Passed.{Passed}
 use Rattle.scanning.specs.declared.Passed.the-variants.{On, Off}
 use Rattle.scanning.specs.declared.Held.{Held}
 use Rattle.scanning.specs.declared.Held.the-variants.{Slots, Wrong}
-use Rattle.scanning.specs.OnePass.{at, holderOk, leafOutside, outsideAfter, inward, insideAfter, passAfter, goOn, ended, pass, noted}
+use Rattle.scanning.specs.OnePass.{at, holderOk, leafOutside, outsideAfter, insideAfter, passAfter, goOn, ended, pass, noted}
 
 -- ---- what may stand, by the formula
 -- inside next and the temporal operators as in a rule, `over p 0`
@@ -57,11 +57,6 @@ thereafter (Slots x) rest = rest x
 thereafter Wrong rest = Wrong
 
 -- ---- tests, and place holders noted one after the other
-pick-both : {A : Type 0} (a b : Bool) (x y : A) → pick a (pick b x y) y ≡ pick (both a b) x y
-unfolding pick both
-pick-both true b x y = refl
-pick-both false b x y = refl
-
 thereafter-wrong : (h : Held) → thereafter h (λ s. Wrong) ≡ Wrong
 thereafter-wrong (Slots x) = refl
 thereafter-wrong Wrong = refl
@@ -83,11 +78,6 @@ goOn-pick : (b : Bool) (x : Pass) (h : Pass → Held) → goOn (pick b (On x) Of
 unfolding pick
 goOn-pick true x h = refl
 goOn-pick false x h = refl
-
-goOn-inward : (b : Bool) (n m : ℕ) (seen : SlotSet) (h : Pass → Held) → goOn (inward (pick b (Operands m) Broken) n seen) h ≡ pick b (h (at n m seen)) Wrong
-unfolding pick
-goOn-inward true n m seen h = refl
-goOn-inward false n m seen h = refl
 
 pub noted-append : (xs ys : List ℕ) (seen : SlotSet) → noted (xs ++ ys) seen ≡ thereafter (noted xs seen) (λ s. noted ys s)
 unfolding noted pick
@@ -117,39 +107,22 @@ pub pass-ends : (a : Allowed) (seen : SlotSet) → pass a [] (at 0 0 seen) ≡ S
 unfolding pass ended pick
 pass-ends a seen = refl
 
--- ---- a formula in front, inside
-cons-inside : (a : Allowed) (b n m : ℕ) (seen : SlotSet) (l : List ℕ) → pass a (b ∷ l) (at n (suc m) seen) ≡ goOn (insideAfter (a .propositions) (kindOf b) m n seen) (λ y. pass a l y)
-cons-inside a b n m seen l = pass-cons a b l (at n (suc m) seen) ∙ ap (λ (x : Passed). goOn x (λ y. pass a l y)) (after-inside a (kindOf b) n m seen)
+-- ---- a formula in front, inside: by the law of the operands owed
+inside-owes : (a : Allowed) (n : ℕ) (seen : SlotSet) → Owes (tested (a .propositions) 0 Wrong) (λ l m. pass a l (at n m seen))
+inside-owes a n seen = record {
+  turn = λ b m l.
+      pass-cons a b l (at n (suc m) seen)
+      ∙ ap (λ (x : Passed). goOn x (λ y. pass a l y)) (after-inside a (kindOf b) n m seen)
+      ∙ goOn-pick (nodeOver (a .propositions) 0 (kindOf b)) (at n (m + operands (kindOf b)) seen) (λ y. pass a l y);
+}
 
-inside-leaf : (a : Allowed) (v : Leaf) (n m : ℕ) (seen : SlotSet) (l : List ℕ) → leafCoded v
-    → pass a (leafCode v ∷ l) (at n (suc m) seen) ≡ pick (leafOver (a .propositions) 0 v) (pass a l (at n m seen)) Wrong
-unfolding pick leafOver
-inside-leaf a (Const v) n m seen l c = cons-inside a (leafCode (Const v)) n m seen l ∙ rw (kind-leaf (Const v) tt)
-inside-leaf a (Prop i) n m seen l c = cons-inside a (leafCode (Prop i)) n m seen l ∙ rw (kind-leaf (Prop i) c) (goOn-inward (ltb i (a .propositions)) n m seen (λ y. pass a l y))
-inside-leaf a (Hold k) n m seen l c = cons-inside a (leafCode (Hold k)) n m seen l ∙ rw (kind-leaf (Hold k) c) (goOn-inward (ltb k 0) n m seen (λ y. pass a l y))
+pass-inside : (a : Allowed) (f : Formula) (n m : ℕ) (seen : SlotSet) (l : List ℕ) → Coded f
+    → pass a (encode f ++ l) (at n (suc m) seen) ≡ pick (over (a .propositions) 0 f) (pass a l (at n m seen)) Wrong
+pass-inside a f n m seen l c = owed-front (inside-owes a n seen) f m l c ∙ acts-tested (a .propositions) 0 Wrong f (pass a l (at n m seen))
 
 over-two : (p s : ℕ) (o : Binary) (f g : Formula) → over p s (two o f g) ≡ both (over p s f) (over p s g)
 unfolding over
 over-two p s o f g = refl
-
-over-one : (p s : ℕ) (o : Unary) (f : Formula) → over p s (one o f) ≡ over p s f
-unfolding over
-over-one p s o f = refl
-
-over-leaf : (p s : ℕ) (v : Leaf) → over p s (leaf v) ≡ leafOver p s v
-unfolding over
-over-leaf p s v = refl
-
-pass-inside : (a : Allowed) (f : Formula) (n m : ℕ) (seen : SlotSet) (l : List ℕ) → Coded f
-    → pass a (encode f ++ l) (at n (suc m) seen) ≡ pick (over (a .propositions) 0 f) (pass a l (at n m seen)) Wrong
-pass-inside a (leaf v) n m seen l c = inside-leaf a v n m seen l c ∙ rw (over-leaf (a .propositions) 0 v)
-pass-inside a (one o f) n m seen l c = cons-inside a (unaryCode o) n m seen (encode f ++ l) ∙ rw (kind-unary o, add-one, over-one (a .propositions) 0 o f) (pass-inside a f n m seen l c)
-pass-inside a (two o f g) n m seen l c =
-    let p = a .propositions in
-    let e : m + 2 ≡ suc (suc m) = omega arith in
-    cons-inside a (binaryCode o) n m seen ((encode f ++ encode g) ++ l)
-    ∙ rw (kind-binary o, e, append-assoc (encode f) (encode g) l, over-two p 0 o f g)
-    (pass-inside a f n (suc m) seen (encode g ++ l) (c .0) ∙ ap (λ (h : Held). pick (over p 0 f) h Wrong) (pass-inside a g n m seen l (c .1)) ∙ pick-both (over p 0 f) (over p 0 g) (pass a l (at n m seen)) Wrong)
 
 -- no place holder stands inside
 inside-holds-none : (p : ℕ) (f : Formula) → over p 0 f ≡ true → heldBy f ≡ []

@@ -15,10 +15,8 @@ use Rattle.kinds.specs.declared.Binary.{Binary}
 use Rattle.kinds.specs.declared.Binary.the-variants.{Joined, Until}
 use Rattle.kinds.specs.declared.Kind.{Kind}
 use Rattle.kinds.specs.declared.Kind.the-variants.{Zero, One, Two, NoCode}
-use Rattle.kinds.specs.Kinds.{kindOf}
-use Rattle.owing.specs.declared.Owed.{Owed}
-use Rattle.owing.specs.declared.Owed.the-variants.{Operands, Broken}
-use Rattle.owing.specs.Scan.{owedAfter}
+use Rattle.kinds.specs.Kinds.{kindOf, operands}
+use Rattle.ltl.specs.Formula.{nodeOver}
 use Rattle.slot_sets.specs.declared.SlotSet.{SlotSet}
 use Rattle.slot_sets.specs.SlotSets.{hasSlot, withSlot}
 use Rattle.scanning.specs.declared.Allowed.{Allowed}
@@ -64,12 +62,8 @@ outsideAfter a (Two o) n seen = binaryOutside (a .temporal) o n seen
 outsideAfter a NoCode n seen = Off
 
 -- ---- behind a node inside: a rule's nodes alone, with m operands owed inside beside it and n outside
-abbrev pub inward : Owed → ℕ → SlotSet → Passed
-inward (Operands m) n seen = On (at n m seen)
-inward Broken n seen = Off
-
 abbrev pub insideAfter : ℕ → Kind → ℕ → ℕ → SlotSet → Passed
-insideAfter p k m n seen = inward (owedAfter p 0 k m) n seen
+insideAfter p k m n seen = pick (nodeOver p 0 k) (On (at n (m + operands k) seen)) Off
 
 -- ---- the pass: operands inside come first, and a node stands where one is owed
 unfoldable pub passAfter : Allowed → Kind → Pass → Passed

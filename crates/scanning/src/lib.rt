@@ -8,7 +8,6 @@ use kinds::Binary;
 use kinds::Kind;
 use kinds::Leaf;
 use kinds::Unary;
-use owing::Owed;
 use slot_sets::SlotSet;
 use slot_sets::has_slot;
 use slot_sets::with_slot;
@@ -155,15 +154,14 @@ fn inside(k: Kind, p: u64, others: usize, outer: usize, seen: SlotSet) -> Passed
     requires { ⌜ others + 2 < 2 ^ 64 ⌝ }
     ensures { λ r. ⌜ r ≡ insideAfter p k others outer seen ⌝ }
 {
-    let owed = owing::after(k, others, p, 0);
-    match owed {
-        Owed::Operands(n) => Passed::On(Pass {
+    if owing::stands(k, p, 0) {
+        return Passed::On(Pass {
             outer: outer,
-            inner: n,
+            inner: others + Kind::operands(k),
             seen: seen,
-        }),
-        Owed::Broken => Passed::Off,
+        });
     }
+    Passed::Off
 }
 
 // One node further.
