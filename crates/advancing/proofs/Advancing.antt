@@ -23,7 +23,7 @@ use Rattle.state.proofs.Forms.{form-at, slots-few, nodes-few}
 use Rattle.state.proofs.Listed.{masks-length}
 use Rattle.scores.specs.Owned.{Owns}
 use Rattle.storing.specs.Stores.{LaidCounts, StateAsk, Stores}
-use Rattle.opening.proofs.Opened.{opened-sized}
+use Rattle.records.proofs.Opened.{opened-sized}
 use Rattle.checked.proofs.Passing.{passing}
 use Rattle.counting.specs.declared.Totals as counted
 use Rattle.counting.specs.OpenedWith.{OpenedWith}

@@ -13,7 +13,7 @@ use Rattle.state.specs.Fields.{ticksIn, masksIn}
 use Rattle.state.specs.Bytes.{nodesOf, stateOf}
 use Rattle.state.specs.Calls.{nextIn}
 use Rattle.storing.specs.Stores.{LaidCounts}
-use Rattle.opening.specs.Opening.{Opened}
+use Rattle.state.specs.Opened.{Opened}
 use Rattle.counting.specs.OpenedWith.{OpenedWith}
 
 -- the state after the close

@@ -73,7 +73,7 @@ pub fn central(formula: &[u8], event: u64, output: &mut [u8]) -> CentralAnswer
     if !owing::is_rule(formula, PROPOSITIONS_MOST as u64) {
         return CentralAnswer::Refused(Refusal::Formula);
     }
-    let unfolded = unfolding::count_unfolded(formula);
+    let unfolded = sizing::count_unfolded(formula);
     if CENTRAL_NODES_MOST < unfolded.written {
         return CentralAnswer::Refused(Refusal::Nodes);
     }

@@ -5,7 +5,7 @@ ghost use lib.ListN.{length};
 ghost use Rattle.state.specs.Form.{formIn, stateLength};
 ghost use Rattle.state.specs.Calls.{finishedIn};
 ghost use Rattle.state.specs.Counted.{Sized};
-ghost use Rattle.opening.specs.Opening.{Opened};
+ghost use Rattle.state.specs.Opened.{Opened};
 ghost use Rattle.closing.specs.Close.{Closes};
 ghost use Rattle.closing.specs.Done.{allSampled, allStepped};
 use answers::Outcome;

@@ -21,7 +21,7 @@ use Rattle.state.specs.Clauses.{heldBy}
 use Rattle.state.specs.Bytes.{formulaAt}
 use Rattle.state.specs.Calls.{readyIn}
 use Rattle.state.specs.Counted.{Spans}
-use Rattle.checking.proofs.Records.{byte-at}
+use Rattle.records.proofs.Opened.{byte-at}
 use Rattle.checked.proofs.Passing.{SlotPassing}
 use Rattle.central.specs.Progressing.{verdictByte}
 use Rattle.central.proofs.Progresses.{verdict-first, first-of}

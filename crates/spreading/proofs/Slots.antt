@@ -15,7 +15,7 @@ use Rattle.state.specs.Bytes.{formulaAt}
 use Rattle.nodes.specs.Begins.{Front, Begins}
 use Rattle.nodes.proofs.Fronts.{front-length}
 use Rattle.scores.specs.Owned.{Table}
-use Rattle.unfolding.specs.declared.Walk.{Walk}
+use Rattle.sizing.specs.declared.Walk.{Walk}
 use Rattle.unfolding.specs.Unfolds.{UnfoldAsk, Unfolds, UnfoldedTo}
 use Rattle.unfolding.proofs.Fronts.{written-bytes, written-front}
 use Rattle.tagging.specs.declared.TaggedPart as tag

@@ -2,7 +2,7 @@
 use mathlib.Core.Path.{sym, ap}
 use Prim.Native.Nat.{ℕ, _+_}
 use lib.Seq.{length-take-le}
-use Rattle.opening.proofs.Opened.{opened-sized}
+use Rattle.records.proofs.Opened.{opened-sized}
 use Rattle.advancing.proofs.Advancing.{spread-ask, state-ask, next-put}
 use borrow.Author.Needs.{needs}
 use Rattle.advancing.proofs.put_next.Statement.{statement}
