@@ -1,4 +1,3 @@
--- Laws of a rule's layout, of the first state, and of what `begin` answers.
-pub mod Rules
-pub mod Firsts
+-- Laws of a rule's layout by what was counted, and of what `begin` answers.
+pub mod Layouts
 pub mod Outcomes

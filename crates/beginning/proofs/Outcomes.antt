@@ -20,8 +20,9 @@ use Rattle.state.proofs.Forms.{nodes-few}
 use Rattle.state.specs.Bytes.{nodesOf}
 use Rattle.state.specs.Calls.{firstOf, loadedState}
 use Rattle.cutting.specs.declared.LaidPart.{LaidPart}
-use Rattle.beginning.specs.Beginning.{RuleGiven, beginSays}
-use Rattle.beginning.proofs.Rules.{Cut, LayoutFits, first-slots, first-nodes}
+use Rattle.starting.specs.Starting.{RuleGiven}
+use Rattle.beginning.specs.Beginning.{beginSays}
+use Rattle.beginning.proofs.Layouts.{Cut, LayoutFits, first-slots, first-nodes}
 
 -- so much is answered of a rule, and so much left of the state
 abbrev Ends : List ℕ → Formula → List ℕ → List ℕ → Said → Type 0

@@ -1,11 +1,10 @@
-// A watch begun with a rule that was read: its layout is counted as the rule stands, and only where it is within the limits the rule is
-// unfolded, tagged and laid out into the state.
+// A watch begun with a rule that was read: its layout is counted as the rule stands, and only where it is within the limits the first
+// state is put.
 ghost use mathlib.Core.Path.{_≡_};
 ghost use lib.Dec.{eqb};
 ghost use Rattle.lists.specs.Tests.{pick};
 ghost use Rattle.limits.specs.Limits.{boardsMost};
-ghost use Rattle.state.specs.Form.{formIn};
-ghost use Rattle.beginning.specs.Beginning.{FirstAsk, Firsts, BeginAsk, Begun};
+ghost use Rattle.beginning.specs.Beginning.{BeginAsk, Begun};
 use answers::Outcome;
 use answers::Refusal;
 use cutting::STAYS;
@@ -18,26 +17,6 @@ fn first_board(choice: u8) -> u8
     ensures { λ r. ⌜ r ≡ pick (eqb choice boardsMost) 0 choice ⌝ }
 {
     if choice == STAYS { 0 } else { choice }
-}
-
-// Unfolds the rule into u, tags it on its board, and lays it out into the state.
-fn put_first(
-    state: &mut [u8],
-    masks: &[u64],
-    rule: &[u8],
-    owner: &[u8],
-    board: u8,
-    slots: usize,
-    nodes: usize,
-    u: &mut [u8],
-    tags: &mut [u32],
-)
-    requires { ⌜ FirstAsk (now state) (now masks) (now rule) (now owner) board slots nodes (now u) (now tags) ⌝ }
-    ensures { λ _. ⌜ Firsts (formIn (now (state .entry))) (now (masks .entry)) (now (rule .entry)) (now (state .exit)) ⌝ }
-{
-    let n = unfolding::unfold_into(u, rule).written;
-    tagging::tag(&u[..n], tags, owner, board);
-    storing::put_state(state, masks, slots, nodes, 0, &u[..n], tags);
 }
 
 // Begins a watch with a rule that was read: 7 and 8 by the whole layout, however large, then its state.
@@ -60,7 +39,7 @@ pub fn begin(masks: &[u64], rule: &[u8], state: &mut [u8]) -> Outcome
     let board = first_board(part.choice);
     let mut u = [0u8; NODES_ROOM];
     let mut tags = [0u32; NODES_ROOM];
-    put_first(
+    starting::put_first(
         state,
         masks,
         rule,

@@ -22,7 +22,8 @@ use Rattle.ltl.specs.Progression.{unfolded, resolved, progressed, verdictOf, fi
 use Rattle.ltl.proofs.Decoding.{unfolded-coded}
 use Rattle.nodes.specs.Begins.{Front, Begins}
 use Rattle.slot_sets.proofs.SlotSets.{none-has}
-use Rattle.resolving.specs.Settles.{heldBy, eventAlone, settled, Rewritten}
+use Rattle.resolving.specs.Settles.{heldBy, eventAlone, settled}
+use Rattle.rewriting.specs.Rewritten.{Rewritten}
 use Rattle.joining.proofs.Firsts.{first, first-is, unary-high, binary-high}
 use Rattle.unfolding.specs.Unfolds.{UnfoldedTo}
 use Rattle.central.specs.Progressing.{verdictByte}

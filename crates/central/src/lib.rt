@@ -53,7 +53,7 @@ fn progress_into(output: &mut [u8], formula: &[u8], event: u64) -> usize
 {
     unfolding::unfold_into(output, formula);
     let none = no_slots();
-    resolving::rewrite(
+    rewriting::rewrite(
         output,
         Seen {
             event: event,

@@ -32,7 +32,8 @@ use Rattle.rules.proofs.ReadOutcomes.{ReadPassed, read-passed}
 use Rattle.rules.specs.RuleFile.{version, fileFormulaAt, countsOk, versionInFile, boardsInFile, propositionsInFile, nodesInFile, maskInFile, masksInFile, formulaInFile}
 use Rattle.rules.specs.Read.{offsetsOk, readSays, Reads}
 use Rattle.rules.specs.Read as read
-use Rattle.beginning.specs.Beginning.{RuleGiven, beginSays, BeginAsk, Begun}
+use Rattle.starting.specs.Starting.{RuleGiven}
+use Rattle.beginning.specs.Beginning.{beginSays, BeginAsk, Begun}
 use Rattle.loading.specs.Load.{ruleIn, loadLengthsOk, loadSays, LoadsRule}
 
 -- a list of checks that refuses, with more checks behind it

@@ -21,7 +21,8 @@ use Rattle.state.specs.Opened.{Opened}
 use Rattle.checked.proofs.Lying.{slot-passing, lying, lent-is}
 use Rattle.checked.proofs.Stepping.{result-fits, result-room}
 use Rattle.resolving.specs.declared.Seen.{Seen}
-use Rattle.resolving.specs.Settles.{heldBy, settled, Rewritten}
+use Rattle.resolving.specs.Settles.{heldBy, settled}
+use Rattle.rewriting.specs.Rewritten.{Rewritten}
 use Rattle.settling.specs.Putting.{steppedAs}
 
 -- ---- slot k of the state s, its nodes from `from` up to `to`, and m, where it is marked

@@ -15,6 +15,6 @@ pub fn put_stepped(s: &mut [u8], c: Counts, k: usize, seen: Seen)
 {
     let Span { from, to } = state::span_of(s, c, k);
     state::put_mark(s, c, k);
-    let n = resolving::rewrite(&mut s[from..to], seen);
+    let n = rewriting::rewrite(&mut s[from..to], seen);
     state::put_length(s, c, k, n as u16);
 }

@@ -5,9 +5,9 @@ use Rattle.state.specs.Form.{formIn, slotsMost, nodesMost}
 use Rattle.limits.specs.Limits.{propositionsMost}
 use Rattle.ltl.specs.Formula.{Formula}
 use Rattle.scores.proofs.Added.{zeros-few}
-use Rattle.beginning.specs.Beginning.{RuleGiven}
-use Rattle.beginning.proofs.Rules.{Cut, LayoutFits, cuts-few}
-use Rattle.beginning.proofs.Firsts.{whole-begins, first-ask}
+use Rattle.starting.specs.Starting.{RuleGiven}
+use Rattle.starting.proofs.Firsts.{whole-begins}
+use Rattle.beginning.proofs.Layouts.{Cut, LayoutFits, cuts-few, first-ask}
 use Rattle.beginning.proofs.Outcomes.{begun-slots, begun-nodes, begun-done}
 use native.Mathlib.Omega.{arith}
 use borrow.Author.Needs.{needs}

@@ -1,6 +1,6 @@
 -- Board 0 stands in for no choice. Assumes nothing.
 use mathlib.Core.Path.{sym}
-use Rattle.beginning.proofs.Rules.{board-none, board-some}
+use Rattle.beginning.proofs.Layouts.{board-none, board-some}
 use Rattle.beginning.proofs.first_board.Statement.{statement}
 use Rattle.beginning.proofs.first_board.Tie as tie
 
