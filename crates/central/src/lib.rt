@@ -2,7 +2,7 @@
 // output, and one resolves it there.
 ghost use mathlib.Core.Path.{_≡_};
 ghost use Rattle.central.specs.Central.{centralLengthsOk, Centrally};
-ghost use Rattle.central.specs.Progressing.{verdictByte, Progressable, ProgressedTo};
+ghost use Rattle.central.specs.Progressing.{Progressable, ProgressedTo};
 use answers::Refusal;
 use answers::Verdict;
 use limits::CENTRAL_NODES_MOST;
@@ -31,19 +31,6 @@ fn lengths_ok(formula: usize, output: usize) -> bool
         return false;
     }
     output == CENTRAL_NODES_MOST
-}
-
-// The verdict of the formula whose first byte is b.
-pub fn verdict(b: u8) -> Verdict
-    ensures { λ r. ⌜ r ≡ verdictByte b ⌝ }
-{
-    if b == 0 {
-        return Verdict::False;
-    }
-    if b == 1 {
-        return Verdict::True;
-    }
-    Verdict::Pending
 }
 
 // Progresses the formula into the output, zero past the result, and answers the result's length.
@@ -79,7 +66,7 @@ pub fn central(formula: &[u8], event: u64, output: &mut [u8]) -> CentralAnswer
     }
     let n = progress_into(output, formula, event);
     CentralAnswer::Progressed(Progress {
-        verdict: verdict(output[0]),
+        verdict: verdicts::verdict(output[0]),
         length: n,
     })
 }

@@ -27,7 +27,7 @@ fn answer_of(s: &[u8], c: Counts, m: usize) -> Verdict
     ensures { λ r. ⌜ r ≡ answerIn (now (s .entry)) m ⌝ }
 {
     let first = state::span_of(s, c, m).from;
-    central::verdict(s[first])
+    verdicts::verdict(s[first])
 }
 
 // What is seen once slot m is seen to be v.

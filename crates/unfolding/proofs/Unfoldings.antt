@@ -13,7 +13,7 @@ use Rattle.kinds.specs.declared.Leaf.{Leaf}
 use Rattle.kinds.specs.declared.Unary.the-variants.{Not, Next, Ever}
 use Rattle.kinds.specs.declared.Join.{Join}
 use Rattle.kinds.specs.declared.Binary.the-variants.{Joined, Until}
-use Rattle.kinds.specs.declared.Kind.the-variants.{Zero, One, Two}
+use Rattle.kinds.specs.declared.Kind.the-variants.{Zero, Two}
 use Rattle.kinds.specs.Kinds.{kindOf, leafCode, joinCode}
 use Rattle.ltl.specs.Formula.{Formula, one, two, size, encode}
 use Rattle.ltl.specs.Progression.{unfolded}
@@ -72,31 +72,29 @@ not-done {s} {rest} x u =
     rw (x .same) (record { reads = ap (1 +_) (y .reads); writes = y .writes; leaves = rw b at (y .leaves) })
 
 -- ---- next
-module _ {out s : List ℕ} (p : UnfoldAsk out s × (kindOf (getD s 0 0) ≡ One Next)) {n : ℕ} (u : Ends s n) where
-  pub next-within : n ≤ length s
-  next-within =
-      let e = u _ _ (p .0 .begins .front) in
-      let l = front-length _ _ _ (p .0 .begins .front) in
-      omega arith
+pub ends-within : {s : List ℕ} (b : Begins s) {n : ℕ} → Ends s n → n ≤ length s
+ends-within {s} b u =
+    let e = u _ _ (b .front) in
+    let l = front-length _ _ _ (b .front) in
+    omega arith
 
-  pub next-fits : length (take n s) ≤ length out
-  next-fits =
-      let b = p .0 .begins in
-      let x = one-of (b .front) refl (p .1) in
-      let r : size (unfolded (one Next (x .operand))) ≤ length out = subst (λ (f : Formula). size (unfolded f) ≤ length out) (x .same) (p .0 .room) in
-      let e = u _ _ (b .front) in
-      let z = ap size (x .same) in
-      let t = length-take-le n s next-within in
-      omega arith
+pub next-fits : {out s : List ℕ} (p : UnfoldAsk out s) → Single s (p .begins .rest) (p .begins .formula) Next → {n : ℕ} → Ends s n → length (take n s) ≤ length out
+next-fits {out} {s} p x {n} u =
+    let b = p .begins in
+    let r : size (unfolded (one Next (x .operand))) ≤ length out = subst (λ (f : Formula). size (unfolded f) ≤ length out) (x .same) (p .room) in
+    let e = u _ _ (b .front) in
+    let z = ap size (x .same) in
+    let t = length-take-le n s (ends-within b u) in
+    omega arith
 
-  pub next-done : {last : List ℕ} → last ≡ take n s ++ drop (length (take n s)) out → Unfolds out s last n n
-  next-done h f rest y =
-      let x = one-of y refl (p .1) in
-      let e = u f rest y in
-      let o : unfolded f ≡ f = ap unfolded (x .same) ∙ sym (x .same) in
-      let t : take n s ≡ encode f = ap (λ (i : ℕ). take i s) e ∙ front-own s f rest y in
-      let l : length (take n s) ≡ size f = ap length t ∙ length-encode f in
-      record { reads = e; writes = e ∙ sym (ap size o); leaves = rw (o, ← t) (rw l at h) }
+pub next-done : {s rest : List ℕ} {f : Formula} → Front s f rest → Single s rest f Next → {out last : List ℕ} {n : ℕ} → Ends s n
+    → last ≡ take n s ++ drop (length (take n s)) out → UnfoldedTo f out last n n
+next-done {s} {rest} {f} y x {out} {n = n} u h =
+    let e = u f rest y in
+    let o : unfolded f ≡ f = ap unfolded (x .same) ∙ sym (x .same) in
+    let t : take n s ≡ encode f = ap (λ (i : ℕ). take i s) e ∙ front-own s f rest y in
+    let l : length (take n s) ≡ size f = ap length t ∙ length-encode f in
+    record { reads = e; writes = e ∙ sym (ap size o); leaves = rw (o, ← t) (rw l at h) }
 
 -- a formula as it stands, under next
 under-next : {s rest : List ℕ} {f : Formula} (n : ℕ) (out : List ℕ) {last : List ℕ} → Front s f rest → n ≡ size f

@@ -4,8 +4,7 @@ ghost use mathlib.Core.Path.{_≡_};
 ghost use mathlib.Core.List.{_∷_, _++_};
 ghost use Prim.Native.Nat.{_+_, _≤_};
 ghost use lib.ListN.{length, getD, drop};
-ghost use Rattle.kinds.specs.declared.Kind.the-variants.{One, Two};
-ghost use Rattle.kinds.specs.declared.Unary.the-variants.{Next};
+ghost use Rattle.kinds.specs.declared.Kind.the-variants.{Two};
 ghost use Rattle.kinds.specs.declared.Binary.the-variants.{Until};
 ghost use Rattle.kinds.specs.Kinds.{kindOf};
 ghost use Rattle.unfolding.specs.Unfolds.{UnfoldAsk, Unfolds, BehindAsk, UnfoldsBehind, Repeated, Both};
@@ -38,7 +37,14 @@ pub fn unfold_into(out: &mut [u8], s: &[u8]) -> Walk
                     written: a.written,
                 }
             }
-            Unary::Next => copy_next(out, s),
+            Unary::Next => {
+                let n = nodes::operand_end(s);
+                buffers::copy(out, &s[..n]);
+                Walk {
+                    read: n,
+                    written: n,
+                }
+            }
             Unary::Ever(j) => unfold_ever(out, s, Join::code(j)),
         },
         Kind::Two(o) => match o {
@@ -73,19 +79,6 @@ fn put_next(out: &mut [u8], f: &[u8])
 {
     out[0] = Kind::NEXT;
     buffers::copy(&mut out[1..], f);
-}
-
-// Next: the formula as it stands.
-fn copy_next(out: &mut [u8], s: &[u8]) -> Walk
-    requires { ⌜ UnfoldAsk (now out) (now s) × (kindOf (getD (now s) 0 0) ≡ One Next) ⌝ }
-    ensures { λ r. ⌜ Unfolds (now (out .entry)) (now (s .entry)) (now (out .exit)) (r .read) (r .written) ⌝ }
-{
-    let n = nodes::operand_end(s);
-    buffers::copy(out, &s[..n]);
-    Walk {
-        read: n,
-        written: n,
-    }
 }
 
 // Eventually or always: the join, the operand unfolded, and the whole under next.

@@ -14,7 +14,7 @@ use Rattle.kinds.specs.declared.Unary.the-variants.{Not}
 use Rattle.kinds.specs.declared.Kind.the-variants.{One, Two}
 use Rattle.nodes.proofs.Fronts.{Single, Double, parts-as, no-code, begins-some}
 use Rattle.nodes.proofs.Operands.{one-of, two-of, single-as, double-as}
-use Rattle.unfolding.proofs.Unfoldings.{Bounded, behind-done, room-some, leaf-done, room-not, not-done, ever, room-ever, ever-made, ever-done, both-of, both, room-both, first-made, room-second, both-made, both-done, until, left-begins, until-end, room-right, right-made, room-left, until-made, until-done}
+use Rattle.unfolding.proofs.Unfoldings.{Bounded, behind-done, room-some, leaf-done, room-not, not-done, ends-within, next-fits, next-done, ever, room-ever, ever-made, ever-done, both-of, both, room-both, first-made, room-second, both-made, both-done, until, left-begins, until-end, room-right, right-made, room-left, until-made, until-done}
 use Rattle.unfolding.proofs.unfold_behind.Reads as unfold-behind
 use Rattle.unfolding.proofs.unfold_behind.Kinds as behind-kinds
 use Rattle.unfolding.proofs.+unfold_behind+unfold_both+unfold_ever+unfold_into+unfold_until.Lts-unfold_behind as behind-lts
@@ -33,7 +33,7 @@ use Rattle.unfolding.proofs.+unfold_behind+unfold_both+unfold_ever+unfo
 use Rattle.kinds.proofs.Kind.of.Reads as of-reads
 use Rattle.kinds.proofs.Join.code.Reads as code-reads
 use Rattle.nodes.proofs.operand_end.Reads as operand-end-reads
-use Rattle.unfolding.proofs.copy_next.Reads as copy-next-reads
+use Rattle.buffers.proofs.copy.Reads as copy-reads
 use Rattle.unfolding.proofs.put_next.Reads as put-next-reads
 use Rattle.unfolding.proofs.+unfold_behind+unfold_both+unfold_ever+unfold_into+unfold_until.{statement}
 use Rattle.unfolding.proofs.+unfold_behind+unfold_both+unfold_ever+unfold_into+unfold_until.Tie.{close}
@@ -95,7 +95,7 @@ module _ (t : ℕ) where
   ever-calls = (behind-below, unfold-behind.Post, put-next-reads.Asked, put-next-reads.Learnt)
 
   abbrev into-calls : into-lts.Claims
-  into-calls = (of-reads.Asked, of-reads.Learnt, behind-below, unfold-behind.Post, copy-next-reads.Asked, copy-next-reads.Learnt, code-reads.Asked, code-reads.Learnt, ever-below, unfold-ever.Post, both-below, unfold-both.Post, until-below, unfold-until.Post)
+  into-calls = (of-reads.Asked, of-reads.Learnt, behind-below, unfold-behind.Post, operand-end-reads.Asked, operand-end-reads.Learnt, copy-reads.Asked, copy-reads.Learnt, code-reads.Asked, code-reads.Learnt, ever-below, unfold-ever.Post, both-below, unfold-both.Post, until-below, unfold-until.Post)
 
   abbrev until-calls : until-lts.Claims
   until-calls = (operand-end-reads.Asked, operand-end-reads.Learnt, behind-below, unfold-behind.Post, put-next-reads.Asked, put-next-reads.Learnt)
@@ -248,7 +248,11 @@ pub +unfold-behind+unfold-both+unfold-ever+unfold-into+unfold-until-spec : {M : 
     (λ c. let x = under-not t (c .before .before .before .before .before .before) in
     let y = c .before .before .before .unfold-behind .ensures _ _ (x .front) in omega arith)
     (λ c. search needs)
-    (λ c κs. let k = c .before .before .before in (one-start t k .pre .1, under-one t k .kind ∙ ap One (c .before .enum-told3 .given .1)))
+    (λ c κs. one-start t (c .before .before) .pre .1 .begins)
+    (λ c. let p = one-start t (c .before .before .before .before .before) .pre .1 in
+    sym (length-take-le _ _ (ends-within (p .begins) (c .before .before .operand-end .ensures))))
+    (λ c κs. let k = c .before .before .before .before .before in let p = one-start t k .pre .1 in
+    next-fits p (single-as (under-one t k) (c .before .before .before .enum-told3 .given .1) (p .begins .front)) (c .before .before .operand-end .ensures))
     (λ c. search needs)
     (λ c κs. tt)
     (λ c κs. let d = c .before .before .before .before .before in let p = one-start t d .pre .1 in
@@ -266,7 +270,8 @@ pub +unfold-behind+unfold-both+unfold-ever+unfold-into+unfold-until-spec : {M : 
     (λ c f rest y. let b = c .before .before .before .before .before .before in
     not-done (single-as (under-one t (b .before .before)) (b .enum-told2 .given .1) y) (c .before .before .before .unfold-behind .ensures))
     (λ c. omega arith)
-    (λ c. c .before .before .copy-next .ensures)
+    (λ c f rest y. let b = c .before .before .before .before .before .before in
+    next-done y (single-as (under-one t (b .before .before)) (b .enum-told3 .given .1) y) (c .before .before .before .before .before .operand-end .ensures) (c .before .before .copy .ensures))
     (λ c. omega arith)
     (λ c. c .before .before .unfold-ever .ensures)
     (λ c. omega arith)

@@ -1,9 +1,9 @@
 -- The tests in the order of the definition. Assumes nothing.
 use borrow.Author.Tests.{ne-eqb}
 use Rattle.lists.specs.Tests.{pick}
-use Rattle.central.specs.Progressing.{verdictByte}
-use Rattle.central.proofs.verdict.Statement.{statement}
-use Rattle.central.proofs.verdict.Tie as tie
+use Rattle.verdicts.specs.Verdicts.{verdictByte}
+use Rattle.verdicts.proofs.verdict.Statement.{statement}
+use Rattle.verdicts.proofs.verdict.Tie as tie
 
 returns : tie.Need-returns
 unfolding verdictByte pick

@@ -6,11 +6,11 @@ use lib.ListN.{length}
 use lib.Seq.{length-take-le}
 use Rattle.checked.proofs.Lying.{Lying}
 use Rattle.counting.proofs.Slots.{slot-numbers}
-use Rattle.spreading.proofs.Slots.{unfold-ask, written-is, tag-ask, slot-put}
+use Rattle.carrying.proofs.Slots.{unfold-ask, written-is, tag-ask, slot-put}
 use native.Mathlib.Omega.{arith}
 use borrow.Author.Needs.{needs}
-use Rattle.spreading.proofs.put_slot.Statement.{statement}
-use Rattle.spreading.proofs.put_slot.Tie as tie
+use Rattle.carrying.proofs.put_slot.Statement.{statement}
+use Rattle.carrying.proofs.put_slot.Tie as tie
 
 -- the places: the slot's bytes are known, they are unfolded, what was written is lent to be tagged
 abbrev entry : tie.After-span-of → tie.Start

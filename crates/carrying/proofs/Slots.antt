@@ -23,8 +23,8 @@ use Rattle.tagging.specs.Tags.{hereOn, Tagging}
 use Rattle.laying.proofs.Boarding.{on-board}
 use Rattle.state.specs.Counted.{Spans}
 use Rattle.counting.proofs.Slots.{slot-numbers, lent-front}
-use Rattle.spreading.specs.Spreads.{unfoldedAt, PutSlotAsk, PutsSlot}
-use Rattle.spreading.proofs.Room.{slot-within}
+use Rattle.carrying.specs.Carries.{unfoldedAt, PutSlotAsk, PutsSlot}
+use Rattle.carrying.proofs.Coded.{slot-within}
 
 module _ {s : List ℕ} {c : Counts} {m : ℕ} {owner u tags : List ℕ} (ask : PutSlotAsk s c m owner u tags) where
   there : m < slotsIn s
