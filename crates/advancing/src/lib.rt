@@ -1,7 +1,6 @@
-// A tick that is done is closed: the network is laid out again into a second buffer. Its slots and nodes are counted first, and only
-// where they are within the limits it is spread out, tagged and laid.
-ghost use mathlib.Core.Path.{_≡_};
-ghost use Rattle.advancing.specs.Advance.{nextState, AdvanceAsk, Advances, NextAsk};
+// A tick that is done is closed: the slots and nodes of the new layout are counted, and only where they are within the limits the next
+// state is put into the second buffer.
+ghost use Rattle.advancing.specs.Advance.{AdvanceAsk, Advances};
 use answers::Outcome;
 use answers::Refusal;
 use limits::BOARDS_MOST;
@@ -9,26 +8,6 @@ use limits::NODES_ROOM;
 use limits::PROPOSITIONS_MOST;
 use state::Counts;
 use state::Form;
-
-// Spreads the network out, and lays it into the second buffer with one more tick.
-fn put_next(
-    state: &[u8],
-    c: Counts,
-    second: &mut [u8],
-    masks: &[u64],
-    owner: &[u8],
-    slots: usize,
-    nodes: usize,
-    u: &mut [u8],
-    tags: &mut [u32],
-)
-    requires { ⌜ NextAsk (now state) (now second) c (now masks) (now owner) slots nodes (now u) (now tags) ⌝ }
-    ensures { λ _. ⌜ now (second .exit) ≡ nextState (now (state .entry)) ⌝ }
-{
-    let ticks = state::ticks_of(state) + 1;
-    let n = spreading::spread(state, c, owner, u, tags);
-    storing::put_state(second, masks, slots, nodes, ticks, &u[..n], tags);
-}
 
 // Closes a tick that is done: 7 and 8 by the whole new layout, however large, then the next state.
 pub fn advance(state: &[u8], c: Counts, second: &mut [u8]) -> Outcome
@@ -50,7 +29,7 @@ pub fn advance(state: &[u8], c: Counts, second: &mut [u8]) -> Outcome
     }
     let mut u = [0u8; NODES_ROOM];
     let mut tags = [0u32; NODES_ROOM];
-    put_next(
+    renewing::put_next(
         state,
         c,
         second,

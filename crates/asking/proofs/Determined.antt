@@ -6,9 +6,9 @@ use native.Mathlib.Omega.{arith}
 use lib.ListN.{getD}
 use Rattle.answers.specs.Said.{Said}
 use Rattle.answers.proofs.Answers.{number-injective, number-some, verdict-injective}
-use Rattle.asking.specs.declared.AskAnswer.{AskAnswer}
-use Rattle.asking.specs.declared.AskAnswer.the-variants.{Refused, Told}
-use Rattle.asking.specs.Ask.{saidAsk, Asks}
+use Rattle.telling.specs.declared.AskAnswer.{AskAnswer}
+use Rattle.telling.specs.declared.AskAnswer.the-variants.{Refused, Told}
+use Rattle.telling.specs.Ask.{saidAsk, Asks}
 
 pub saidAsk-injective : (a b : AskAnswer) → saidAsk a ≡ saidAsk b → a ≡ b
 saidAsk-injective (Refused v) (Refused w) e = ap Refused (number-injective v w (ap (λ (s : Said). s .number) e))

@@ -22,7 +22,7 @@ use Rattle.ltl.specs.Decode.{decoded, isRule, formulaOf, someFormula}
 use Rattle.lists.proofs.Tests.{both-0, both-1}
 use Rattle.ltl.proofs.Decoding.{rule-is, decoded-of, wider}
 use Rattle.nodes.specs.Begins.{Front}
-use Rattle.unfolding.specs.Unfolds.{CountsUnfolded}
+use Rattle.sizing.specs.Sizes.{CountsUnfolded}
 use Rattle.central.specs.declared.CentralAnswer.the-variants.{Refused, Progressed}
 use Rattle.central.specs.Central.{centralLengthsOk, answerOf, centralSays, Centrally}
 use Rattle.central.specs.Progressing.{ProgressedTo}

@@ -1,45 +1,26 @@
--- Unfolding into the output and rewriting what stands there is progression: `progress-done`. `verdict-first`: the first byte of a
--- formula says its verdict. `settled-alone`: where nothing is seen of a slot, settling is resolving. Assumes nothing.
+-- Unfolding into the output and rewriting what stands there is progression: `progress-done`. `settled-alone`: where nothing is seen of a
+-- slot, settling is resolving. Assumes nothing.
 use mathlib.Core.Path.{_≡_, refl, ap, ap₂, _∙_}
-use mathlib.Core.Bool.{true, false}
-use mathlib.Core.List.{List, _++_}
-use Prim.Native.Nat.{ℕ, _+_}
-use native.Mathlib.Omega.{arith}
-use lib.ListN.{length, getD, drop}
-use borrow.Author.Tests.{ne-eqb}
+use mathlib.Core.List.{List}
+use Prim.Native.Nat.{ℕ}
+use lib.ListN.{length, drop}
 use Rattle.limits.specs.Limits.{propositionsMost, holderCodes}
 use Rattle.lists.specs.Tests.{pick}
 use Rattle.lists.specs.Runs.{padded}
 use Rattle.kinds.specs.declared.Leaf.the-variants.{Const, Prop, Hold}
 use Rattle.kinds.specs.declared.Unary.the-variants.{Not, Next, Ever}
 use Rattle.kinds.specs.declared.Binary.the-variants.{Joined, Until}
-use Rattle.kinds.specs.Kinds.{propCode, holdCode}
 use Rattle.answers.specs.declared.Verdict.{Verdict}
 use Rattle.answers.specs.declared.Verdict.the-variants.{Pending}
 use Rattle.ltl.specs.Formula.{Formula, leaf, one, two, join, size, encode, Coded}
 use Rattle.ltl.specs.Meaning.{Event}
-use Rattle.ltl.specs.Progression.{unfolded, resolved, progressed, verdictOf, filled, filledBy}
+use Rattle.ltl.specs.Progression.{unfolded, resolved, progressed, filled, filledBy}
 use Rattle.ltl.proofs.Decoding.{unfolded-coded}
 use Rattle.nodes.specs.Begins.{Front, Begins}
 use Rattle.slot_sets.proofs.SlotSets.{none-has}
-use Rattle.resolving.specs.Settles.{heldBy, eventAlone, settled, Rewritten}
-use Rattle.joining.proofs.Firsts.{first, first-is, unary-high, binary-high}
+use Rattle.resolving.specs.Settles.{heldBy, eventAlone, settled}
+use Rattle.rewriting.specs.Rewritten.{Rewritten}
 use Rattle.unfolding.specs.Unfolds.{UnfoldedTo}
-use Rattle.central.specs.Progressing.{verdictByte}
-
--- ---- the verdict
-pub verdict-first : (g : Formula) → verdictByte (first g) ≡ verdictOf g
-unfolding verdictByte pick
-verdict-first (leaf (Const true)) = refl
-verdict-first (leaf (Const false)) = refl
-verdict-first (leaf (Prop i)) = rw (ne-eqb (propCode + i) 0 (λ e. omega arith), ne-eqb (propCode + i) 1 (λ e. omega arith))
-verdict-first (leaf (Hold k)) = rw (ne-eqb (holdCode + k) 0 (λ e. omega arith), ne-eqb (holdCode + k) 1 (λ e. omega arith))
-verdict-first (one o f) = let h = unary-high o in rw (ne-eqb (first (one o f)) 0 (λ e. omega arith), ne-eqb (first (one o f)) 1 (λ e. omega arith))
-verdict-first (two o f g) = let h = binary-high o in rw (ne-eqb (first (two o f g)) 0 (λ e. omega arith), ne-eqb (first (two o f g)) 1 (λ e. omega arith))
-
--- the first byte of an output that holds a formula
-pub first-of : (g : Formula) (out zeros : List ℕ) → out ≡ encode g ++ zeros → getD out 0 0 ≡ first g
-first-of g out zeros e = ap (λ (l : List ℕ). getD l 0 0) e ∙ first-is g zeros
 
 -- ---- where nothing is held, settling is resolving
 filled-none : (held : ℕ → Verdict) → ((k : ℕ) → held k ≡ Pending) → (f : Formula) → filled held f ≡ f

@@ -3,19 +3,11 @@ use mathlib.Core.Path.{_≡_}
 use Prim.Native.Nat.{ℕ, _≤_}
 use mathlib.Core.List.{List, []}
 use lib.ListN.{length}
-use lib.Dec.{eqb}
-use Rattle.lists.specs.Tests.{pick}
 use Rattle.lists.specs.Runs.{padded}
-use Rattle.answers.specs.declared.Verdict.{Verdict}
-use Rattle.answers.specs.declared.Verdict.the-variants.{False, True, Pending}
 use Rattle.ltl.specs.Formula.{Formula, size, encode}
 use Rattle.ltl.specs.Meaning.{Event}
 use Rattle.ltl.specs.Progression.{unfolded, progressed}
 use Rattle.nodes.specs.Begins.{Front}
-
--- the verdict of a formula by its first byte
-unfoldable pub verdictByte : ℕ → Verdict
-verdictByte b = pick (eqb b 0) False (pick (eqb b 1) True Pending)
 
 -- the bytes are one formula, and there is room for what it unfolds to
 pub record Progressable (output formula : List ℕ) : Type 0 where

@@ -2,7 +2,7 @@
 // output, and one resolves it there.
 ghost use mathlib.Core.Path.{_≡_};
 ghost use Rattle.central.specs.Central.{centralLengthsOk, Centrally};
-ghost use Rattle.central.specs.Progressing.{verdictByte, Progressable, ProgressedTo};
+ghost use Rattle.central.specs.Progressing.{Progressable, ProgressedTo};
 use answers::Refusal;
 use answers::Verdict;
 use limits::CENTRAL_NODES_MOST;
@@ -33,19 +33,6 @@ fn lengths_ok(formula: usize, output: usize) -> bool
     output == CENTRAL_NODES_MOST
 }
 
-// The verdict of the formula whose first byte is b.
-pub fn verdict(b: u8) -> Verdict
-    ensures { λ r. ⌜ r ≡ verdictByte b ⌝ }
-{
-    if b == 0 {
-        return Verdict::False;
-    }
-    if b == 1 {
-        return Verdict::True;
-    }
-    Verdict::Pending
-}
-
 // Progresses the formula into the output, zero past the result, and answers the result's length.
 fn progress_into(output: &mut [u8], formula: &[u8], event: u64) -> usize
     requires { ⌜ Progressable (now output) (now formula) ⌝ }
@@ -53,7 +40,7 @@ fn progress_into(output: &mut [u8], formula: &[u8], event: u64) -> usize
 {
     unfolding::unfold_into(output, formula);
     let none = no_slots();
-    resolving::rewrite(
+    rewriting::rewrite(
         output,
         Seen {
             event: event,
@@ -73,13 +60,13 @@ pub fn central(formula: &[u8], event: u64, output: &mut [u8]) -> CentralAnswer
     if !owing::is_rule(formula, PROPOSITIONS_MOST as u64) {
         return CentralAnswer::Refused(Refusal::Formula);
     }
-    let unfolded = unfolding::count_unfolded(formula);
+    let unfolded = sizing::count_unfolded(formula);
     if CENTRAL_NODES_MOST < unfolded.written {
         return CentralAnswer::Refused(Refusal::Nodes);
     }
     let n = progress_into(output, formula, event);
     CentralAnswer::Progressed(Progress {
-        verdict: verdict(output[0]),
+        verdict: verdicts::verdict(output[0]),
         length: n,
     })
 }

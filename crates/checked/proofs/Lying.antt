@@ -14,10 +14,8 @@ use Rattle.state.specs.Bytes.{formulaAt}
 use Rattle.state.specs.Counted.{Spans}
 use Rattle.state.proofs.Forms.{slots-few, nodes-few}
 use Rattle.state.proofs.Places.{node-within}
-use Rattle.checking.specs.Slotted.{SlotThere}
-use Rattle.checking.proofs.Records.{board-few, bytes-at}
-use Rattle.opening.specs.Opening.{Opened}
-use Rattle.opening.proofs.Opened.{opened-slot}
+use Rattle.state.specs.Opened.{SlotThere, Opened}
+use Rattle.records.proofs.Opened.{board-few, bytes-at, opened-slot}
 use Rattle.checked.specs.Holds.{Holds}
 use Rattle.checked.proofs.Passing.{SlotPassing, passing}
 use Rattle.checked.proofs.Bytes.{bytes-hold}

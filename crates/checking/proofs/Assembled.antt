@@ -1,52 +1,24 @@
--- The clauses together: one that fails fails the state check (`clause-fails`), all that pass let it pass (`clauses-hold`), and what a
--- state that passes is known to be (`passed-..`). Assumes nothing.
+-- The clauses together, where the counts are the header's: one that fails fails the state check (`..-fail`), all that pass let it pass
+-- (`clauses-hold`). Assumes nothing.
 use mathlib.Core.Path.{_≡_, refl, sym, ap, ap₂, _∙_}
 use mathlib.Core.Bool.{Bool, true, false}
 use mathlib.Core.List.{List}
-use Prim.Native.Nat.{ℕ, _<_}
-use native.Mathlib.Omega.{arith}
-use lib.ListN.{length, getD}
-use lib.Dec.{eqb}
-use borrow.Author.Tests.{eqb-true, eq-eqb}
+use Prim.Native.Nat.{ℕ}
+use lib.ListN.{length}
+use borrow.Author.Tests.{eq-eqb}
 use Rattle.lists.specs.Tests.{both}
 use Rattle.lists.proofs.Tests.{both-0, both-1}
 use Rattle.masks.specs.Masks.{sumOnes}
-use Rattle.limits.specs.Limits.{boardsMost}
 use Rattle.state.specs.declared.Counts.{Counts}
-use Rattle.state.specs.Form.{formIn, stateLength, slotsMost, nodesMost, Formed}
-use Rattle.state.specs.Fields.{boardsIn, slotsIn, nodesIn, masksIn, startIn}
-use Rattle.state.specs.Clauses.{eachBelow, eachTrue, distinct, holdersIn, boardOk, recordOk, gapOk, headerOk, masksOk, restOk, clauses, stateOk}
-use Rattle.state.specs.Counted.{Header, Sized}
+use Rattle.state.specs.Form.{formIn, stateLength, Formed}
+use Rattle.state.specs.Fields.{boardsIn, slotsIn, masksIn, startIn}
+use Rattle.state.specs.Clauses.{eachBelow, eachTrue, distinct, holdersIn, boardOk, recordOk, gapOk, headerOk, masksOk, restOk, stateOk}
+use Rattle.state.specs.Counted.{Header}
 use Rattle.checking.specs.Slotted.{formulasOk}
-use Rattle.records.proofs.Each.{both-false, both-last, one-false, one-true, range-most, range-some}
+use Rattle.records.proofs.Each.{both-last}
+use Rattle.records.proofs.Passed.{clause-fails}
 use Rattle.checking.proofs.Forming.{formulaTest}
 
--- ---- the clauses by their places
-pub clause-fails : (s : List ℕ) (i : ℕ) → getD (clauses s) i true ≡ false → stateOk s ≡ false
-unfolding stateOk
-clause-fails s i e = one-false (clauses s) i e
-
-pub clause-holds : (s : List ℕ) (i : ℕ) → stateOk s ≡ true → getD (clauses s) i true ≡ true
-unfolding stateOk
-clause-holds s i e = one-true (clauses s) i e
-
--- ---- the header
-pub header-sized : (s : List ℕ) (c : Counts) → Header s c → Formed s → headerOk s ≡ true → Sized s c
-unfolding headerOk
-header-sized s c h l e =
-    let x = range-most boardsMost (boardsIn s) (one-true _ 0 e) in
-    let y = range-most (slotsMost (formIn s)) (slotsIn s) (one-true _ 1 e) in
-    let z = range-most (nodesMost (formIn s)) (nodesIn s) (one-true _ 2 e) in
-    let xe = h .boards-are in
-    let ye = h .slots-are in
-    let ze = h .nodes-are in
-    record { header = h; long = l; few-boards = omega arith; few-slots = omega arith; few-nodes = omega arith }
-
-pub header-some : (s : List ℕ) (c : Counts) → Header s c → headerOk s ≡ true → 0 < c .slots
-unfolding headerOk
-header-some s c h e = let x = range-some (slotsMost (formIn s)) (slotsIn s) (one-true _ 1 e) in let y = h .slots-are in omega arith
-
--- ---- the clauses where the counts are the header's
 module _ (s : List ℕ) (c : Counts) (h : Header s c) where
   of-boards : (test : ℕ → Bool) → eachBelow (c .boards) test ≡ eachBelow (boardsIn s) test
   of-boards test = ap (λ (i : ℕ). eachBelow i test) (h .boards-are)
@@ -88,16 +60,3 @@ module _ (s : List ℕ) (c : Counts) (h : Header s c) where
         let holders : distinct (holdersIn s (slotsIn s)) ≡ true = both-1 (eachBelow (slotsIn s) (formulaTest s (sumOnes (masksIn s)))) (distinct (holdersIn s (slotsIn s))) q in
         let gaps : eachBelow (slotsIn s) (gapOk s) ≡ true = sym (of-slots (gapOk s)) ∙ k in
         rw (eq-eqb (length s) (stateLength (formIn s)) l, a, ms, boards, eq-eqb (startIn s 0) 0 e, records, formulas, holders, gaps) (both-last (restOk s))
-
--- ---- what is known of a state that passes
-pub passed-length : (s : List ℕ) → stateOk s ≡ true → Formed s
-passed-length s e = eqb-true (length s) (stateLength (formIn s)) (clause-holds s 0 e)
-
-pub passed-sized : (s : List ℕ) (c : Counts) → stateOk s ≡ true → Header s c → Sized s c
-passed-sized s c e h = header-sized s c h (passed-length s e) (clause-holds s 1 e)
-
-pub passed-records : (s : List ℕ) (c : Counts) → stateOk s ≡ true → Header s c → eachBelow (c .slots) (recordOk s) ≡ true
-passed-records s c e h = of-slots s c h (recordOk s) ∙ clause-holds s 5 e
-
-pub passed-start : (s : List ℕ) → stateOk s ≡ true → startIn s 0 ≡ 0
-passed-start s e = eqb-true (startIn s 0) 0 (clause-holds s 4 e)

@@ -1,29 +1,21 @@
--- The boards' masks as they are read into an array of zeros, and the number of propositions by the masks' rule. Assumes nothing.
-use mathlib.Core.Path.{_≡_, refl, sym, ap, _∙_}
+-- The number of propositions by the masks' rule. Assumes nothing.
+use mathlib.Core.Path.{_≡_, refl, sym, _∙_}
 use mathlib.Core.Bool.{Bool, true, false}
-use mathlib.Core.List.{List, _++_}
+use mathlib.Core.List.{List}
 use Prim.Native.Nat.{ℕ, _<_, _≤_}
 use native.Mathlib.Omega.{arith}
 use native.Mathlib.Decide.{decLt}
-use lib.ListN.{take}
 use lib.Dec.{leb}
 use borrow.Author.Tests.{le-leb, lt-leb, leb-true}
 use Rattle.lists.specs.Tests.{pick, both, inRange}
-use Rattle.lists.specs.Listed.{listed}
 use Rattle.lists.proofs.Tests.{both-0}
-use Rattle.lists.proofs.Listed.{listed-front}
 use Rattle.masks.specs.Masks.{sumOnes, masksRule}
-use Rattle.state.specs.Fields.{boardsIn, maskIn, masksIn}
+use Rattle.state.specs.Fields.{masksIn}
 use Rattle.state.specs.Clauses.{masksOk}
 use Rattle.limits.specs.Limits.{propositionsMost}
 use Rattle.checking.specs.Masked.{propositionsIn}
 use Rattle.records.proofs.Each.{both-false, range-most}
 
--- ---- in front of an array
-pub masks-front : (s found rest : List ℕ) (b : ℕ) → b ≡ boardsIn s → found ≡ listed (maskIn s) b ++ rest → take b found ≡ masksIn s
-masks-front s found rest b q e = ap (take b) e ∙ listed-front (maskIn s) b rest ∙ ap (listed (maskIn s)) q
-
--- ---- the number of propositions
 module _ (s : List ℕ) where
   pub ones-many : propositionsMost < sumOnes (masksIn s) → propositionsIn s ≡ 0
   unfolding propositionsIn masksOk pick both

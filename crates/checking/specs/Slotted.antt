@@ -1,7 +1,7 @@
--- A slot's formula, when its clause is checked: what is known of the slot, what may stand in it, and what the check answers. Assumes
--- nothing: these are definitions.
+-- A slot's formula, when its clause is checked: what may stand in it, and what the check answers. Assumes nothing: these are
+-- definitions.
 use mathlib.Core.Path.{_≡_}
-use Prim.Native.Nat.{ℕ, _-_, _^_, _<_}
+use Prim.Native.Nat.{ℕ, _-_, _^_}
 use mathlib.Core.Bool.{Bool, true, false, not}
 use mathlib.Core.List.{List}
 use lib.Dec.{ltb, eqb}
@@ -13,16 +13,7 @@ use Rattle.slot_sets.specs.SlotSets.{hasSlot, everySlot}
 use Rattle.scanning.specs.declared.Allowed.{Allowed}
 use Rattle.scanning.specs.declared.Held.{Held}
 use Rattle.scanning.specs.declared.Held.the-variants.{Wrong}
-use Rattle.state.specs.declared.Counts.{Counts}
-use Rattle.state.specs.Counted.{Sized, InStretch}
 use Rattle.scanning.specs.OnePass.{noted}
-
--- slot k is there, it lies in its stretch, and its board is there
-pub record SlotThere (s : List ℕ) (c : Counts) (k : ℕ) : Type 0 where
-  pub sized : Sized s c
-  pub number : k < c .slots
-  pub stretch : InStretch s k
-  pub board : boardOfIn s k < c .boards
 
 -- a slot that a stepped slot may hold: it is stepped and no constant
 unfoldable pub holdableIn : List ℕ → ℕ → Bool

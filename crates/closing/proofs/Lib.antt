@@ -1,4 +1,3 @@
--- Laws of the call: what its functions ask of each other, its outcomes, and that its promise leaves no choice.
-pub mod Flags
+-- Laws of the call: its outcomes, and that its promise leaves no choice.
 pub mod Outcomes
 pub mod Determined

@@ -19,9 +19,10 @@ use Rattle.state.specs.Fields.{ticksIn}
 use Rattle.state.specs.Clauses.{stateOk}
 use Rattle.state.specs.Calls.{finishedIn, doneIn, closeSays}
 use Rattle.state.specs.Form.{formIn, stateLength}
-use Rattle.advancing.specs.Advance.{nextState, advanceSays, Advances}
+use Rattle.renewing.specs.Renew.{nextState}
+use Rattle.advancing.specs.Advance.{advanceSays, Advances}
 use Rattle.closing.specs.Close.{Closes}
-use Rattle.closing.specs.Done.{allSampled, allStepped}
+use Rattle.done.specs.Done.{allSampled, allStepped}
 
 first-false : (a b : Bool) → a ≡ false → both a b ≡ false
 unfolding both

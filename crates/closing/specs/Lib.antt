@@ -1,3 +1,2 @@
 -- What the contracts of `closing` cite.
 pub mod Close
-pub mod Done

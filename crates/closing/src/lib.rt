@@ -4,57 +4,23 @@ ghost use mathlib.Core.Bool.{false};
 ghost use lib.ListN.{length};
 ghost use Rattle.state.specs.Form.{formIn, stateLength};
 ghost use Rattle.state.specs.Calls.{finishedIn};
-ghost use Rattle.state.specs.Counted.{Sized};
-ghost use Rattle.opening.specs.Opening.{Opened};
+ghost use Rattle.state.specs.Opened.{Opened};
 ghost use Rattle.closing.specs.Close.{Closes};
-ghost use Rattle.closing.specs.Done.{allSampled, allStepped};
 use answers::Outcome;
 use answers::Refusal;
 use opening::Opening;
 use state::Counts;
 use state::Form;
 
-// All boards have sampled.
-fn all_sampled(s: &[u8], c: Counts) -> bool
-    requires { ⌜ Sized (now s) c ⌝ }
-    ensures { λ r. ⌜ r ≡ allSampled (now (s .entry)) ⌝ }
-{
-    let n = c.boards;
-    let mut i: usize = 0;
-    while i < n {
-        if state::sampled_of(s, i) != 1 {
-            return false;
-        }
-        i += 1;
-    }
-    true
-}
-
-// All slots are stepped.
-fn all_stepped(s: &[u8], c: Counts) -> bool
-    requires { ⌜ Sized (now s) c ⌝ }
-    ensures { λ r. ⌜ r ≡ allStepped (now (s .entry)) ⌝ }
-{
-    let n = c.slots;
-    let mut k: usize = 0;
-    while k < n {
-        if state::mark_of(s, c, k) != 1 {
-            return false;
-        }
-        k += 1;
-    }
-    true
-}
-
 // The same, of a watch that goes on and a second buffer of its length.
 fn close_going(state: &[u8], c: Counts, second: &mut [u8]) -> Outcome
     requires { ⌜ Opened (now state) c × (finishedIn (now state) ≡ false) × (length (now second) ≡ stateLength (formIn (now state))) ⌝ }
     ensures { λ r. ⌜ Closes (now (state .entry)) (now (second .entry)) (now (second .exit)) r ⌝ }
 {
-    if !all_sampled(state, c) {
+    if !done::all_sampled(state, c) {
         return Outcome::Refused(Refusal::Unready);
     }
-    if !all_stepped(state, c) {
+    if !done::all_stepped(state, c) {
         return Outcome::Refused(Refusal::Unready);
     }
     if u32::MAX <= state::ticks_of(state) {

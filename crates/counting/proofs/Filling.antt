@@ -17,7 +17,7 @@ use Rattle.network.proofs.Holding.{holds-map}
 use Rattle.state.specs.declared.Counts.{Counts}
 use Rattle.state.specs.Form.{formIn}
 use Rattle.state.proofs.Forms.{slots-few}
-use Rattle.opening.proofs.Opened.{opened-sized}
+use Rattle.records.proofs.Opened.{opened-sized}
 use Rattle.state.specs.Fields.{slotsIn, masksIn, boardOfIn}
 use Rattle.state.specs.Clauses.{stateOk}
 use Rattle.state.specs.Bytes.{formulaAt}

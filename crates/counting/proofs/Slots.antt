@@ -18,7 +18,7 @@ use Rattle.nodes.proofs.Fronts.{front-length}
 use Rattle.cutting.specs.declared.CutWalk.{CutWalk}
 use Rattle.cutting.specs.Cuts.{Cutting}
 use Rattle.cutting.proofs.Nodes.{unfolded-few}
-use Rattle.unfolding.specs.Unfolds as unfolds
+use Rattle.sizing.specs.Sizes as sizes
 use Rattle.state.specs.declared.Counts.{Counts}
 use Rattle.state.specs.Counted.{Spans}
 use Rattle.checked.proofs.Passing.{SlotPassing}
@@ -41,12 +41,12 @@ module _ {p : List ℕ} {board on : ℕ} {owner slots nodes : List ℕ} (ask : F
       let c = cut (b .formula) (b .rest) (b .front) .parted .few in
       omega arith
 
-  pub own-few : (read written : ℕ) → unfolds.CountsUnfolded p read written → x .part .cuts + written < 4101 * (nodesRoom + 1)
+  pub own-few : (read written : ℕ) → sizes.CountsUnfolded p read written → x .part .cuts + written < 4101 * (nodesRoom + 1)
   own-few read written walk = let b = ask .begins in let c = cuts-few in let w = walk (b .formula) (b .rest) (b .front) .1 in omega arith
 
 -- on its own board
 pub counts-on : {p : List ℕ} {board : ℕ} {owner slots nodes : List ℕ} → FormulaAsk p board owner slots nodes → (x : CutWalk) → Cutting owner p board x
-    → (read written : ℕ) → unfolds.CountsUnfolded p read written → (held r : Totals) → HeldBy slots nodes p held → r .slots ≡ capped slotsRoom (1 + x .part .cuts + held .slots)
+    → (read written : ℕ) → sizes.CountsUnfolded p read written → (held r : Totals) → HeldBy slots nodes p held → r .slots ≡ capped slotsRoom (1 + x .part .cuts + held .slots)
     → r .nodes ≡ capped nodesRoom (x .part .cuts + written + held .nodes) → CountsOn p board owner slots nodes r
 counts-on {p} {board} {owner} {slots} {nodes} ask x cut read written walk held r h es en f front n end masks owned within =
     let c = cut f [] front .parted .cuts-are n end masks owned (unfolded-coded n end f within) board (inr (refl, ask .there)) in

@@ -5,7 +5,7 @@ use Rattle.masks.specs.Masks.{sumOnes}
 use Rattle.scores.specs.Owned.{Table, Owned}
 use Rattle.state.specs.declared.Counts.{Counts}
 use Rattle.state.specs.Fields.{masksIn}
-use Rattle.opening.specs.Opening.{Opened}
+use Rattle.state.specs.Opened.{Opened}
 
 -- a state that passes, its counts and its table of owners
 pub record OpenedWith (s : List ℕ) (c : Counts) (owner : List ℕ) : Type 0 where

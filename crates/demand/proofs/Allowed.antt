@@ -14,8 +14,8 @@ use Rattle.answers.specs.declared.Outcome.the-variants.{Refused, Done}
 use Rattle.answers.specs.Said.{Said, accepted, refused, numberOf, saidOutcome, Check, inOrder}
 use Rattle.state.specs.Calls.{sampleSays, sampleLeaves, stepSays, stepLeaves, closeSays}
 use Rattle.loading.specs.Load.{loadSays}
-use Rattle.sampling.specs.Sample.{Samples}
-use Rattle.stepping.specs.Step.{StepsSlot}
+use Rattle.taking.specs.Sample.{Samples}
+use Rattle.settling.specs.Step.{StepsSlot}
 
 -- each check refuses with a number of the table
 abbrev pub Named : List Check → Type 0

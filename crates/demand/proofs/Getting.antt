@@ -20,12 +20,12 @@ use Rattle.state.specs.Fields.{boardsIn, slotsIn, sampledIn, steppedIn}
 use Rattle.state.specs.Calls.{askSays, sampleSays, sampleLeaves, stepSays, stepLeaves, doneIn, closeSays, closeLeaves}
 use Rattle.records.proofs.Each.{each-at}
 use Rattle.watching.specs.Claims as definition
-use Rattle.asking.specs.declared.Standing.{Standing}
-use Rattle.asking.specs.declared.AskAnswer.the-variants.{Told}
-use Rattle.asking.specs.Ask.{saidAsk}
+use Rattle.telling.specs.declared.Standing.{Standing}
+use Rattle.telling.specs.declared.AskAnswer.the-variants.{Told}
+use Rattle.telling.specs.Ask.{saidAsk}
 use Rattle.asking.proofs.Determined.{saidAsk-injective}
-use Rattle.sampling.specs.Sample.{Samples}
-use Rattle.stepping.specs.Step.{StepsSlot}
+use Rattle.taking.specs.Sample.{Samples}
+use Rattle.settling.specs.Step.{StepsSlot}
 use Rattle.demand.specs.Claims.{Gets, CloseGets, Closing, accepts, too-many-slots, too-many-nodes, no-more-ticks, CloseLeft, GoesOn, samples, steps, closes, AskGets}
 use Rattle.demand.proofs.Passed.{sample-passed, step-passed}
 

@@ -24,9 +24,9 @@ use Rattle.central.specs.Central.{answerOf, centralSays, Centrally}
 use Rattle.resolving.specs.Settles.{eventAlone}
 use Rattle.central.proofs.Progresses.{settled-alone}
 use Rattle.rules.specs.RuleFile.{formulaInFile}
-use Rattle.asking.specs.declared.Standing.{Standing}
-use Rattle.asking.specs.declared.AskAnswer.the-variants.{Told}
-use Rattle.asking.specs.Ask.{Asks}
+use Rattle.telling.specs.declared.Standing.{Standing}
+use Rattle.telling.specs.declared.AskAnswer.the-variants.{Told}
+use Rattle.telling.specs.Ask.{Asks}
 use Rattle.loading.specs.Load.{ruleIn}
 use Rattle.demand.specs.Called.{nothing, Watched, begun, ticked}
 use Rattle.demand.specs.Claims.{standing}

@@ -18,7 +18,7 @@ use Rattle.state.specs.declared.Form.the-variants.{Plain}
 use Rattle.state.specs.Form.{formIn, stateLength}
 use Rattle.state.specs.Calls.{sampleSays, stepSays, closeSays, loadedState}
 use Rattle.state.proofs.Forms.{form-at}
-use Rattle.asking.specs.declared.AskAnswer.the-variants.{Told}
+use Rattle.telling.specs.declared.AskAnswer.the-variants.{Told}
 use Rattle.loading.specs.Load.{ruleIn, loadSays}
 use Rattle.stars.proofs.States.{LoadGives, SampleGives, StepGives, CloseGives, LoadRefuses, CloseRefuses, AskGives}
 use Rattle.demand.specs.Called as call

@@ -14,9 +14,9 @@ use Rattle.le.specs.Le.{le, leAt}
 use Rattle.ltl.specs.Meaning.{Event, Trace, Satisfies, continued}
 use Rattle.network.specs.Scores.{sampleOf}
 use Rattle.rules.specs.RuleFile.{masksInFile, maskBytes, fileOf}
-use Rattle.asking.specs.Ask.{Asks}
-use Rattle.asking.specs.declared.AskAnswer.{AskAnswer}
-use Rattle.asking.specs.declared.AskAnswer.the-variants.{Told}
+use Rattle.telling.specs.Ask.{Asks}
+use Rattle.telling.specs.declared.AskAnswer.{AskAnswer}
+use Rattle.telling.specs.declared.AskAnswer.the-variants.{Told}
 use Rattle.asking.proofs.Determined.{asks-determined}
 use Rattle.loading.specs.Load.{ruleIn}
 use Rattle.stars.proofs.States.{StepGives}

@@ -17,10 +17,10 @@ use Rattle.rules.specs.Read.{Reads}
 use Rattle.rules.specs.Write.{Writes}
 use Rattle.central.specs.declared.CentralAnswer.the-variants as central-said
 use Rattle.central.specs.Central.{Centrally}
-use Rattle.asking.specs.declared.AskAnswer.{AskAnswer}
-use Rattle.asking.specs.Ask.{Asks}
-use Rattle.sampling.specs.Sample.{Samples}
-use Rattle.stepping.specs.Step.{StepsSlot}
+use Rattle.telling.specs.declared.AskAnswer.{AskAnswer}
+use Rattle.telling.specs.Ask.{Asks}
+use Rattle.taking.specs.Sample.{Samples}
+use Rattle.settling.specs.Step.{StepsSlot}
 use Rattle.closing.specs.Close.{Closes}
 use Rattle.loading.specs.Load.{LoadsRule}
 

@@ -13,12 +13,12 @@ use Rattle.state.specs.Form.{formIn, stateLength}
 use Rattle.state.specs.Fields.{masksIn}
 use Rattle.state.specs.Bytes.{nodesOf, networkOf}
 use Rattle.state.specs.Calls.{doneIn}
-use Rattle.asking.specs.declared.Standing.{Standing}
-use Rattle.asking.specs.declared.AskAnswer.{AskAnswer}
-use Rattle.asking.specs.declared.AskAnswer.the-variants.{Told}
-use Rattle.asking.specs.Ask.{Asks}
-use Rattle.sampling.specs.Sample.{Samples}
-use Rattle.stepping.specs.Step.{StepsSlot}
+use Rattle.telling.specs.declared.Standing.{Standing}
+use Rattle.telling.specs.declared.AskAnswer.{AskAnswer}
+use Rattle.telling.specs.declared.AskAnswer.the-variants.{Told}
+use Rattle.telling.specs.Ask.{Asks}
+use Rattle.taking.specs.Sample.{Samples}
+use Rattle.settling.specs.Step.{StepsSlot}
 use Rattle.closing.specs.Close.{Closes}
 use Rattle.loading.specs.Load.{ruleIn}
 use Rattle.demand.specs.Called.{Called, nothing, sampled, stepped, asked, closed, load-refused, close-refused, write-refused, central-refused, read-refused, GivenBy}

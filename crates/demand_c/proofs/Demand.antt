@@ -9,9 +9,9 @@ use Rattle.answers.specs.declared.Refusal.the-variants.{Slots, Nodes, Ticks}
 use Rattle.answers.specs.declared.Outcome.the-variants.{Refused, Done}
 use Rattle.answers.specs.Said.{Said, saidOutcome}
 use Rattle.ltl.specs.Meaning.{Event}
-use Rattle.asking.specs.declared.Standing.{Standing}
-use Rattle.sampling.specs.Sample.{Samples}
-use Rattle.stepping.specs.Step.{StepsSlot}
+use Rattle.telling.specs.declared.Standing.{Standing}
+use Rattle.taking.specs.Sample.{Samples}
+use Rattle.settling.specs.Step.{StepsSlot}
 use Rattle.exports.specs.Exported.{SampleExported, StepExported, AskExported, valueAt}
 use Rattle.demand.specs.Called.{SameGiven}
 use Rattle.demand.specs.Claims as claim

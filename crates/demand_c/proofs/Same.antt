@@ -12,8 +12,8 @@ use Rattle.answers.specs.declared.Outcome.the-variants.{Refused, Done}
 use Rattle.answers.specs.Said.{Said, refused, numberOf, saidOutcome}
 use Rattle.ltl.specs.Meaning.{Event}
 use Rattle.loading.specs.Load.{LoadsRule}
-use Rattle.sampling.specs.Sample.{Samples}
-use Rattle.stepping.specs.Step.{StepsSlot}
+use Rattle.taking.specs.Sample.{Samples}
+use Rattle.settling.specs.Step.{StepsSlot}
 use Rattle.closing.specs.Close.{Closes}
 use Rattle.rules.specs.declared.ReadAnswer.the-variants as read-said
 use Rattle.rules.specs.declared.WriteAnswer.the-variants as write-said

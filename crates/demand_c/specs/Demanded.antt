@@ -12,7 +12,7 @@ use Rattle.rules.specs.RuleFile.{masksInFile}
 use Rattle.state.specs.Form.{formIn, stateLength}
 use Rattle.state.specs.Calls.{doneIn}
 use Rattle.loading.specs.Load.{ruleIn}
-use Rattle.asking.specs.declared.Standing.{Standing}
+use Rattle.telling.specs.declared.Standing.{Standing}
 use Rattle.exports.specs.Exported.{SampleExported, StepExported, CloseExported, AskExported}
 use Rattle.demand.specs.Claims.{OneNetwork, standing}
 use Rattle.demand_c.specs.FromC.{CalledFromC, SameGivenFromC, TickedFromC, WatchedFromC}

@@ -4,10 +4,10 @@ ghost use mathlib.Core.Path.{_≡_};
 ghost use Rattle.answers.specs.Said.{saidOutcome};
 ghost use Rattle.exports.specs.Exported.{ReadExported, WriteExported, CentralExported, LoadExported, SampleExported, StepExported, CloseExported, AskExported};
 use answers::Outcome;
-use asking::AskAnswer;
 use central::CentralAnswer;
 use rules::ReadAnswer;
 use rules::WriteAnswer;
+use telling::AskAnswer;
 
 #[no_mangle]
 pub extern "C" fn vydrulka_read(

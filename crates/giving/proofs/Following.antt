@@ -23,8 +23,8 @@ use Rattle.state.specs.Form.{formOf, stateLength, Formed}
 use Rattle.state.specs.Fields.{boardsIn, slotsIn, maskIn, masksIn}
 use Rattle.state.specs.Clauses.{inMask, stateOk}
 use Rattle.state.specs.Calls.{sampleSays, sampleLeaves, stepSays, stepLeaves}
-use Rattle.sampling.specs.Sample.{Samples}
-use Rattle.stepping.specs.Step.{StepsSlot}
+use Rattle.taking.specs.Sample.{Samples}
+use Rattle.settling.specs.Step.{StepsSlot}
 use Rattle.giving.specs.Give.{After, after, follow, sampledFrom, steppedBelow, takenBy, givenUnder, Comes}
 
 -- ---- what follows a call

@@ -7,7 +7,7 @@ ghost use Rattle.lists.specs.Listed.{listed};
 ghost use Rattle.masks.specs.Masks.{unionWith};
 ghost use Rattle.state.specs.Form.{Formed};
 ghost use Rattle.state.specs.Fields.{maskIn};
-ghost use Rattle.opening.specs.Opening.{Opened};
+ghost use Rattle.state.specs.Opened.{Opened};
 ghost use Rattle.giving.specs.Give.{sampledFrom, steppedBelow, givenUnder, Comes};
 use answers::Outcome;
 use answers::Refusal;

@@ -1,3 +1,2 @@
--- Loading a rule file, and what the contracts of `loading` cite.
+-- Loading a rule file: what the contract of `loading` cites.
 pub mod Load
-pub mod Beginning

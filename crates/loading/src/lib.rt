@@ -1,82 +1,11 @@
-// The call `load`: a watch begun from a rule file. The rule is read as `read` does; its layout is counted as it stands, and only
-// where it is within the limits it is unfolded, tagged and laid out into the state.
-ghost use mathlib.Core.Path.{_≡_};
-ghost use lib.Dec.{eqb};
-ghost use Rattle.lists.specs.Tests.{pick};
-ghost use Rattle.limits.specs.Limits.{boardsMost};
-ghost use Rattle.state.specs.Form.{formIn};
+// The call `load`: a watch begun from a rule file. The rule is read as `read` does, and `beginning` begins the watch.
 ghost use Rattle.loading.specs.Load.{LoadsRule};
-ghost use Rattle.loading.specs.Beginning.{FirstAsk, Firsts, BeginAsk, Begun};
 use answers::Outcome;
 use answers::Refusal;
-use cutting::STAYS;
 use limits::BOARDS_MOST;
-use limits::NODES_ROOM;
-use limits::PROPOSITIONS_MOST;
 use limits::RULE_NODES_MOST;
 use rules::ReadAnswer;
 use state::Form;
-
-// The board of the first slot: board 0 where all scores are 0.
-fn first_board(choice: u8) -> u8
-    ensures { λ r. ⌜ r ≡ pick (eqb choice boardsMost) 0 choice ⌝ }
-{
-    if choice == STAYS { 0 } else { choice }
-}
-
-// Unfolds the rule into u, tags it on its board, and lays it out into the state.
-fn put_first(
-    state: &mut [u8],
-    masks: &[u64],
-    rule: &[u8],
-    owner: &[u8],
-    board: u8,
-    slots: usize,
-    nodes: usize,
-    u: &mut [u8],
-    tags: &mut [u32],
-)
-    requires { ⌜ FirstAsk (now state) (now masks) (now rule) (now owner) board slots nodes (now u) (now tags) ⌝ }
-    ensures { λ _. ⌜ Firsts (formIn (now (state .entry))) (now (masks .entry)) (now (rule .entry)) (now (state .exit)) ⌝ }
-{
-    let n = unfolding::unfold_into(u, rule).written;
-    tagging::tag(&u[..n], tags, owner, board);
-    storing::put_state(state, masks, slots, nodes, 0, &u[..n], tags);
-}
-
-// Begins a watch with a rule that was read: 7 and 8 by the whole layout, however large, then its state.
-fn begin(masks: &[u64], rule: &[u8], state: &mut [u8]) -> Outcome
-    requires { ⌜ BeginAsk (now masks) (now rule) (now state) ⌝ }
-    ensures { λ r. ⌜ Begun (now (masks .entry)) (now (rule .entry)) (now (state .entry)) (now (state .exit)) r ⌝ }
-{
-    let form = Form::of(state.len());
-    let mut owner = [0u8; PROPOSITIONS_MOST];
-    scores::owners(masks, &mut owner);
-    let part = cutting::count_cuts(rule, &owner, STAYS).part;
-    let slots = 1 + part.cuts;
-    if form.slots_most() < slots {
-        return Outcome::Refused(Refusal::Slots);
-    }
-    let nodes = unfolding::count_unfolded(rule).written + part.cuts;
-    if form.nodes_most() < nodes {
-        return Outcome::Refused(Refusal::Nodes);
-    }
-    let board = first_board(part.choice);
-    let mut u = [0u8; NODES_ROOM];
-    let mut tags = [0u32; NODES_ROOM];
-    put_first(
-        state,
-        masks,
-        rule,
-        &owner,
-        board,
-        slots,
-        nodes,
-        &mut u,
-        &mut tags,
-    );
-    Outcome::Done
-}
 
 pub fn load(file: &[u8], state: &mut [u8]) -> Outcome
     ensures { λ r. ⌜ LoadsRule (now (file .entry)) (now (state .entry)) (now (state .exit)) r ⌝ }
@@ -93,7 +22,7 @@ pub fn load(file: &[u8], state: &mut [u8]) -> Outcome
         ReadAnswer::Rule(c) => {
             let b = c.boards as usize;
             let n = c.nodes as usize;
-            begin(&masks[..b], &formula[..n], state)
+            beginning::begin(&masks[..b], &formula[..n], state)
         }
     }
 }

@@ -1,2 +1,2 @@
--- What is known of a state that was opened.
-pub mod Opened
+-- Laws of the tests whether a watch is finished.
+pub mod Going

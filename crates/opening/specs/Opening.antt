@@ -3,17 +3,11 @@ use mathlib.Core.Path.{_≡_}
 use mathlib.Core.Bool.{true, false}
 use mathlib.Core.List.{List}
 use Prim.Native.Nat.{ℕ}
-use Rattle.state.specs.declared.Counts.{Counts}
 use Rattle.state.specs.Clauses.{stateOk}
+use Rattle.state.specs.Opened.{Opened}
 use Rattle.state.specs.Calls.{finishedIn}
-use Rattle.state.specs.Counted.{Header}
 use Rattle.opening.specs.declared.Opening.{Opening}
 use Rattle.opening.specs.declared.Opening.the-variants.{Broken, Finished, Going}
-
--- a state that passes its check, and its counts
-pub record Opened (s : List ℕ) (c : Counts) : Type 0 where
-  pub passes : stateOk s ≡ true
-  pub header : Header s c
 
 -- the promise: no state, a watch that is finished, or one that goes on
 abbrev pub Opens : List ℕ → Opening → Type 0

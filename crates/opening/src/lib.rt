@@ -1,7 +1,8 @@
 // How a call on a state begins: the state check, whether the watch is finished, and the counts. Every call opens its state here.
 ghost use mathlib.Core.Path.{_≡_};
 ghost use Rattle.state.specs.Calls.{finishedIn};
-ghost use Rattle.opening.specs.Opening.{Opened, Opens};
+ghost use Rattle.state.specs.Opened.{Opened};
+ghost use Rattle.opening.specs.Opening.{Opens};
 use state::Counts;
 
 // What a state is found to be: none, a watch that is finished, or one that goes on.

@@ -1,6 +1,5 @@
 // The calls, each over what a request gives and lends. None of them reads or writes a line.
 use answers::Outcome;
-use asking::AskAnswer;
 use central::CentralAnswer;
 use requests::header::ASK;
 use requests::header::CENTRAL;
@@ -13,6 +12,7 @@ use requests::header::WRITE;
 use requests::line::Answered;
 use rules::ReadAnswer;
 use rules::WriteAnswer;
+use telling::AskAnswer;
 
 fn done() -> Answered {
     Answered::accepted(0, 0, 0, 0, 0)

@@ -1,4 +1,3 @@
 -- Laws of resolving in place.
 pub mod Coded
 pub mod Walks
-pub mod Results

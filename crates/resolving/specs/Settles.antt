@@ -2,9 +2,8 @@
 use mathlib.Core.Path.{_≡_}
 use Prim.Native.Nat.{ℕ, _+_}
 use mathlib.Core.List.{List, _++_}
-use lib.ListN.{length, drop}
+use lib.ListN.{drop}
 use Rattle.lists.specs.Tests.{pick, bit}
-use Rattle.lists.specs.Runs.{padded}
 use Rattle.kinds.specs.declared.Join.{Join}
 use Rattle.kinds.specs.declared.Leaf.{Leaf}
 use Rattle.kinds.specs.declared.Leaf.the-variants.{Const, Prop, Hold}
@@ -64,8 +63,3 @@ abbrev pub PairMakes : Seen → ℕ → ℕ → ℕ → List ℕ → List ℕ �
 PairMakes seen from op decide p p′ at =
     (j : Join) (f g : Formula) (rest : List ℕ) → Pair p (from + 1) op decide j f g rest
     → Settles (joined j (settled seen f) (settled seen g)) (from + 1 + size f + size g) p′ rest at
-
--- ---- a formula's bytes rewritten as what it becomes, zero past the result
-pub record Rewritten (seen : Seen) (p p′ : List ℕ) (n : ℕ) : Type 0 where
-  pub bytes : (f : Formula) (rest : List ℕ) → Front p f rest → p′ ≡ padded (length p) (encode (settled seen f))
-  pub count : (f : Formula) (rest : List ℕ) → Front p f rest → n ≡ size (settled seen f)

@@ -9,7 +9,7 @@ ghost use Rattle.lists.specs.Tests as tests;
 ghost use Rattle.kinds.specs.declared.Leaf.the-variants.{Const, Hold};
 ghost use Rattle.kinds.specs.Kinds.{leafCode, leafCoded};
 ghost use Rattle.nodes.specs.Begins.{Begins};
-ghost use Rattle.resolving.specs.Settles.{settled, settledLeaf, Makes, NotMakes, Pairs, PairMakes, Rewritten};
+ghost use Rattle.resolving.specs.Settles.{settled, settledLeaf, Makes, NotMakes, Pairs, PairMakes};
 use joining::Settled;
 use kinds::Binary;
 use kinds::Join;
@@ -82,7 +82,7 @@ fn keep(p: &mut [u8], at: usize) -> Settled
 }
 
 // Resolves the formula that stands from `from` on.
-fn resolve(p: &mut [u8], from: usize, seen: Seen) -> Settled
+pub fn resolve(p: &mut [u8], from: usize, seen: Seen) -> Settled
     requires { ⌜ Begins (drop from (now p)) ⌝ }
     ensures { λ r. ⌜ Makes (settled seen) from (now (p .entry)) (now (p .exit)) r ⌝ }
 {
@@ -165,17 +165,4 @@ fn resolve_pair(p: &mut [u8], from: usize, op: u8, decide: u8, seen: Seen) -> Se
     }
     let c = resolve(&mut p[end..], next - end, seen);
     joining::join(p, op, decide, start, end, c)
-}
-
-// Resolves the formula that p begins with, moves the result to the front, clears the rest and answers the result's length.
-pub fn rewrite(p: &mut [u8], seen: Seen) -> usize
-    requires { ⌜ Begins (now p) ⌝ }
-    ensures { λ r. ⌜ Rewritten seen (now (p .entry)) (now (p .exit)) r ⌝ }
-{
-    let at = resolve(p, 0, seen);
-    let start = at.start;
-    let n = at.end - start;
-    buffers::slide(p, start, n);
-    buffers::clear(&mut p[n..]);
-    n
 }

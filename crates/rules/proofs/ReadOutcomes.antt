@@ -19,43 +19,45 @@ use Rattle.masks.specs.Masks.{masksRule}
 use Rattle.rules.specs.declared.RuleCounts.{RuleCounts}
 use Rattle.rules.specs.declared.ReadAnswer.the-variants.{Refused, Rule}
 use Rattle.rules.specs.RuleFile.{version, countsOk, versionInFile, boardsInFile, propositionsInFile, nodesInFile, masksInFile, formulaInFile}
-use Rattle.rules.specs.Read.{readLengthsOk, offsetsOk, readSays, Reads}
+use Rattle.rules.specs.Read.{readLengthsOk, offsetsOk, readSays, HeadPassed, Reads}
+
+-- ---- refusals by the header
+module _ (file : List ℕ) (m f : ℕ) where
+  pub head-length : readLengthsOk file m f ≡ false → refused (numberOf Length) ≡ readSays file m f
+  unfolding readSays inOrder pick
+  head-length h = rw h
+
+  module _ (o₁ : readLengthsOk file m f ≡ true) where
+    pub head-version : eqb (versionInFile file) version ≡ false → refused (numberOf Version) ≡ readSays file m f
+    unfolding readSays inOrder pick
+    head-version h = rw (o₁, h)
+
+    module _ (o₂ : eqb (versionInFile file) version ≡ true) where
+      pub head-range : countsOk (boardsInFile file) (propositionsInFile file) (nodesInFile file) ≡ false → refused (numberOf Range) ≡ readSays file m f
+      unfolding readSays inOrder pick
+      head-range h = rw (o₁, o₂, h)
+
+      module _ (o₃ : countsOk (boardsInFile file) (propositionsInFile file) (nodesInFile file) ≡ true) where
+        pub head-offset : offsetsOk file ≡ false → refused (numberOf Offset) ≡ readSays file m f
+        unfolding readSays inOrder pick
+        head-offset h = rw (o₁, o₂, o₃, h)
 
 -- ---- refusals
 module _ (file masks formula : List ℕ) where
-  read-refused : (why : Refusal) → readSays file (length masks) (length formula) ≡ refused (numberOf why) → Reads file masks formula masks formula (Refused why)
+  pub read-refused : (why : Refusal) → refused (numberOf why) ≡ readSays file (length masks) (length formula) → Reads file masks formula masks formula (Refused why)
   read-refused why e =
-      let leaves : (x y : List ℕ) → y ≡ left (readSays file (length masks) (length formula)) x y = λ x y. sym (ap (λ (s : Said). left s x y) e ∙ left-refused why x y) in
-      record { says = sym e; leaves-masks = leaves _ masks; leaves-formula = leaves _ formula }
+      let leaves : (x y : List ℕ) → y ≡ left (readSays file (length masks) (length formula)) x y = λ x y. sym (ap (λ (s : Said). left s x y) (sym e) ∙ left-refused why x y) in
+      record { says = e; leaves-masks = leaves _ masks; leaves-formula = leaves _ formula }
 
-  pub read-length : readLengthsOk file (length masks) (length formula) ≡ false → Reads file masks formula masks formula (Refused Length)
-  unfolding readSays inOrder pick
-  read-length h = read-refused Length (rw h)
-
-  module _ (o₁ : readLengthsOk file (length masks) (length formula) ≡ true) where
-    pub read-version : eqb (versionInFile file) version ≡ false → Reads file masks formula masks formula (Refused Version)
+  module _ {c : RuleCounts} (h : HeadPassed file (length masks) (length formula) c) where
+    pub read-masks : masksRule (propositionsInFile file) (masksInFile file) ≡ false → Reads file masks formula masks formula (Refused Masks)
     unfolding readSays inOrder pick
-    read-version h = read-refused Version (rw (o₁, h))
+    read-masks e = read-refused Masks (rw (h .lengths, h .version, h .counts, h .offsets, e))
 
-    module _ (o₂ : eqb (versionInFile file) version ≡ true) where
-      pub read-range : countsOk (boardsInFile file) (propositionsInFile file) (nodesInFile file) ≡ false → Reads file masks formula masks formula (Refused Range)
+    module _ (o₅ : masksRule (propositionsInFile file) (masksInFile file) ≡ true) where
+      pub read-formula : isRule (propositionsInFile file) (formulaInFile file) ≡ false → Reads file masks formula masks formula (Refused Formula)
       unfolding readSays inOrder pick
-      read-range h = read-refused Range (rw (o₁, o₂, h))
-
-      module _ (o₃ : countsOk (boardsInFile file) (propositionsInFile file) (nodesInFile file) ≡ true) where
-        pub read-offset : offsetsOk file ≡ false → Reads file masks formula masks formula (Refused Offset)
-        unfolding readSays inOrder pick
-        read-offset h = read-refused Offset (rw (o₁, o₂, o₃, h))
-
-        module _ (o₄ : offsetsOk file ≡ true) where
-          pub read-masks : masksRule (propositionsInFile file) (masksInFile file) ≡ false → Reads file masks formula masks formula (Refused Masks)
-          unfolding readSays inOrder pick
-          read-masks h = read-refused Masks (rw (o₁, o₂, o₃, o₄, h))
-
-          module _ (o₅ : masksRule (propositionsInFile file) (masksInFile file) ≡ true) where
-            pub read-formula : isRule (propositionsInFile file) (formulaInFile file) ≡ false → Reads file masks formula masks formula (Refused Formula)
-            unfolding readSays inOrder pick
-            read-formula h = read-refused Formula (rw (o₁, o₂, o₃, o₄, o₅, h))
+      read-formula e = read-refused Formula (rw (h .lengths, h .version, h .counts, h .offsets, o₅, e))
 
 -- ---- all checks passed
 pub record ReadPassed (file : List ℕ) (m f : ℕ) : Type 0 where

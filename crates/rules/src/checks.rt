@@ -8,9 +8,13 @@ ghost use Rattle.lists.specs.Listed.{listed};
 ghost use Rattle.ltl.specs.Decode.{isRule};
 ghost use Rattle.masks.specs.Masks.{masksRule};
 ghost use Rattle.rules.specs.RuleFile.{masksAt, fileFormulaAt, countsOk, boardsInFile, nodesInFile, maskInFile};
-ghost use Rattle.rules.specs.Read.{readLengthsOk, offsetsOk};
+ghost use Rattle.rules.specs.Read.{readLengthsOk, offsetsOk, HeadRead};
 use crate::MASKS_AT;
+use crate::ReadAnswer;
+use crate::RuleCounts;
 use crate::TOTAL_AT;
+use crate::VERSION;
+use answers::Refusal;
 use limits::BOARDS_MOST;
 use limits::PROPOSITIONS_MOST;
 use limits::RULE_NODES_MOST;
@@ -65,6 +69,32 @@ pub fn offsets_ok(file: &[u8], b: usize, n: usize) -> bool
         return false;
     }
     le::u32_at(file, TOTAL_AT) as usize == MASKS_AT + 8 * b + n
+}
+
+// The header of a file: its counts, or the refusal of the first of these four checks that fails.
+pub fn head_of(file: &[u8], masks: usize, formula: usize) -> ReadAnswer
+    ensures { λ r. ⌜ HeadRead (now (file .entry)) masks formula r ⌝ }
+{
+    if !lengths_ok(file, masks, formula) {
+        return ReadAnswer::Refused(Refusal::Length);
+    }
+    if le::u16_at(file, 0) != VERSION {
+        return ReadAnswer::Refused(Refusal::Version);
+    }
+    let b = le::u16_at(file, 2) as usize;
+    let p = le::u16_at(file, 4) as u64;
+    let n = le::u16_at(file, 6) as usize;
+    if !counts_ok(b, p, n) {
+        return ReadAnswer::Refused(Refusal::Range);
+    }
+    if !offsets_ok(file, b, n) {
+        return ReadAnswer::Refused(Refusal::Offset);
+    }
+    ReadAnswer::Rule(RuleCounts {
+        boards: b as u64,
+        propositions: p,
+        nodes: n as u64,
+    })
 }
 
 // The masks of b boards to the front of `found`, and whether they follow their rule with p propositions.

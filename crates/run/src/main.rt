@@ -6,7 +6,6 @@ ghost use Prim.Native.Nat.{_≤_};
 ghost use lib.ListN.{length};
 ghost use Rattle.programs.specs.Hand.{InHand};
 use answers::Outcome;
-use asking::AskAnswer;
 use programs::input::Came;
 use programs::input::Hand;
 use programs::input::PIECE;
@@ -15,6 +14,7 @@ use programs::turns;
 use programs::turns::NextEvent;
 use programs::turns::Turned;
 use state::STATE_ROOM;
+use telling::AskAnswer;
 
 // Two ticks a turn. The state counts ticks in 32 bits, so the last of these ticks is refused at the latest.
 const TURNS: u64 = 2147483648;

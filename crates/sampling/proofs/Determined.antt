@@ -5,7 +5,7 @@ use mathlib.Core.List.{List}
 use Prim.Native.Nat.{ℕ}
 use Rattle.answers.specs.declared.Outcome.{Outcome}
 use Rattle.answers.proofs.Answers.{saidOutcome-injective}
-use Rattle.sampling.specs.Sample.{Samples}
+use Rattle.taking.specs.Sample.{Samples}
 
 pub samples-determined : (state : List ℕ) (board bits : ℕ) (s t : List ℕ) (a b : Outcome)
     → Samples state board bits s a → Samples state board bits t b → (a ≡ b) × (s ≡ t)

@@ -1,3 +1,2 @@
--- Laws of the call: its outcomes, and that its promise leaves no choice.
-pub mod Outcomes
+-- That the promise of the call leaves no choice.
 pub mod Determined

@@ -21,10 +21,10 @@ use Rattle.state.specs.Clauses.{heldBy}
 use Rattle.state.specs.Bytes.{formulaAt}
 use Rattle.state.specs.Calls.{readyIn}
 use Rattle.state.specs.Counted.{Spans}
-use Rattle.checking.proofs.Records.{byte-at}
+use Rattle.records.proofs.Opened.{byte-at}
 use Rattle.checked.proofs.Passing.{SlotPassing}
-use Rattle.central.specs.Progressing.{verdictByte}
-use Rattle.central.proofs.Progresses.{verdict-first, first-of}
+use Rattle.verdicts.specs.Verdicts.{verdictByte}
+use Rattle.verdicts.proofs.Firsts.{verdict-first, first-of}
 use Rattle.resolving.specs.declared.Seen.{Seen}
 use Rattle.resolving.specs.Settles.{eventAlone}
 use Rattle.seeing.specs.declared.Sight.{Sight}

@@ -3,7 +3,7 @@ ghost use mathlib.Core.Path.{_≡_};
 ghost use Prim.Native.Nat.{_+_, _<_};
 ghost use Rattle.limits.specs.Limits.{holderCodes};
 ghost use Rattle.kinds.specs.Kinds.{holdCode};
-ghost use Rattle.opening.specs.Opening.{Opened};
+ghost use Rattle.state.specs.Opened.{Opened};
 ghost use Rattle.checked.specs.Holds.{Holds};
 ghost use Rattle.resolving.specs.Settles.{eventAlone};
 ghost use Rattle.seeing.specs.Seeing.{answerIn, told, sightAfter, sightOver, sightIn};
@@ -27,7 +27,7 @@ fn answer_of(s: &[u8], c: Counts, m: usize) -> Verdict
     ensures { λ r. ⌜ r ≡ answerIn (now (s .entry)) m ⌝ }
 {
     let first = state::span_of(s, c, m).from;
-    central::verdict(s[first])
+    verdicts::verdict(s[first])
 }
 
 // What is seen once slot m is seen to be v.

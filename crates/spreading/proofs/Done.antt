@@ -20,8 +20,10 @@ use Rattle.tagging.specs.Packed.{aheadIn}
 use Rattle.laying.specs.Lays.{OnBoard, HeldAt}
 use Rattle.laying.proofs.Totals.{relaid-single}
 use Rattle.checked.proofs.Passing.{passing}
-use Rattle.spreading.specs.Spreads.{unfoldedAt, Spreads}
-use Rattle.spreading.proofs.Room.{holdIn, slot-coded, root-there, lays-again, next-is}
+use Rattle.carrying.specs.Carries.{unfoldedAt}
+use Rattle.carrying.proofs.Coded.{slot-coded}
+use Rattle.spreading.specs.Spreads.{Spreads}
+use Rattle.spreading.proofs.Room.{holdIn, root-there, lays-again, next-is}
 use Rattle.spreading.proofs.Places.{StandsIn, HeldFront}
 use Rattle.spreading.proofs.Turns.{Turn}
 

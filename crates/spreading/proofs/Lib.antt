@@ -1,6 +1,5 @@
 -- Laws of spreading.
 pub mod Room
-pub mod Slots
 pub mod Places
 pub mod Turns
 pub mod Putting

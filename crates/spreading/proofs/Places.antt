@@ -14,7 +14,7 @@ use Rattle.network.specs.Scores.{chosen}
 use Rattle.state.specs.Fields.{slotsIn, masksIn}
 use Rattle.tagging.specs.Packed.{aheadIn}
 use Rattle.tagging.proofs.Places.{Agree, agree-drop, tagged-same}
-use Rattle.spreading.specs.Spreads.{unfoldedAt, SlotStands}
+use Rattle.carrying.specs.Carries.{unfoldedAt, SlotStands}
 
 -- slot m stands from `at` on
 pub record StandsIn (s w tags : List ℕ) (at m : ℕ) : Type 0 where

@@ -28,7 +28,7 @@ use Rattle.counting.specs.Held.{heldOver}
 use Rattle.counting.proofs.Held.{held-high, over-append}
 use Rattle.counting.proofs.Networks.{nodesOfSlot}
 use Rattle.counting.proofs.Slots.{slot-numbers}
-use Rattle.spreading.specs.Spreads.{unfoldedAt, PutSlotAsk, PutsSlot}
+use Rattle.carrying.specs.Carries.{unfoldedAt, PutSlotAsk, PutsSlot}
 use Rattle.spreading.proofs.Room.{slot-hold, slot-room}
 use Rattle.spreading.proofs.Places.{StandsIn, HeldFront, stands-more, held-more, stands-last}
 use Rattle.spreading.proofs.Turns.{Turn, SpreadTo, w-long, byte-is, room-next}

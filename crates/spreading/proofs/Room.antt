@@ -1,6 +1,6 @@
 -- What the slots of a state that passes lay when it is closed: `lays-again`, `next-is`, and how much room they need. A slot's nodes, with
--- what its place holders lay, are no more than it lays itself: `slot-room`, `root-room`. Its numbers are within the state's and have
--- codes (`slot-within`, `slot-coded`), so its place holders are of slots that are there (`slot-hold`). Assumes nothing.
+-- what its place holders lay, are no more than it lays itself: `slot-room`, `root-room`. Its place holders are of slots that
+-- are there (`slot-hold`). Assumes nothing.
 use mathlib.Core.Path.{_≡_, ap, _∙_}
 use mathlib.Core.Bool.{true}
 use mathlib.Core.List.{List}
@@ -8,10 +8,8 @@ use mathlib.Core.Option.{Option}
 use Prim.Native.Nat.{ℕ, _+_, _<_, _≤_}
 use native.Mathlib.Omega.{arith}
 use lib.ListN.{length}
-use Rattle.limits.specs.Limits.{propositionsMost, holderCodes}
-use Rattle.ltl.specs.Formula.{Formula, size, encode, Within, Coded}
+use Rattle.ltl.specs.Formula.{Formula, size, encode}
 use Rattle.ltl.specs.Progression.{unfolded}
-use Rattle.ltl.proofs.Decoding.{unfolded-coded}
 use Rattle.masks.specs.Masks.{sumOnes}
 use Rattle.network.specs.Scores.{chosen}
 use Rattle.network.specs.Layout.{Slot, Laid, cut, rooted, laid, relaid, close}
@@ -28,7 +26,8 @@ use Rattle.checked.proofs.Bytes.{holds-formula}
 use Rattle.counting.specs.Held.{heldOver}
 use Rattle.counting.proofs.Held.{clean-held}
 use Rattle.counting.proofs.Networks.{nodesOfSlot, slot-clean, network-higher, nodes-at, next-nodes}
-use Rattle.spreading.specs.Spreads.{unfoldedAt}
+use Rattle.carrying.specs.Carries.{unfoldedAt}
+use Rattle.carrying.proofs.Coded.{slot-within, slot-coded}
 
 module _ (s : List ℕ) where
   -- what a place holder lays
@@ -40,19 +39,13 @@ module _ (s : List ℕ) where
     choose = chosen (masksIn s)
 
     module _ (m : ℕ) (l : m < slotsIn s) where
-      pub slot-within : Within (sumOnes (masksIn s)) (slotsIn s) (unfoldedAt s m)
-      slot-within = unfolded-coded (sumOnes (masksIn s)) (slotsIn s) (formulaAt s m) (passing s ok .slots m l .within)
-
-      pub slot-coded : Coded (unfoldedAt s m)
-      slot-coded = unfolded-coded propositionsMost holderCodes (formulaAt s m) (passing s ok .slots m l .coded)
-
       pub slot-hold : Holds (slotsIn s) (encode (unfoldedAt s m))
-      slot-hold = holds-formula (sumOnes (masksIn s)) (slotsIn s) (unfoldedAt s m) (passing s ok .few-propositions) slot-within
+      slot-hold = holds-formula (sumOnes (masksIn s)) (slotsIn s) (unfoldedAt s m) (passing s ok .few-propositions) (slot-within s ok m l)
 
       pub slot-room : size (unfoldedAt s m) + heldOver (nodesOfSlot s) (encode (unfoldedAt s m)) ≤ nodesOfSlot s m
       slot-room =
           let n = nodes-at s ok m l in
-          let h = clean-held (nodesOfSlot s) choose (unfoldedAt s m) slot-coded (unfolded-clean choose (formulaAt s m) (slot-clean s ok m l)) in
+          let h = clean-held (nodesOfSlot s) choose (unfoldedAt s m) (slot-coded s ok m l) (unfolded-clean choose (formulaAt s m) (slot-clean s ok m l)) in
           omega arith
 
     pub lays-again : (m k : ℕ) → m < slotsIn s → holdIn m k ≡ cut (boardOfIn s m) k (laid choose holdIn (unfoldedAt s m) (boardOfIn s m) (k + 1))

@@ -20,7 +20,8 @@ use Rattle.checked.specs.Holds.{Holds}
 use Rattle.counting.specs.Held.{heldAt, heldOver}
 use Rattle.counting.proofs.Held.{held-low, over-next}
 use Rattle.counting.proofs.Networks.{nodesOfSlot}
-use Rattle.spreading.specs.Spreads.{unfoldedAt, PutSlotAsk, PutsSlot, SpreadAsk}
+use Rattle.carrying.specs.Carries.{unfoldedAt, PutSlotAsk, PutsSlot}
+use Rattle.spreading.specs.Spreads.{SpreadAsk}
 use Rattle.spreading.proofs.Room.{slot-hold, root-there, root-room}
 use Rattle.spreading.proofs.Places.{StandsIn, HeldFront, stands-last}
 

@@ -1,29 +1,10 @@
 // The slots that are reached from a network's root, unfolded one behind the other and tagged, each on its board, so that they can be
 // laid again: at each place holder the tag says how far on its slot stands.
-ghost use Rattle.spreading.specs.Spreads.{PutSlotAsk, PutsSlot, SpreadAsk, Spreads};
+ghost use Rattle.spreading.specs.Spreads.{SpreadAsk, Spreads};
+use carrying::put_slot;
 use kinds::Kind;
 use state::Counts;
-use state::Span;
 use tagging::packed;
-
-// Unfolds slot m to the front of u, and tags it on its board.
-fn put_slot(
-    state: &[u8],
-    c: Counts,
-    m: usize,
-    owner: &[u8],
-    u: &mut [u8],
-    tags: &mut [u32],
-) -> usize
-    requires { ⌜ PutSlotAsk (now state) c m (now owner) (now u) (now tags) ⌝ }
-    ensures { λ r. ⌜ PutsSlot (now (state .entry)) m (now (u .entry)) (now (u .exit)) (now (tags .exit)) r ⌝ }
-{
-    let Span { from, to } = state::span_of(state, c, m);
-    let n = unfolding::unfold_into(u, &state[from..to]).written;
-    let board = state::board_of(state, c, m);
-    tagging::tag(&u[..n], tags, owner, board);
-    n
-}
 
 // Spreads the network out, and answers how many bytes of u it takes. What is behind them is not read.
 pub fn spread(state: &[u8], c: Counts, owner: &[u8], u: &mut [u8], tags: &mut [u32]) -> usize

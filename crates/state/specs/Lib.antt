@@ -6,4 +6,5 @@ pub mod Clauses
 pub mod Bytes
 pub mod Writes
 pub mod Counted
+pub mod Opened
 pub mod Calls

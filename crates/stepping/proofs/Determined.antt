@@ -5,7 +5,7 @@ use mathlib.Core.List.{List}
 use Prim.Native.Nat.{ℕ}
 use Rattle.answers.specs.declared.Outcome.{Outcome}
 use Rattle.answers.proofs.Answers.{saidOutcome-injective}
-use Rattle.stepping.specs.Step.{StepsSlot}
+use Rattle.settling.specs.Step.{StepsSlot}
 
 pub steps-determined : (state : List ℕ) (slot : ℕ) (s t : List ℕ) (a b : Outcome)
     → StepsSlot state slot s a → StepsSlot state slot t b → (a ≡ b) × (s ≡ t)

@@ -1,4 +1,2 @@
--- Laws of the call: what is written, the call's outcomes, and that its promise leaves no choice.
-pub mod Rewriting
-pub mod Outcomes
+-- That the promise of the call leaves no choice.
 pub mod Determined

@@ -1,4 +1,3 @@
 -- Laws of unfolding over plain lists.
-pub mod Counts
 pub mod Unfoldings
 pub mod Fronts

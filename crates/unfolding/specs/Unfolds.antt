@@ -1,6 +1,6 @@
 -- What unfolding a formula's bytes asks and gives. Assumes nothing: these are definitions.
 use mathlib.Core.Path.{_≡_}
-use Prim.Native.Nat.{ℕ, _+_, _≤_, min}
+use Prim.Native.Nat.{ℕ, _+_, _≤_}
 use mathlib.Core.List.{List, _∷_, _++_}
 use lib.ListN.{length, getD, drop}
 use Rattle.kinds.specs.declared.Unary.the-variants.{Ever}
@@ -8,7 +8,6 @@ use Rattle.kinds.specs.declared.Join.{Join}
 use Rattle.kinds.specs.declared.Binary.the-variants.{Joined}
 use Rattle.kinds.specs.declared.Kind.the-variants.{One, Two}
 use Rattle.kinds.specs.Kinds.{kindOf, joinCode}
-use Rattle.limits.specs.Limits.{nodesRoom}
 use Rattle.ltl.specs.Formula.{Formula, size, encode}
 use Rattle.ltl.specs.Progression.{unfolded}
 use Rattle.nodes.specs.Begins.{Front, Begins}
@@ -17,10 +16,6 @@ use Rattle.nodes.specs.Begins.{Front, Begins}
 pub record UnfoldAsk (out s : List ℕ) : Type 0 where
   pub begins : Begins s
   pub room : size (unfolded (begins .formula)) ≤ length out
-
--- the formula in front was read, and its unfolded nodes counted up to one more than the most
-abbrev pub CountsUnfolded : List ℕ → ℕ → ℕ → Type 0
-CountsUnfolded s read count = (f : Formula) (rest : List ℕ) → Front s f rest → (read ≡ size f) × (count ≡ min (size (unfolded f)) (nodesRoom + 1))
 
 -- the formula in front was read, and stands unfolded at the front of the output, behind which nothing changed
 pub record UnfoldedTo (f : Formula) (out out′ : List ℕ) (read written : ℕ) : Type 0 where

@@ -8,8 +8,8 @@ use Rattle.limits.specs.Limits.{propositionsMost}
 use Rattle.state.specs.Form.{formIn, slotsMost, nodesMost}
 use Rattle.state.specs.Fields.{masksIn}
 use Rattle.state.specs.Calls.{nextIn}
-use Rattle.opening.proofs.Opened.{opened-sized}
-use Rattle.checking.proofs.Masked.{masks-front}
+use Rattle.records.proofs.Opened.{opened-sized}
+use Rattle.state.proofs.Columns.{masks-front}
 use Rattle.scores.proofs.Added.{zeros-few}
 use Rattle.storing.specs.Stores.{LaidCounts}
 use Rattle.counting.specs.OpenedWith.{OpenedWith}

@@ -3,8 +3,9 @@ use mathlib.Core.Path.{_≡_, subst}
 use mathlib.Core.Bool.{true, false}
 use borrow.Author.Needs.{needs}
 use Rattle.state.specs.Calls.{finishedIn}
-use Rattle.opening.specs.Opening.{Opened, Opens}
-use Rattle.asking.proofs.Outcomes.{verdict-pending, refused-state}
+use Rattle.state.specs.Opened.{Opened}
+use Rattle.opening.specs.Opening.{Opens}
+use Rattle.telling.proofs.Outcomes.{verdict-pending, refused-state}
 use Rattle.asking.proofs.ask.Statement.{statement}
 use Rattle.asking.proofs.ask.Tie as tie
 

@@ -12,8 +12,8 @@ use Rattle.ltl.specs.Progression.{unfolded}
 use Rattle.ltl.specs.Decode.{isRule}
 use Rattle.nodes.proofs.Fronts.{front-begins}
 use Rattle.central.specs.Central.{centralLengthsOk}
-use Rattle.central.specs.Progressing.{verdictByte}
-use Rattle.central.proofs.Progresses.{verdict-first, first-of}
+use Rattle.verdicts.specs.Verdicts.{verdictByte}
+use Rattle.verdicts.proofs.Firsts.{verdict-first, first-of}
 use Rattle.central.proofs.Outcomes.{CentralPassed, central-passed, whole, refused-length, refused-formula, refused-nodes, room, progressed-to}
 use Rattle.central.proofs.central.Statement.{statement}
 use Rattle.central.proofs.central.Tie as tie

@@ -5,8 +5,8 @@ use mathlib.Core.Bool.{true}
 use Prim.Native.Nat.{_+_, _<_, _^_}
 use borrow.Author.Tests.{not-true, not-false}
 use Rattle.state.specs.Fields.{ticksIn}
-use Rattle.opening.proofs.Opened.{opened-sized}
-use Rattle.closing.specs.Done.{allSampled, allStepped}
+use Rattle.records.proofs.Opened.{opened-sized}
+use Rattle.done.specs.Done.{allSampled, allStepped}
 use Rattle.closing.proofs.Outcomes.{CloseGoing, refused-boards, refused-slots, refused-ticks, advanced}
 use native.Mathlib.Omega.{arith}
 use borrow.Author.Needs.{needs}

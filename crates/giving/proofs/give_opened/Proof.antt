@@ -1,5 +1,5 @@
 -- One law of proofs/Following.antt for each way out; a state that was opened has few boards. Assumes nothing.
-use Rattle.opening.proofs.Opened.{opened-sized}
+use Rattle.records.proofs.Opened.{opened-sized}
 use Rattle.giving.proofs.Following.{given-outside, given-sampled, given-stepped}
 use borrow.Author.Needs.{needs}
 use Rattle.giving.proofs.give_opened.Statement.{statement}

@@ -1,6 +1,7 @@
 -- The tests of the definition; the state's check tells that slot 0 is there. Assumes nothing.
 use mathlib.Core.Path.{sym, _∙_}
-use Rattle.opening.proofs.Opened.{opened-sized, opened-first, opened-slot, finished-many, finished-stepped, finished-is}
+use Rattle.records.proofs.Opened.{opened-sized, opened-first, opened-slot}
+use Rattle.opening.proofs.Going.{finished-many, finished-stepped, finished-is}
 use Rattle.opening.proofs.finished.Statement.{statement}
 use Rattle.opening.proofs.finished.Tie as tie
 

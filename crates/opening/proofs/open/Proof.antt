@@ -4,8 +4,8 @@ use mathlib.Core.Bool.{true}
 use borrow.Author.Tests.{not-true, not-false}
 use borrow.Author.Needs.{needs}
 use Rattle.state.specs.Clauses.{stateOk}
-use Rattle.checking.proofs.Assembled.{passed-length}
-use Rattle.opening.specs.Opening.{Opened}
+use Rattle.state.specs.Opened.{Opened}
+use Rattle.records.proofs.Passed.{passed-length}
 use Rattle.opening.proofs.open.Statement.{statement}
 use Rattle.opening.proofs.open.Tie as tie
 

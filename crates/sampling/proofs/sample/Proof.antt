@@ -1,9 +1,12 @@
--- How the state is found decides: a law of proofs/Outcomes.antt for each refusal, and the call of a watch that goes on.
+-- How the state is found decides: a law of `taking` for each refusal, and the call of a watch that goes on.
 -- Assumes nothing.
 use mathlib.Core.Path.{_≡_, subst}
+use mathlib.Core.Bool.{false}
+use Rattle.state.specs.Calls.{finishedIn}
+use Rattle.state.specs.Opened.{Opened}
 use Rattle.opening.specs.declared.Opening.{Opening}
 use Rattle.opening.specs.Opening.{Opens}
-use Rattle.sampling.proofs.Outcomes.{refused-state, refused-finished}
+use Rattle.taking.proofs.Outcomes.{refused-state, refused-finished}
 use borrow.Author.Needs.{needs}
 use Rattle.sampling.proofs.sample.Statement.{statement}
 use Rattle.sampling.proofs.sample.Tie as tie
@@ -14,6 +17,9 @@ entry c = c .before .before .before
 found : (c : tie.After-open) {o : Opening} → c .«open» .result ≡ o → Opens (entry c .args .state .now) o
 found c e = subst (Opens (entry c .args .state .now)) e (c .«open» .ensures)
 
+going : (c : tie.After-opened) → let s = entry (c .before .before) .args .state .now in Opened s (c .opened .given .0 .0) × (finishedIn s ≡ false)
+going c = found (c .before .before) (c .opened .given .1)
+
 pub sample-spec : {M : Type 1} → statement M
 sample-spec =
     tie.close
@@ -22,7 +28,7 @@ sample-spec =
     (λ c. search needs)
     (λ c. search needs)
     (λ c. search needs)
-    (λ c κs. found (c .before .before .before .before) (c .before .before .opened .given .1))
+    (λ c κs. going (c .before .before))
     (λ c. search needs)
     (λ c. refused-state _ _ _ (found (c .before .before) (c .enum-told .given .1)))
     (λ c. search needs)

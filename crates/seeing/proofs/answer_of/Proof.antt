@@ -1,6 +1,6 @@
 -- The first byte of a slot tells what it is. Assumes nothing.
 use mathlib.Core.Path.{_∙_}
-use Rattle.opening.proofs.Opened.{opened-slot}
+use Rattle.records.proofs.Opened.{opened-slot}
 use Rattle.checked.proofs.Lying.{slot-passing, lying}
 use Rattle.seeing.proofs.Sights.{answer-is}
 use native.Mathlib.Omega.{arith}

@@ -4,8 +4,8 @@ use Prim.Native.Nat.{_-_}
 use Rattle.kinds.specs.Kinds.{holdCode}
 use Rattle.state.specs.Form.{formIn}
 use Rattle.state.proofs.Forms.{slots-coded}
-use Rattle.checking.specs.Slotted.{SlotThere}
-use Rattle.opening.proofs.Opened.{opened-slot}
+use Rattle.state.specs.Opened.{SlotThere}
+use Rattle.records.proofs.Opened.{opened-slot}
 use Rattle.seeing.proofs.Sights.{after-low, after-waits, after-sees}
 use Rattle.seeing.specs.declared.Sight.the-variants.{Sees}
 use Rattle.seeing.specs.Seeing.{told}

@@ -4,9 +4,8 @@ use mathlib.Core.List.{List}
 use Prim.Native.Nat.{ℕ, _<_}
 use Rattle.limits.specs.Limits.{boardsMost}
 use Rattle.state.specs.Fields.{sampleIn, sampledIn, boardOfIn}
-use Rattle.checking.specs.Slotted.{SlotThere}
-use Rattle.checking.proofs.Records.{board-few, bytes-at}
-use Rattle.opening.proofs.Opened.{opened-slot}
+use Rattle.state.specs.Opened.{SlotThere}
+use Rattle.records.proofs.Opened.{board-few, bytes-at, opened-slot}
 use Rattle.checked.proofs.Lying.{slot-passing, lent-holds}
 use Rattle.resolving.specs.Settles.{eventAlone}
 use Rattle.seeing.specs.Seeing.{sightOver}

@@ -5,7 +5,7 @@ use borrow.Author.Needs.{needs}
 use Rattle.lists.specs.Tests.{pick}
 use Rattle.state.specs.Fields.{maskIn, boardOfIn}
 use Rattle.checking.specs.Slotted.{allowedIn, ownStepped}
-use Rattle.checking.proofs.Records.{board-few}
+use Rattle.records.proofs.Opened.{board-few}
 use Rattle.checking.proofs.formulas.allowed_in.Statement.{statement}
 use Rattle.checking.proofs.formulas.allowed_in.Tie as tie
 

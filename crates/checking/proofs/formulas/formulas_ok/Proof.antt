@@ -1,7 +1,7 @@
 -- The slots before k pass and their place holders are noted (`SeenBefore`); the slots left fall. Assumes nothing.
 use mathlib.Core.Path.{sym, _∙_}
 use Prim.Native.Nat.{_-_, _≤_}
-use Rattle.checking.proofs.Records.{slot-there}
+use Rattle.records.proofs.Opened.{slot-there}
 use Rattle.checking.proofs.Forming.{SeenBefore, seen-none, seen-more, seen-wrong, seen-all}
 use native.Mathlib.Omega.{arith}
 use borrow.Author.Needs.{needs}

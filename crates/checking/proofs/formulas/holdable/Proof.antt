@@ -1,13 +1,12 @@
 -- The set has the slots below k that pass the test; the slots left fall. Assumes nothing.
 use mathlib.Core.Path.{_≡_, sym, _∙_}
 use mathlib.Core.Logic.{⊎-elim}
-use Prim.Native.Nat.{_-_, _≤_}
+use Prim.Native.Nat.{_-_, _≤_, _<_}
 use Rattle.state.specs.Fields.{slotsIn}
 use Rattle.checking.specs.Slotted.{holdableIn}
 use Rattle.checking.proofs.Noting.{Below, below-none, below-no, below-yes}
-use Rattle.checking.proofs.Records.{slot-there}
+use Rattle.records.proofs.Opened.{slot-there}
 use native.Mathlib.Omega.{arith}
-use Prim.Native.Nat.{_<_}
 use Rattle.limits.specs.Limits.{holderCodes}
 use Rattle.state.specs.Form.{formIn}
 use Rattle.state.proofs.Forms.{slots-coded}

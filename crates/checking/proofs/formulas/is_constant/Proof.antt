@@ -1,5 +1,5 @@
 -- The test of the definition, by where the slot's nodes lie. Assumes nothing.
-use Rattle.checking.proofs.Records.{constant-is, constant-not}
+use Rattle.checking.proofs.Constants.{constant-is, constant-not}
 use native.Mathlib.Omega.{arith}
 use borrow.Author.Needs.{needs}
 use Rattle.checking.proofs.formulas.is_constant.Statement.{statement}

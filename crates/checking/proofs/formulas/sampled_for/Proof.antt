@@ -7,7 +7,7 @@ use borrow.Author.Needs.{needs}
 use Rattle.lists.specs.Tests.{either}
 use Rattle.state.specs.Fields.{sampledIn}
 use Rattle.checking.specs.Slotted.{sampledFor}
-use Rattle.checking.proofs.Records.{board-few}
+use Rattle.records.proofs.Opened.{board-few}
 use Rattle.checking.proofs.formulas.sampled_for.Statement.{statement}
 use Rattle.checking.proofs.formulas.sampled_for.Tie as tie
 

@@ -3,7 +3,7 @@ use mathlib.Core.Path.{ap, _∙_}
 use mathlib.Core.List.{List}
 use Prim.Native.Nat.{ℕ}
 use Rattle.scanning.specs.OnePass.{at, pass}
-use Rattle.checking.proofs.Records.{bytes-at}
+use Rattle.records.proofs.Opened.{bytes-at}
 use native.Mathlib.Omega.{arith}
 use borrow.Author.Needs.{needs}
 use Rattle.checking.proofs.formulas.slot_held.Statement.{statement}

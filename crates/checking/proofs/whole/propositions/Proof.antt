@@ -10,7 +10,8 @@ use borrow.Author.Needs.{needs}
 use Rattle.limits.specs.Limits.{boardsMost}
 use Rattle.masks.specs.Masks.{sumOnes, masksRule}
 use Rattle.state.specs.Fields.{masksIn}
-use Rattle.checking.proofs.Masked.{masks-front, ones-many, rule-broken, rule-kept}
+use Rattle.state.proofs.Columns.{masks-front}
+use Rattle.checking.proofs.Masked.{ones-many, rule-broken, rule-kept}
 use Rattle.checking.proofs.whole.propositions.Statement.{statement}
 use Rattle.checking.proofs.whole.propositions.Tie as tie
 

@@ -12,7 +12,8 @@ use Rattle.state.specs.Clauses.{eachBelow, recordOk, boardOk, headerOk, gapOk}
 use Rattle.state.specs.Counted.{Header, Sized}
 use Rattle.checking.specs.Slotted.{formulasOk}
 use Rattle.checking.proofs.Masked.{MasksRuled, propositions-none, propositions-some}
-use Rattle.checking.proofs.Assembled.{clause-fails, header-sized, header-some, boards-fail, records-fail, formulas-fail, gaps-fail, clauses-hold}
+use Rattle.records.proofs.Passed.{clause-fails, header-sized, header-some}
+use Rattle.checking.proofs.Assembled.{boards-fail, records-fail, formulas-fail, gaps-fail, clauses-hold}
 use Rattle.checking.proofs.whole.state_ok.Statement.{statement}
 use Rattle.checking.proofs.whole.state_ok.Tie as tie
 

@@ -1,2 +1,0 @@
--- What the contracts of `asking` cite.
-pub mod Ask

@@ -1,0 +1,3 @@
+-- Laws of one slot carried over.
+pub mod Coded
+pub mod Slots

@@ -1,0 +1,2 @@
+-- What the contracts of `carrying` cite.
+pub mod Carries

@@ -1,0 +1,2 @@
+-- Laws of the flags that say a tick is done.
+pub mod Flags

@@ -1,0 +1,2 @@
+-- What the contracts of `done` cite.
+pub mod Done

@@ -1,0 +1,2 @@
+-- Laws of putting the next state.
+pub mod Renewing

@@ -1,0 +1,2 @@
+-- What the contracts of `renewing` cite.
+pub mod Renew

@@ -1,0 +1,2 @@
+-- Laws of a result moved to the front.
+pub mod Results

@@ -1,0 +1,2 @@
+-- What the contracts of `rewriting` cite.
+pub mod Rewritten

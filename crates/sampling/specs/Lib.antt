@@ -1,2 +1,0 @@
--- What the contracts of `sampling` cite.
-pub mod Sample

@@ -1,0 +1,3 @@
+-- Laws of the call `step`: what is written, and its outcomes.
+pub mod Rewriting
+pub mod Outcomes

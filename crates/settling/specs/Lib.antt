@@ -1,0 +1,3 @@
+-- What the contracts of `settling` and `stepping` cite.
+pub mod Step
+pub mod Putting

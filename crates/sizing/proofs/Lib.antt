@@ -1,0 +1,2 @@
+-- Laws of the count.
+pub mod Counts

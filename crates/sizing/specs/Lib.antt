@@ -1,0 +1,2 @@
+-- What the contracts of `sizing` cite.
+pub mod Sizes

@@ -1,0 +1,2 @@
+-- What the contracts of `starting` cite.
+pub mod Starting

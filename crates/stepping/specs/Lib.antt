@@ -1,3 +1,0 @@
--- What the contracts of `stepping` cite.
-pub mod Step
-pub mod Putting

@@ -1,0 +1,2 @@
+-- Laws of the call `sample`: its outcomes.
+pub mod Outcomes

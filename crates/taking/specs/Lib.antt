@@ -1,0 +1,2 @@
+-- What the contracts of `taking` and `sampling` cite.
+pub mod Sample

@@ -1,0 +1,2 @@
+-- Laws of the call `ask`: its outcomes.
+pub mod Outcomes

@@ -1,0 +1,2 @@
+-- What the contracts of `telling` and `asking` cite.
+pub mod Ask

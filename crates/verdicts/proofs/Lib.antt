@@ -1,0 +1,2 @@
+-- Laws of the first byte.
+pub mod Firsts

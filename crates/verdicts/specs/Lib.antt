@@ -1,0 +1,2 @@
+-- What the contract of `verdicts` cites.
+pub mod Verdicts
