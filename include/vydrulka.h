@@ -48,12 +48,12 @@ enum {
 enum {
     VYDRULKA_STACK_READ = 32768,      // 344
     VYDRULKA_STACK_WRITE = 32768,     // 104
-    VYDRULKA_STACK_CENTRAL = 1048576, // 983,152, 2,047 ands that lean left
-    VYDRULKA_STACK_LOAD = 1048576,    // 1,005,136, a rule of 1,023 nots
-    VYDRULKA_STACK_SAMPLE = 32768,    // 408
-    VYDRULKA_STACK_STEP = 1048576,    // 983,104, a slot of 2,047 ands that lean left
-    VYDRULKA_STACK_CLOSE = 4194304,   // 3,953,056, a slot of 4,095 nots
-    VYDRULKA_STACK_ASK = 32768,       // 424
+    VYDRULKA_STACK_CENTRAL = 1048576, // 884,928, 2,047 ands that lean left
+    VYDRULKA_STACK_LOAD = 1048576,    // 1,005,216, a rule of 1,023 nots
+    VYDRULKA_STACK_SAMPLE = 32768,    // 520
+    VYDRULKA_STACK_STEP = 1048576,    // 884,912, a slot of 2,047 ands that lean left
+    VYDRULKA_STACK_CLOSE = 4194304,   // 3,953,392, a slot of 4,095 nots
+    VYDRULKA_STACK_ASK = 32768,       // 536
 };
 
 // A formula has one byte a node: the node's, then its operands, the left one before the right one.

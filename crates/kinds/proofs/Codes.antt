@@ -1,5 +1,5 @@
--- The kinds of the bytes by range, and that each node's own byte has its kind. Others use the `kind-..` laws, and that an
--- operator's byte is below those of place holders (`unary-low`, `binary-low`). Assumes nothing.
+-- The kinds of the bytes by range, and that each node's own byte has its kind. Others use the `kind-..` laws, that an operator's byte
+-- is below those of place holders (`unary-low`, `binary-low`), and `operands-few`. Assumes nothing.
 use mathlib.Core.Path.{_≡_, refl, _∙_}
 use mathlib.Core.Bool.{Bool, true, false}
 use Prim.Native.Nat.{ℕ, zero, suc, _+_, _-_, _<_, _≤_}
@@ -18,7 +18,7 @@ use Rattle.kinds.specs.declared.Kind.{Kind}
 use Rattle.kinds.specs.declared.Kind.the-variants.{Zero, One, Two, NoCode}
 use Rattle.lists.specs.Tests.{pick}
 use Rattle.limits.specs.Limits.{propositionsMost, holderCodes}
-use Rattle.kinds.specs.Kinds.{named, leafCoded, kindOf, leafCode, unaryCode, binaryCode, propCode, holdCode, endCode}
+use Rattle.kinds.specs.Kinds.{named, leafCoded, kindOf, leafCode, unaryCode, binaryCode, propCode, holdCode, endCode, operands}
 
 -- ---- by range
 pub kind-low : (b : ℕ) → 9 ≤ b → b < propCode → kindOf b ≡ NoCode
@@ -118,3 +118,10 @@ pub binary-low : (o : Binary) → binaryCode o < holdCode
 binary-low (Joined And) = omega arith
 binary-low (Joined Or) = omega arith
 binary-low Until = omega arith
+
+-- ---- no node has more than two operands
+pub operands-few : (k : Kind) → operands k ≤ 2
+operands-few (Zero a) = omega arith
+operands-few (One o) = omega arith
+operands-few (Two o) = omega arith
+operands-few NoCode = omega arith

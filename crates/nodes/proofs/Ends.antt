@@ -1,7 +1,7 @@
 -- The end of the formula in front, found by a count of the operands still owed: `Ending` is what the loop of `operand_end` keeps, and
 -- `ending-begins`, `ending-more`, `ending-done` are its laws. Assumes nothing.
-use mathlib.Core.Path.{_≡_, refl, sym, ap, _∙_}
-use mathlib.Core.List.{List, [], _∷_, _++_}
+use mathlib.Core.Path.{_≡_, refl, ap, _∙_}
+use mathlib.Core.List.{List, [], _∷_}
 use Prim.Native.Nat.{ℕ, zero, suc, _+_, _-_, _<_, _≤_}
 use native.Mathlib.Numerals.{add-one}
 use native.Mathlib.Omega.{arith}
@@ -9,7 +9,7 @@ use lib.ListN.{length, getD, drop}
 use lib.Seq.{drop-cons}
 use Rattle.kinds.specs.declared.Kind.{Kind}
 use Rattle.kinds.specs.Kinds.{kindOf, operands}
-use Rattle.ltl.specs.Formula.{Formula, leaf, one, two, size, encode}
+use Rattle.ltl.specs.Formula.{Formula, leaf, one, two, size}
 use Rattle.ltl.proofs.Owing.{Owes, acts, owed-front}
 use Rattle.nodes.specs.Begins.{Front, Begins}
 use Rattle.nodes.proofs.Fronts.{front-length}

@@ -15,9 +15,8 @@ use borrow.Author.Tests.{eqb-true}
 use Rattle.lists.specs.Tests.{pick}
 use Rattle.lists.proofs.Tests.{no-true, no-some}
 use Rattle.kinds.specs.declared.Kind.{Kind}
-use Rattle.kinds.specs.declared.Kind.the-variants.{Zero, One, Two, NoCode}
 use Rattle.kinds.specs.Kinds.{kindOf, operands}
-use Rattle.kinds.proofs.Codes.{CodeOf, isZero, isOne, isTwo, isNone, code}
+use Rattle.kinds.proofs.Codes.{CodeOf, isZero, isOne, isTwo, isNone, code, operands-few}
 use Rattle.ltl.specs.Formula.{Formula, leaf, one, two, encode, Coded, nodeOver, over}
 use Rattle.ltl.specs.Decode.{decoded, overAlone, isFormula}
 use Rattle.ltl.proofs.Decoding.{decoded-of, decoded-is}
@@ -143,13 +142,6 @@ pub record Owing (p z : ℕ) (s : List ℕ) (i owed : ℕ) : Type 0 where
 
 pub owing-begins : {p z : ℕ} {s : List ℕ} → Owing p z s 0 1
 owing-begins {p} {z} {s} = record { inside = omega arith; few = omega arith; same = sym (scan-is p z s) }
-
--- no node has more than two operands
-pub operands-few : (k : Kind) → operands k ≤ 2
-operands-few (Zero a) = omega arith
-operands-few (One o) = omega arith
-operands-few (Two o) = omega arith
-operands-few NoCode = omega arith
 
 module _ {p z : ℕ} {s : List ℕ} {i owed : ℕ} (o : Owing p z s i owed) where
   pub owing-over : i < length s → owed ≡ 0 → false ≡ isFormula p z s

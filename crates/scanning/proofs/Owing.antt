@@ -11,7 +11,7 @@ use native.Mathlib.Omega.{arith}
 use lib.ListN.{length, drop, getD, drop-of-length-le}
 use lib.Seq.{drop-cons}
 use lib.Dec.{ltb}
-use borrow.Author.Tests.{ltb-true, ltb-false, lt-ltb, eq-eqb}
+use borrow.Author.Tests.{ltb-true, ltb-false, eq-eqb}
 use Rattle.limits.specs.Limits.{propositionsMost, holderCodes}
 use Rattle.lists.specs.Tests.{pick, both, bit}
 use Rattle.lists.proofs.Tests.{no-true}
@@ -21,12 +21,12 @@ use Rattle.kinds.specs.declared.Unary.the-variants.{Not, Next, Ever}
 use Rattle.kinds.specs.declared.Binary.the-variants.{Joined, Until}
 use Rattle.kinds.specs.declared.Kind.{Kind}
 use Rattle.kinds.specs.Kinds.{kindOf, operands, leafCoded}
-use Rattle.kinds.proofs.Codes.{CodeOf, isZero, isOne, isTwo, isNone, code}
+use Rattle.kinds.proofs.Codes.{CodeOf, isZero, isOne, isTwo, isNone, code, operands-few}
 use Rattle.ltl.specs.Formula.{Formula, leaf, encode, leafOver, nodeOver, over}
 use Rattle.ltl.specs.Decode.{decoded, overAlone, isFormula}
 use Rattle.ltl.proofs.Decoding.{decoded-is, within-over}
 use Rattle.owing.specs.Scan.{scan}
-use Rattle.owing.proofs.Scans.{scan-is, operands-few, turn, turn-end}
+use Rattle.owing.proofs.Scans.{scan-is, turn, turn-end}
 use Rattle.slot_sets.specs.declared.SlotSet.{SlotSet}
 use Rattle.slot_sets.specs.SlotSets.{hasSlot, withSlot}
 use Rattle.scanning.specs.declared.Allowed.{Allowed}
@@ -50,7 +50,7 @@ unfolding pick
 on-owed-if true n m seen y e = on-owed n m seen y e
 on-owed-if false n m seen y e = absurd (off-on y e)
 
--- behind a node as many operands are owed as in the language, n before it and besides
+-- behind a node of the language, with n operands owed beside it, as many are owed as there
 record Behind (k : Kind) (n : ℕ) (y : Pass) : Type 0 where
   stands : nodeOver propositionsMost holderCodes k ≡ true
   owed : n + operands k ≡ y .outer + y .inner

@@ -2,7 +2,8 @@
 use mathlib.Core.Path.{sym, _∙_}
 use Prim.Native.Nat.{_-_}
 use lib.ListN.{length}
-use Rattle.owing.proofs.Scans.{Owing, owing-begins, owing-over, owing-more, owing-broken, owing-ends, operands-few}
+use Rattle.kinds.proofs.Codes.{operands-few}
+use Rattle.owing.proofs.Scans.{Owing, owing-begins, owing-over, owing-more, owing-broken, owing-ends}
 use native.Mathlib.Omega.{arith}
 use borrow.Author.Needs.{needs}
 use borrow.Author.Tests.{not-true, not-false}

@@ -3,7 +3,7 @@ use mathlib.Core.Path.{_∙_, sym}
 use native.Mathlib.Omega.{arith}
 use borrow.Author.Needs.{needs}
 use Rattle.lists.specs.Tests.{pick}
-use Rattle.owing.proofs.Scans.{operands-few}
+use Rattle.kinds.proofs.Codes.{operands-few}
 use Rattle.scanning.proofs.inside.Statement.{statement}
 use Rattle.scanning.proofs.inside.Tie as tie
 
