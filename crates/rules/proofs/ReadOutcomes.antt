@@ -19,7 +19,8 @@ use Rattle.masks.specs.Masks.{masksRule}
 use Rattle.rules.specs.declared.RuleCounts.{RuleCounts}
 use Rattle.rules.specs.declared.ReadAnswer.the-variants.{Refused, Rule}
 use Rattle.rules.specs.RuleFile.{version, countsOk, versionInFile, boardsInFile, propositionsInFile, nodesInFile, masksInFile, formulaInFile}
-use Rattle.rules.specs.Read.{readLengthsOk, offsetsOk, readSays, HeadPassed, Reads}
+use Rattle.rules.specs.Read.{readLengthsOk, offsetsOk, readSays, Reads}
+use Rattle.rules.specs.Head.{HeadPassed}
 
 -- ---- refusals by the header
 module _ (file : List ℕ) (m f : ℕ) where

@@ -1,7 +1,7 @@
 -- Reading a rule file: the answer and the lent buffers. Assumes nothing: these are definitions.
 use mathlib.Core.Path.{_≡_}
 use Prim.Native.Nat.{ℕ}
-use mathlib.Core.Bool.{Bool, true}
+use mathlib.Core.Bool.{Bool}
 use mathlib.Core.List.{List, [], _∷_}
 use lib.ListN.{length}
 use lib.Dec.{leb, eqb}
@@ -11,7 +11,6 @@ use Rattle.lists.specs.Runs.{padded}
 use Rattle.answers.specs.Said.{Said, accepted, refused, left, numberOf, check, inOrder}
 use Rattle.ltl.specs.Decode.{isRule}
 use Rattle.masks.specs.Masks.{masksRule}
-use Rattle.rules.specs.declared.RuleCounts.{RuleCounts}
 use Rattle.rules.specs.declared.ReadAnswer.{ReadAnswer}
 use Rattle.rules.specs.declared.ReadAnswer.the-variants.{Refused, Rule}
 use Rattle.rules.specs.RuleFile.{version, masksAt, fileFormulaAt, totalOf, countsOk, versionInFile, boardsInFile, propositionsInFile, nodesInFile, masksOffsetInFile, formulaOffsetInFile, totalInFile, masksInFile, formulaInFile}
@@ -43,21 +42,6 @@ readSays file masksRoom formulaRoom =
 abbrev pub saidRead : ReadAnswer → Said
 saidRead (Refused why) = refused (numberOf why)
 saidRead (Rule c) = accepted (c .boards ∷ c .propositions ∷ c .nodes ∷ [])
-
--- the first four checks passed, and the counts are the header's
-pub record HeadPassed (file : List ℕ) (masksRoom formulaRoom : ℕ) (c : RuleCounts) : Type 0 where
-  pub lengths : readLengthsOk file masksRoom formulaRoom ≡ true
-  pub version : eqb (versionInFile file) version ≡ true
-  pub counts : countsOk (boardsInFile file) (propositionsInFile file) (nodesInFile file) ≡ true
-  pub offsets : offsetsOk file ≡ true
-  pub boards-are : c .boards ≡ boardsInFile file
-  pub propositions-are : c .propositions ≡ propositionsInFile file
-  pub nodes-are : c .nodes ≡ nodesInFile file
-
--- what the header alone decides: the refusal that `read` answers, or its counts
-abbrev pub HeadRead : List ℕ → ℕ → ℕ → ReadAnswer → Type 0
-HeadRead file masksRoom formulaRoom (Refused why) = refused (numberOf why) ≡ readSays file masksRoom formulaRoom
-HeadRead file masksRoom formulaRoom (Rule c) = HeadPassed file masksRoom formulaRoom c
 
 -- the promise: the answer, and both lent outputs, zero past the rule
 pub record Reads (file masks formula masks′ formula′ : List ℕ) (answer : ReadAnswer) : Type 0 where

@@ -14,7 +14,8 @@ use Rattle.ltl.specs.Decode.{isRule}
 use Rattle.masks.specs.Masks.{masksRule}
 use Rattle.rules.specs.declared.RuleCounts.{RuleCounts}
 use Rattle.rules.specs.RuleFile.{fileFormulaAt, totalOf, propositionsInFile, maskInFile, masksInFile, formulaInFile}
-use Rattle.rules.specs.Read.{HeadPassed, HeadRead, Reads}
+use Rattle.rules.specs.Read.{Reads}
+use Rattle.rules.specs.Head.{HeadPassed, HeadRead}
 use Rattle.rules.proofs.Files.{found-length, found-padded}
 use Rattle.rules.proofs.Passed.{LengthsPassed, lengths-passed, counts-passed, offsets-passed}
 use Rattle.rules.proofs.ReadOutcomes.{read-refused, read-masks, read-formula, read-rule}
