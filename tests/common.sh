@@ -4,9 +4,9 @@
 build_tests() {
     command -v rustc >/dev/null || { echo "this needs rustc, 1.63 or newer" >&2; return 2; }
     mkdir -p target/tests
-    rustc -O --edition 2021 -o target/tests/generate tests/generate.rs & generate=$!
-    rustc -O --test --edition 2021 -o target/tests/worked tests/second.rs & worked=$!
-    rustc -O --edition 2021 -o target/tests/second tests/second.rs
+    rustc -O -C codegen-units=1 --edition 2021 -o target/tests/generate tests/generate.rs & generate=$!
+    rustc -O -C codegen-units=1 --test --edition 2021 -o target/tests/worked tests/second.rs & worked=$!
+    rustc -O -C codegen-units=1 --edition 2021 -o target/tests/second tests/second.rs
     wait $generate || return
     wait $worked || return
     target/tests/worked -q >target/tests/worked.log || { cat target/tests/worked.log; return 1; }
