@@ -1,38 +1,67 @@
-// Central: the formula and its unfolding are measured in one pass from the back, then progressed in one walk. Nothing is moved
-// but the finished result, once.
+// Central: one pass from the back measures the formula and its unfolding and finds what the event decides; one walk progresses the
+// rest; the outcome is copied once.
 
 #include "../plain.h"
 #include "progress.h"
 
-// The unfolded size, or 0 where this is not one whole formula. Going backwards, the first operand is always what was just measured.
-static uint32_t measure(const uint8_t *formula, size_t count, uint16_t *nodes)
+static inline unsigned lower(unsigned a, unsigned b)
 {
-    uint32_t unfolded[MOST];
-    uint32_t n = 0, u = 0;
+    return a < b ? a : b;
+}
+
+static inline unsigned higher(unsigned a, unsigned b)
+{
+    return a > b ? a : b;
+}
+
+// The unfolded size, or 0 where this is not one whole formula. Going backwards, the first operand is always the one just measured.
+// Unfolding adds to a temporal operator its copy under next, but not below another next: there the count goes back to what it was
+// behind that next's operand.
+static size_t measure(const uint8_t *formula, size_t count, uint64_t event, struct known *known)
+{
+    uint32_t added[MOST + 1], more = 0;
+    size_t end = count;
+    unsigned value = 0;
+    uint8_t last = formula[count - 1];
+    if (last > TRUE && last / 64 != PROPOSITION / 64)
+        return 0;
+    added[count] = 0;
     for (size_t i = count; i-- > 0;) {
-        uint8_t code = formula[i];
-        if (code >= PROPOSITION && code < PLACE_HOLDER) {
-            n = u = 1;
-        } else if (code >= CODES) {
-            return 0;
-        } else if (code < NOT) {
-            n = u = 1;
-        } else if (i + 1 == count) {
-            return 0;
-        } else if (code == AND || code == OR || code == UNTIL) {
-            size_t right = i + 1 + n;
-            if (right >= count)
+        unsigned code = formula[i];
+        if (code >= PROPOSITION) {
+            if (code >= PLACE_HOLDER)
                 return 0;
-            n += 1u + nodes[right];
-            u += 1u + unfolded[right] + (code == UNTIL ? 2 + n : 0);
+            end = i + 1;
+            value = (event >> code % 64 & 1) * DECIDED_TRUE;
+        } else if (code == AND || code == OR || code == UNTIL) {
+            if (end == count)
+                return 0;
+            struct known second = known[end];
+            end = second.end;
+            if (code == UNTIL) {
+                more += 2 + (uint32_t)(end - i);
+                value = higher(second.value, lower(value, UNDECIDED));
+            } else {
+                value = code == AND ? lower(value, second.value) : higher(value, second.value);
+            }
+        } else if (code >= EVENTUALLY) {
+            if (code >= CODES)
+                return 0;
+            more += 1 + (uint32_t)(end - i);
+            value = code == ALWAYS ? lower(value, UNDECIDED) : higher(value, UNDECIDED);
+        } else if (code == NOT) {
+            value = DECIDED_TRUE - value;
+        } else if (code == NEXT) {
+            more = added[end];
+            value = formula[i + 1] <= TRUE ? formula[i + 1] * DECIDED_TRUE : UNDECIDED;
         } else {
-            n += 1;
-            u = code == NEXT ? n : 1 + u + (code == NOT ? 0 : 1 + n);
+            end = i + 1;
+            value = code * DECIDED_TRUE;
         }
-        nodes[i] = (uint16_t)n;
-        unfolded[i] = u;
+        known[i] = (struct known){(uint16_t)end, (uint16_t)value};
+        added[i] = more;
     }
-    return n == count ? u : 0;
+    return end == count ? count + more : 0;
 }
 
 uint32_t plain_central(const uint8_t *formula, size_t formula_len, uint64_t event, uint8_t *output, size_t output_len,
@@ -40,18 +69,17 @@ uint32_t plain_central(const uint8_t *formula, size_t formula_len, uint64_t even
 {
     if (formula_len - 1 >= MOST || output_len != MOST)
         return LENGTH;
-    uint16_t nodes[MOST], laid[MOST];
-    uint32_t unfolded = measure(formula, formula_len, nodes);
+    struct known known[MOST];
+    struct outcome outcome;
+    size_t unfolded = measure(formula, formula_len, event, known);
     if (unfolded == 0)
         return FORMULA;
     if (unfolded > MOST)
         return NODES;
-    struct work w = {.formula = formula, .nodes = nodes, .event = event, .output = output, .laid = laid, .front = MOST};
-    *verdict = (uint32_t)progress(&w);
-    size_t count = MOST - w.front;
-    for (size_t i = 0; i < count; i++)
-        output[i] = output[w.front + i];
+    size_t front = progress(formula, known, &outcome), count = MOST - front;
+    copy_bytes(output, outcome.node + front, count);
     clear_bytes(output + count, MOST - count);
+    *verdict = output[0] <= TRUE ? output[0] : PENDING;
     *length = count;
     return 0;
 }

@@ -2,120 +2,149 @@
 // holder stands for a later slot, whose mark is then known.
 
 #include "check.h"
+#include "operands.h"
 
-// Past so many operands at p, below next or a temporal operator: operators, constants and covered propositions alone. NULL where
-// they do not end before the end or another byte stands among them. Bad bytes are gathered rather than branched on.
-static const uint8_t *past_operands(const uint8_t *p, const uint8_t *end, long owed, unsigned propositions)
-{
-    static const int8_t owes[CODES + 1] = {-1, -1, 0, 1, 1, 0, 1, 0, 0, -1};
-    unsigned bad = 0;
-    while (owed > 0 && p < end) {
-        unsigned code = *p++;
-        bad |= (code >= CODES) & (code - PROPOSITION >= propositions);
-        owed += owes[code < CODES ? code : CODES];
-    }
-    return owed > 0 || bad ? NULL : p;
-}
+// What each byte outside next adds to the operands owed; AWAY for those that need a look of their own.
+enum { AWAY = 2 };
 
-// Whether the bytes from p to the end are one whole formula that may stand in a slot: outside next, propositions of the mask and
-// place holders at most once each, gathered in `holds`; temporal operators where the slot is stepped.
-static int is_slot_formula(const uint8_t *p, const uint8_t *end, uint64_t mask, int stepped, unsigned propositions, uint64_t *holds)
+static const int8_t owes_outside[256] = {
+    [FALSE] = -1, [TRUE] = -1, [NOT] = 0, [AND] = 1, [OR] = 1, [NEXT ... PROPOSITION - 1] = AWAY,
+    [PROPOSITION ... PLACE_HOLDER - 1] = -1, [PLACE_HOLDER ... 255] = AWAY,
+};
+
+// Whether the bytes from p to the end are one whole formula that may stand in a slot, with propositions of the mask outside next;
+// temporal operators may stand there where the slot is stepped. `unmet` are the slots whose place holders may still stand; those
+// met are taken out. `of` is what bytes below next owe. Propositions of another mask are gathered rather than branched on.
+static inline __attribute__((always_inline)) int is_slot_formula(const uint8_t *p, const uint8_t *end, uint64_t mask, int stepped,
+                                                                 const int16_t *of, uint64_t *unmet, struct network *noting)
 {
-    static const int8_t owes[OR + 2] = {-1, -1, 0, 1, 1, -1};
-    uint64_t held = 0, bad = 0;
-    long owed = 1;
-    while (owed > 0 && p < end) {
+    const uint8_t *start = p;
+    uint64_t lacking = 0;
+    int owed = 1;
+    do {
+        if (p == end)
+            return 0;
         unsigned code = *p++;
-        if (code <= OR || code - PROPOSITION < MOST_PROPOSITIONS) {
-            bad |= (code >= PROPOSITION) & ~(mask >> code % 64);
-            owed += owes[code <= OR ? code : OR + 1];
-        } else if (code - PLACE_HOLDER < MOST_SLOTS) {
-            uint64_t bit = UINT64_C(1) << (code - PLACE_HOLDER);
-            bad |= held & bit;
-            held |= bit;
-            owed--;
-        } else if (code == NEXT || (stepped && code < CODES)) {
-            p = past_operands(p, end, code == UNTIL ? 2 : 1, propositions);
+        int more = owes_outside[code];
+        if (more != AWAY) {
+            lacking |= ~((code < PROPOSITION ? UINT64_MAX : mask) >> code % 64);
+            owed += more;
+            continue;
+        }
+        owed--;
+        if (code == NEXT || (stepped && code < CODES)) {
+            const uint8_t *operand = p;
+            p = past_operands(p, end, code == UNTIL ? 2 : 1, of);
             if (p == NULL)
                 return 0;
-            owed--;
+            if (noting != NULL)
+                noting->next[noting->nexts++] = (struct next){(uint16_t)(operand - start - 1), (uint16_t)(p - start)};
+        } else if (code / 64 == PLACE_HOLDER / 64 && *unmet >> code % 64 & 1) {
+            *unmet ^= UINT64_C(1) << code % 64;
         } else {
             return 0;
         }
-    }
-    *holds = held;
-    return owed == 0 && p == end && bad == 0;
+    } while (owed != 0);
+    return p == end && !(lacking & 1);
+}
+
+// The same of a single byte, where it makes no difference whether the slot is stepped.
+static inline int is_slot_leaf(unsigned code, uint64_t mask, uint64_t *unmet)
+{
+    if (code / 64 == PROPOSITION / 64)
+        return mask >> code % 64 & 1;
+    if (code / 64 != PLACE_HOLDER / 64)
+        return code <= TRUE;
+    uint64_t bit = UINT64_C(1) << code % 64, held = *unmet & bit;
+    *unmet ^= held;
+    return held != 0;
 }
 
 // The masks' union, or 0 where they overlap, their union is not the lowest bits, or a sample breaks its rule.
-static uint64_t union_of_boards(const uint8_t *record, struct network *n)
+static inline uint64_t union_of_boards(const uint8_t *record, struct network *n)
 {
-    uint64_t all = 0, bad = 0;
-    n->sampled = 0;
+    uint64_t all = 0, bad = 0, flags = 0;
     for (size_t i = 0; i < n->boards; i++, record += BOARD) {
         uint64_t mask = get64(record), sample = get64(record + 8), sampled = record[16];
         bad |= (all & mask) | (sample & ~mask) | sampled >> 1 | (sampled ? 0 : sample);
         all |= mask;
         n->masks[i] = mask;
-        n->samples[i] = sample;
-        n->sampled |= sampled << i;
+        flags |= sampled << i;
     }
+    n->sampled = flags;
     return bad | (all & (all + 1)) ? 0 : all;
 }
 
-// The slot with this number and its stretch, which ends at `end`; later slots have passed.
-static int slot_holds(struct network *n, size_t number, const uint8_t *record, size_t end, uint64_t all)
+static int header_breaks(const uint8_t *state)
 {
-    size_t board = record[0], stepped = record[1], start = get16(record + 2), length = get16(record + 4);
-    if (board >= n->boards || stepped > 1 || start >= end || length - 1 >= end - start)
-        return 0;
-    const uint8_t *first = n->node + start, *last = first + length;
-    uint64_t mask = n->masks[board], *holds = &n->holds[number];
-    if (stepped ? !are_zero(last, end - start - length) : length != end - start)
-        return 0;
-    if (!is_slot_formula(first, last, stepped ? all : mask, (int)stepped, 64u - (unsigned)__builtin_clzll(all), holds))
-        return 0;
-    uint64_t later = (UINT64_MAX >> (64 - n->slots)) - (UINT64_MAX >> (63 - number));
-    if (*holds & ~(stepped ? n->stepped & ~n->constant : later))
-        return 0;
-    int lone = length == 1 && *first >= PROPOSITION && *first < PLACE_HOLDER;
-    if (stepped && (!(n->sampled >> board & 1) || (lone && !(mask >> (*first - PROPOSITION) & 1))))
-        return 0;
-    n->slot[number] = (struct slot){(uint8_t)board, (uint16_t)start, (uint16_t)length};
-    n->stepped |= (uint64_t)stepped << number;
-    n->constant |= (uint64_t)(*first <= TRUE) << number;
-    n->value |= (uint64_t)(*first == TRUE) << number;
-    return 1;
+    size_t boards = get16(state), slots = get16(state + 2), nodes = get16(state + 4);
+    if (boards - 1 >= MOST_BOARDS || slots - 1 >= MOST_SLOTS || nodes - 1 >= MOST)
+        return 1;
+    return get16(state + 6) != HEADER || get16(state + 8) != slots_at(boards) || get16(state + 10) != nodes_at(boards, slots);
 }
 
-uint32_t network_of(const uint8_t *state, size_t state_len, struct network *n)
+// The rest of the check; a function of its own, so that what fails before it costs little.
+static __attribute__((noinline)) uint32_t network_behind(const uint8_t *state, struct network *n, uint64_t asked)
 {
-    if (state_len != STATE_BYTES)
-        return STATE;
-    n->boards = get16(state);
-    n->slots = get16(state + 2);
-    n->nodes = get16(state + 4);
+    size_t boards = get16(state), count = get16(state + 2), end = get16(state + 4);
+    size_t slots = slots_at(boards), nodes = nodes_at(boards, count);
+    n->boards = boards;
+    n->slots = count;
+    n->nodes = end;
     n->ticks = (uint32_t)get32(state + 12);
-    if (n->boards - 1 >= MOST_BOARDS || n->slots - 1 >= MOST_SLOTS || n->nodes - 1 >= MOST)
-        return STATE;
-    size_t slots = slots_at(n->boards), nodes = nodes_at(n->boards, n->slots), end = n->nodes;
-    if (get16(state + 6) != HEADER || get16(state + 8) != slots || get16(state + 10) != nodes)
-        return STATE;
-    uint64_t all = union_of_boards(state + HEADER, n), seen = 0;
+    n->slot = state + slots;
+    n->node = state + nodes;
+    n->nexts = 0;
+    uint64_t all = union_of_boards(state + HEADER, n);
     if (all == 0)
         return STATE;
-    n->node = state + nodes;
-    n->stepped = n->constant = n->value = 0;
-    for (size_t i = n->slots; i-- > 0;) {
-        if (!slot_holds(n, i, state + slots + SLOT * i, end, all) || seen & n->holds[i])
+    const int16_t *of = owes[64 - __builtin_clzll(all)];
+    const uint8_t *node = state + nodes, *behind = node + end, *record = node;
+    uint64_t stepped = 0, constant = 0, value = 0, held = 0, later = 0;
+    for (size_t i = count; i-- > 0; record -= SLOT) {
+        struct slot slot = slot_at(record - SLOT);
+        if (slot.board >= boards || slot.start >= end || slot.length - (size_t)1 >= end - slot.start)
             return STATE;
-        seen |= n->holds[i];
-        end = n->slot[i].start;
+        const uint8_t *first = node + slot.start, *last = first + slot.length;
+        uint64_t bit = UINT64_C(1) << i, mask = n->masks[slot.board], may, unmet; // may: slots that this one may hold
+        if (slot.mark == 0) {
+            unmet = may = later & ~held;
+            if (last != node + end)
+                return STATE;
+            if (slot.length > 1 && !is_slot_formula(first, last, mask, 0, of, &unmet, i == asked ? n : NULL))
+                return STATE;
+        } else {
+            unmet = may = stepped & ~constant & ~held;
+            if (slot.mark != 1 || !(n->sampled >> slot.board & 1) || !are_zero(last, (size_t)(node + end - last)))
+                return STATE;
+            if (slot.length > 1 && !is_slot_formula(first, last, all, 1, of, &unmet, NULL))
+                return STATE;
+            stepped |= bit;
+        }
+        if (slot.length == 1) {
+            if (!is_slot_leaf(*first, mask, &unmet))
+                return STATE;
+            constant |= *first <= TRUE ? bit : 0;
+            value |= *first == TRUE ? bit : 0;
+        }
+        if (i == asked)
+            n->holds = may & ~unmet;
+        held |= may & ~unmet;
+        later |= bit;
+        end = slot.start;
     }
-    return end == 0 && are_zero(n->node + n->nodes, STATE_BYTES - nodes - n->nodes) ? 0 : STATE;
+    if (end != 0 || !are_zero(behind, STATE_BYTES - (size_t)(behind - state)))
+        return STATE;
+    n->stepped = stepped;
+    n->constant = constant;
+    n->value = value;
+    return 0;
 }
 
-int is_finished(const struct network *n)
+uint32_t network_of(const uint8_t *state, size_t state_len, struct network *n, uint64_t asked, struct next *room)
 {
-    return n->slots == 1 && n->stepped == 0 && n->constant == 1;
+    if (state_len != STATE_BYTES || header_breaks(state))
+        return STATE;
+    n->next = room;
+    return network_behind(state, n, asked);
 }

@@ -10,6 +10,8 @@ struct part {
     uint16_t form;
 };
 
+enum { HELD = AGAIN + 1 }; // the form of a slot of the closed network, with its number as the place
+
 struct cut {
     struct part part;
     uint8_t board;
@@ -24,85 +26,77 @@ struct laying {
     size_t waiting; // cuts to be laid, the next one last
 };
 
-static void put(struct layout *l, unsigned code)
+static inline size_t put(struct layout *l, size_t nodes, unsigned code)
 {
-    if (l->nodes < MOST)
-        l->node[l->nodes] = (uint8_t)code;
-    l->nodes++;
+    if (nodes < MOST)
+        l->node[nodes] = (uint8_t)code;
+    return nodes + 1;
 }
 
-// Lays the part at a place as it stands.
-static void put_operand(struct layout *l, const struct source *s, size_t at)
+// Lays a next of the part at a place, as it stands.
+static inline size_t put_next(struct layout *l, size_t nodes, const struct source *s, size_t at)
 {
     size_t count = s->size[at];
-    if (l->nodes + count <= MOST)
-        copy_bytes(l->node + l->nodes, s->node + at, count);
-    l->nodes += count;
+    if (nodes + 1 + count <= MOST) {
+        l->node[nodes] = NEXT;
+        copy_bytes(l->node + nodes + 1, s->node + at, count);
+    }
+    return nodes + 1 + count;
 }
 
-// Leaves a place holder, which gets its number when its slot is laid; 0 where that would be a slot too many.
-static int cut(struct laying *w, struct part part, unsigned board)
-{
-    if (w->found == MOST_SLOTS)
-        return 0;
-    w->found++;
-    w->cuts[w->waiting++] = (struct cut){part, (uint8_t)board, (uint32_t)w->layout->nodes};
-    put(w->layout, PLACE_HOLDER);
-    return 1;
-}
-
-// A place holder of the closed network is met: its slot keeps its board.
-static int lay_held(struct laying *w, unsigned number)
-{
-    const struct slot *held = &w->source->held[number];
-    choose_boards(w->source, held->start, held->length);
-    return cut(w, (struct part){held->start, WHOLE}, held->board);
-}
-
-// Lays one slot, whose top stays whatever its choice; 0 where there are too many slots. The walk keeps the parts that wait for
-// those before them: one at most for each node.
+// Lays one slot, whose top stays whatever its choice; 0 where there are too many slots. A cut leaves room for a place holder, which
+// gets its number when its slot is laid. The walk keeps the parts that wait for those before them: one at most for each node.
 static int lay_slot(struct laying *w, struct part part, unsigned board)
 {
-    struct source *s = w->source;
+    const struct source *s = w->source;
     struct layout *l = w->layout;
     struct part waiting[MOST], *top = waiting;
     unsigned choice = board;
+    size_t nodes = l->nodes;
     for (;;) {
         uint16_t i = part.at, left = i + 1;
         unsigned code = s->node[i];
-        if (choice != board && choice != STAYS) {
-            if (!cut(w, part, choice))
+        int is_held = code >= PLACE_HOLDER;
+        if (is_held || (choice != board && choice != STAYS)) {
+            if (w->found == MOST_SLOTS)
                 return 0;
+            w->found++;
+            if (is_held)
+                part = (struct part){(uint16_t)(code - PLACE_HOLDER), HELD};
+            w->cuts[w->waiting++] = (struct cut){part, (uint8_t)choice, (uint32_t)nodes++};
         } else if (part.form == AGAIN) {
-            put(l, NEXT);
-            put_operand(l, s, i);
+            nodes = put_next(l, nodes, s, i);
         } else if (part.form == BOTH) {
-            put(l, AND);
+            nodes = put(l, nodes, AND);
             *top++ = (struct part){i, AGAIN};
-            *top++ = (struct part){left, WHOLE};
-        } else if (code >= PLACE_HOLDER) {
-            if (!lay_held(w, code - PLACE_HOLDER))
-                return 0;
+            part = (struct part){left, WHOLE};
+            choice = choice_of(s, left, WHOLE);
+            continue;
         } else if (code >= PROPOSITION || code <= TRUE) {
-            put(l, code);
+            nodes = put(l, nodes, code);
         } else if (code == NEXT) {
-            put_operand(l, s, i);
-        } else if (code == UNTIL) {
-            put(l, OR);
-            *top++ = (struct part){i, BOTH};
-            *top++ = (struct part){(uint16_t)(left + s->size[left]), WHOLE};
+            nodes = put_next(l, nodes, s, left);
         } else {
-            put(l, code == EVENTUALLY ? OR : code == ALWAYS ? AND : code);
-            if (code >= EVENTUALLY)
-                *top++ = (struct part){i, AGAIN};
-            else if (code != NOT)
+            uint16_t first = left;
+            if (code == AND || code == OR) {
                 *top++ = (struct part){(uint16_t)(left + s->size[left]), WHOLE};
-            *top++ = (struct part){left, WHOLE};
+            } else if (code == UNTIL) {
+                *top++ = (struct part){i, BOTH};
+                first = (uint16_t)(left + s->size[left]);
+            } else if (code != NOT) {
+                *top++ = (struct part){i, AGAIN};
+            }
+            nodes = put(l, nodes, code == EVENTUALLY || code == UNTIL ? OR : code == ALWAYS ? AND : code);
+            part = (struct part){first, WHOLE};
+            choice = choice_of(s, first, WHOLE);
+            continue;
         }
-        if (top == waiting)
+        if (top == waiting) {
+            l->nodes = nodes;
             return 1;
+        }
         part = *--top;
-        choice = s->choice[part.form][part.at];
+        choice = choice_of(s, part.at, part.form);
     }
 }
 
@@ -131,7 +125,7 @@ static uint32_t lay(struct source *s, unsigned board, struct layout *l)
         if (!lay_slot(&w, part, board))
             return SLOTS;
         reverse(w.cuts + before, w.waiting - before);
-        l->slot[l->slots++] = (struct slot){(uint8_t)board, (uint16_t)start, (uint16_t)(l->nodes - start)};
+        l->slot[l->slots++] = (struct slot){(uint8_t)board, 0, (uint16_t)start, (uint16_t)(l->nodes - start)};
         if (w.waiting == 0)
             return l->nodes > MOST ? NODES : 0;
         struct cut next = w.cuts[--w.waiting];
@@ -139,6 +133,12 @@ static uint32_t lay(struct source *s, unsigned board, struct layout *l)
             l->node[next.holder] = (uint8_t)(PLACE_HOLDER + l->slots);
         part = next.part;
         board = next.board;
+        if (part.form == HELD) { // it keeps its board
+            struct slot held = slot_at(s->held + SLOT * part.at);
+            choose_boards(s, held.start, held.length);
+            part = (struct part){held.start, WHOLE};
+            board = held.board;
+        }
     }
 }
 
@@ -149,7 +149,7 @@ uint32_t lay_rule(const uint8_t *formula, size_t count, const uint64_t *masks, s
     s.held = NULL;
     find_boards(&s, masks, boards);
     choose_boards(&s, 0, count);
-    unsigned choice = s.choice[WHOLE][0];
+    unsigned choice = choice_of(&s, 0, WHOLE);
     return lay(&s, choice == STAYS ? 0 : choice, layout);
 }
 
@@ -159,6 +159,7 @@ uint32_t lay_again(const struct network *network, struct layout *layout)
     s.node = network->node;
     s.held = network->slot;
     find_boards(&s, network->masks, network->boards);
-    choose_boards(&s, 0, s.held[0].length);
-    return lay(&s, s.held[0].board, layout);
+    struct slot root = slot_at(s.held);
+    choose_boards(&s, 0, root.length);
+    return lay(&s, root.board, layout);
 }

@@ -1,54 +1,7 @@
-// One walk unfolds and resolves at once, right operands first, and lays the result from the end of the output backwards. A part
-// that falls away is dropped by moving the front back, so that all is linear except the member rule.
+// One walk unfolds and resolves at once, right operands first, and keeps to what is undecided. All is linear except the member
+// rule.
 
 #include "progress.h"
-
-static int lay_node(struct work *w, uint8_t code, size_t nodes)
-{
-    w->front--;
-    w->output[w->front] = code;
-    w->laid[w->front] = (uint16_t)nodes;
-    return PENDING;
-}
-
-// Lays the part of the formula at i as it stands; constants are not laid.
-static int lay_part(struct work *w, size_t i)
-{
-    size_t count = w->nodes[i];
-    if (w->formula[i] <= TRUE)
-        return w->formula[i];
-    w->front -= count;
-    copy_bytes(w->output + w->front, w->formula + i, count);
-    copy_bytes((uint8_t *)(w->laid + w->front), (const uint8_t *)(w->nodes + i), 2 * count);
-    return PENDING;
-}
-
-static int same(const uint8_t *a, const uint8_t *b, size_t count)
-{
-    for (size_t i = 0; i < count; i++)
-        if (a[i] != b[i])
-            return 0;
-    return 1;
-}
-
-// Whether what is laid at l is a member of what is laid at r. Members shorter than it need no look.
-static int member(const struct work *w, uint8_t joint, size_t l, size_t r)
-{
-    const uint8_t *bytes = w->output;
-    const uint16_t *laid = w->laid;
-    size_t count = laid[l];
-    while (laid[r] >= count) {
-        if (laid[r] == count)
-            return same(bytes + l, bytes + r, count);
-        if (bytes[r] != joint)
-            return 0;
-        size_t left = r + 1;
-        if (laid[left] == count && same(bytes + l, bytes + left, count))
-            return 1;
-        r = left + laid[left];
-    }
-    return 0;
-}
 
 // What waits for the part being done: a not for its operand, a joint for its right operand and then for its left one. The walk
 // keeps these itself: calls thousands deep would cost more than the rest. Each is a node of the unfolding, so MOST have room.
@@ -57,95 +10,74 @@ enum { OPERAND, RIGHT, LEFT };
 struct frame {
     uint8_t wait;
     uint8_t joint;
-    uint16_t left;  // where the left operand begins in the formula, while the right one is done
+    uint16_t at;    // where the left operand begins in the formula, while the right one is done
     uint16_t right; // where the right operand is laid, while the left one is done
     uint16_t end;   // the front before anything of this part was laid
 };
 
-// Both operands are done, the right one pending at `right`, the left one laid in front of it where pending.
-static int join(struct work *w, uint8_t joint, int left_value, size_t right, size_t end)
-{
-    int decides = joint == OR;
-    if (left_value == decides) {
-        w->front = end;
-        return decides;
-    }
-    if (left_value != PENDING)
-        return PENDING;
-    if (member(w, joint, w->front, right)) {
-        w->front = right;
-        return PENDING;
-    }
-    return lay_node(w, joint, 1u + w->laid[w->front] + w->laid[right]);
-}
-
-// Goes down to the first part that waits for nothing, leaves what waits for it on the stack, and does it: its value.
-static int descend(struct work *w, size_t i, struct frame **top)
-{
-    for (;;) {
-        uint8_t code = w->formula[i];
-        size_t left = i + 1, end = w->front;
-        switch (code) {
-        case FALSE:
-        case TRUE:
-            return code;
-        case NOT:
-            *(*top)++ = (struct frame){.wait = OPERAND};
-            i = left;
-            break;
-        case NEXT:
-            return lay_part(w, left);
-        case AND:
-        case OR:
-            *(*top)++ = (struct frame){RIGHT, code, (uint16_t)left, 0, (uint16_t)end};
-            i = left + w->nodes[left];
-            break;
-        case UNTIL: // or(right, and(left, itself))
-            *(*top)++ = (struct frame){RIGHT, OR, (uint16_t)(left + w->nodes[left]), 0, (uint16_t)end};
-            lay_part(w, i);
-            *(*top)++ = (struct frame){LEFT, AND, 0, (uint16_t)w->front, (uint16_t)end};
-            i = left;
-            break;
-        case EVENTUALLY:
-        case ALWAYS:
-            lay_part(w, i);
-            *(*top)++ = (struct frame){LEFT, code == ALWAYS ? AND : OR, 0, (uint16_t)w->front, (uint16_t)end};
-            i = left;
-            break;
-        default:
-            if (code < PLACE_HOLDER)
-                return w->event >> (code - PROPOSITION) & 1;
-            code -= PLACE_HOLDER;
-            return w->constant >> code & 1 ? (int)(w->value >> code & 1) : lay_node(w, w->formula[i], 1);
-        }
-    }
-}
-
-int progress(struct work *w)
+size_t progress(const uint8_t *formula, const struct known *known, struct outcome *o)
 {
     struct frame stack[MOST], *top = stack;
-    int value = descend(w, 0, &top);
-    while (top > stack) {
-        struct frame *f = --top;
-        switch (f->wait) {
-        case OPERAND:
-            value = value == PENDING ? lay_node(w, NOT, 1u + w->laid[w->front]) : !value;
-            break;
-        case RIGHT:
-            if (value == (f->joint == OR))
+    size_t i = 0, front = MOST;
+    begin_outcome(o);
+    if (known[0].value != UNDECIDED)
+        return lay_node(o, front, known[0].value == DECIDED_TRUE);
+    for (;;) {
+        // Goes down to a part that waits for nothing, past operands that are decided and so fall away, and lays it.
+        for (;;) {
+            unsigned code = formula[i];
+            size_t left = i + 1;
+            if (code == NEXT) {
+                front = lay_part(o, front, formula + left, known[left].end - left);
                 break;
-            if (value == PENDING) {
-                f->wait = LEFT;
-                f->right = (uint16_t)w->front;
-                top++;
             }
-            value = descend(w, f->left, &top);
-            break;
-        default:
-            value = join(w, f->joint, value, f->right, f->end);
+            if (code == NOT) {
+                *top++ = (struct frame){.wait = OPERAND};
+                i = left;
+                continue;
+            }
+            if (code == AND || code == OR) {
+                size_t right = known[left].end;
+                if (known[left].value != UNDECIDED) {
+                    i = right;
+                } else if (known[right].value != UNDECIDED) {
+                    i = left;
+                } else {
+                    *top++ = (struct frame){RIGHT, (uint8_t)code, (uint16_t)left, 0, (uint16_t)front};
+                    i = right;
+                }
+                continue;
+            }
+            if (code == UNTIL) { // or(right, and(left, next until))
+                size_t right = known[left].end;
+                if (known[left].value == DECIDED_FALSE) {
+                    i = right;
+                    continue;
+                }
+                if (known[right].value == UNDECIDED)
+                    *top++ = (struct frame){RIGHT, OR, (uint16_t)right, 0, (uint16_t)front};
+            }
+            size_t end = front;
+            front = lay_part(o, front, formula + i, known[i].end - i);
+            if (known[left].value != UNDECIDED)
+                break;
+            *top++ = (struct frame){LEFT, code == EVENTUALLY ? OR : AND, 0, (uint16_t)front, (uint16_t)end};
+            i = left;
+        }
+        for (;; top--) {
+            if (top == stack)
+                return front;
+            struct frame *f = top - 1;
+            if (f->wait == LEFT) {
+                front = join(o, f->joint, front, f->right, f->end);
+            } else if (f->wait == OPERAND) {
+                front = lay_node(o, front, NOT);
+            } else {
+                f->wait = LEFT;
+                f->right = (uint16_t)front;
+                i = f->at;
+                break;
+            }
         }
     }
-    if (value != PENDING)
-        lay_node(w, (uint8_t)value, 1);
-    return value;
 }

@@ -1,22 +1,19 @@
-// The walk that central and step share: it unfolds and resolves a formula at once.
+// The walk of central: it unfolds and resolves a formula at once.
 
 #ifndef PROGRESS_H
 #define PROGRESS_H
 
-#include "parts.h"
+#include "outcome.h"
 
-struct work {
-    const uint8_t *formula;
-    const uint16_t *nodes; // of the operand that begins at each place of the formula
-    uint64_t event;
-    uint64_t constant, value; // of place holders: a bit for each held slot that is constant, and what it is
-    uint8_t *output;
-    uint16_t *laid; // nodes of the operand that begins at each place of the output
-    size_t front;   // of what is laid
+// What is known of the operand that begins at a place: where it ends, and whether progressing it decides it. Values are ordered, so
+// that and takes the lower one and or the higher one.
+enum { DECIDED_FALSE, UNDECIDED, DECIDED_TRUE };
+
+struct known {
+    uint16_t end, value;
 };
 
-// Lays the outcome from the front that it is given backwards, a constant too; the outcome's verdict. The output needs room for
-// the unfolded formula, which has at most MOST nodes.
-int progress(struct work *w);
+// Lays the outcome, a constant too, at the end of its room; the front. The unfolded formula has at most MOST nodes.
+size_t progress(const uint8_t *formula, const struct known *known, struct outcome *o);
 
 #endif

@@ -2,6 +2,7 @@
 
 #include "rules.h"
 #include "../plain.h"
+#include "operands.h"
 
 enum { FILE_BYTES = HEADER + 8 * MOST_BOARDS + MOST_RULE };
 
@@ -16,23 +17,10 @@ static int masks_break(uint64_t all, uint64_t twice, uint64_t propositions)
     return twice != 0 || all != UINT64_MAX >> (64 - propositions);
 }
 
-// One pass with the count of operands still owed.
+// The line of the table knows the propositions.
 static int formula_breaks(const uint8_t *formula, size_t count, uint64_t propositions)
 {
-    static const int8_t owes[CODES] = {-1, -1, 0, 1, 1, 0, 1, 0, 0};
-    long owed = 1;
-    for (size_t i = 0; i < count; i++) {
-        uint8_t code = formula[i];
-        if (owed == 0)
-            return 1;
-        if (code < CODES)
-            owed += owes[code];
-        else if (code >= PROPOSITION && code < PROPOSITION + propositions)
-            owed--;
-        else
-            return 1;
-    }
-    return owed != 0;
+    return past_operands(formula, formula + count, 1, owes[propositions]) != formula + count;
 }
 
 uint32_t rule_of(const uint8_t *file, size_t file_len, struct rule *rule)
@@ -74,8 +62,8 @@ uint32_t plain_read(const uint8_t *file, size_t file_len, uint64_t *masks, size_
     uint32_t refusal = rule_of(file, file_len, &rule);
     if (refusal != 0)
         return refusal;
-    for (size_t i = 0; i < MOST_BOARDS; i++)
-        masks[i] = i < rule.boards ? rule.masks[i] : 0;
+    copy_bytes((uint8_t *)masks, (const uint8_t *)rule.masks, 8 * rule.boards);
+    clear_bytes((uint8_t *)(masks + rule.boards), 8 * (MOST_BOARDS - rule.boards));
     copy_bytes(formula, rule.formula, rule.nodes);
     clear_bytes(formula + rule.nodes, MOST_RULE - rule.nodes);
     *boards = rule.boards;
@@ -101,12 +89,15 @@ uint32_t plain_write(const uint64_t *masks, size_t masks_len, uint64_t propositi
     if (formula_breaks(formula, formula_len, propositions))
         return FORMULA;
     size_t formula_at = HEADER + 8 * masks_len, total = formula_at + formula_len;
-    const uint64_t fields[6] = {1, masks_len, propositions, formula_len, HEADER, formula_at};
-    for (size_t i = 0; i < 6; i++)
-        put_little_endian(file + 2 * i, 2, fields[i]);
-    put_little_endian(file + 12, 4, total);
+    put16(file, 1);
+    put16(file + 2, masks_len);
+    put16(file + 4, propositions);
+    put16(file + 6, formula_len);
+    put16(file + 8, HEADER);
+    put16(file + 10, formula_at);
+    put32(file + 12, total);
     for (size_t i = 0; i < masks_len; i++)
-        put_little_endian(file + HEADER + 8 * i, 8, masks[i]);
+        put64(file + HEADER + 8 * i, masks[i]);
     copy_bytes(file + formula_at, formula, formula_len);
     clear_bytes(file + total, FILE_BYTES - total);
     *length = total;

@@ -3,28 +3,31 @@
 
 #include "../plain.h"
 #include "layout.h"
-#include "progress.h"
 #include "rules.h"
+#include "settle.h"
 
 static void write_state(uint8_t *state, const uint64_t *masks, size_t boards, uint32_t ticks, const struct layout *l)
 {
     size_t nodes = nodes_at(boards, l->slots);
-    const uint64_t fields[6] = {boards, l->slots, l->nodes, HEADER, slots_at(boards), nodes};
-    for (size_t i = 0; i < 6; i++)
-        put_little_endian(state + 2 * i, 2, fields[i]);
-    put_little_endian(state + 12, 4, ticks);
+    put16(state, boards);
+    put16(state + 2, l->slots);
+    put16(state + 4, l->nodes);
+    put16(state + 6, HEADER);
+    put16(state + 8, slots_at(boards));
+    put16(state + 10, nodes);
+    put32(state + 12, ticks);
     for (size_t i = 0; i < boards; i++) {
         uint8_t *record = state + HEADER + BOARD * i;
-        put_little_endian(record, 8, masks[i]);
-        put_little_endian(record + 8, 8, 0);
+        put64(record, masks[i]);
+        put64(record + 8, 0);
         record[16] = 0;
     }
     for (size_t i = 0; i < l->slots; i++) {
         uint8_t *record = state + slots_at(boards) + SLOT * i;
         record[0] = l->slot[i].board;
         record[1] = 0;
-        put_little_endian(record + 2, 2, l->slot[i].start);
-        put_little_endian(record + 4, 2, l->slot[i].length);
+        put16(record + 2, l->slot[i].start);
+        put16(record + 4, l->slot[i].length);
     }
     copy_bytes(state + nodes, l->node, l->nodes);
     clear_bytes(state + nodes + l->nodes, STATE_BYTES - nodes - l->nodes);
@@ -45,9 +48,9 @@ uint32_t plain_load(const uint8_t *file, size_t file_len, uint8_t *state, size_t
 }
 
 // 0 where the state passes the check and is not finished.
-static uint32_t begun(const uint8_t *state, size_t state_len, struct network *n)
+static uint32_t begun(const uint8_t *state, size_t state_len, struct network *n, uint64_t asked, struct next *room)
 {
-    if (network_of(state, state_len, n) != 0)
+    if (network_of(state, state_len, n, asked, room) != 0)
         return STATE;
     return is_finished(n) ? FINISHED : 0;
 }
@@ -55,7 +58,7 @@ static uint32_t begun(const uint8_t *state, size_t state_len, struct network *n)
 uint32_t plain_sample(uint8_t *state, size_t state_len, uint64_t board, uint64_t bits)
 {
     struct network n;
-    uint32_t refusal = begun(state, state_len, &n);
+    uint32_t refusal = begun(state, state_len, &n, NO_SLOT, NULL);
     if (refusal != 0)
         return refusal;
     if (board >= n.boards)
@@ -65,50 +68,33 @@ uint32_t plain_sample(uint8_t *state, size_t state_len, uint64_t board, uint64_t
     if (n.sampled >> board & 1)
         return ALREADY;
     uint8_t *record = state + HEADER + BOARD * board;
-    put_little_endian(record + 8, 8, bits);
+    put64(record + 8, bits);
     record[16] = 1;
     return 0;
-}
-
-// The nodes of the operand that begins at each place of a whole formula.
-static void measure(const uint8_t *formula, size_t count, uint16_t *nodes)
-{
-    for (size_t i = count; i-- > 0;) {
-        uint8_t code = formula[i];
-        size_t size = 1;
-        if (code >= NOT && code < CODES)
-            size += nodes[i + 1];
-        if (code == AND || code == OR || code == UNTIL)
-            size += nodes[i + size];
-        nodes[i] = (uint16_t)size;
-    }
 }
 
 uint32_t plain_step(uint8_t *state, size_t state_len, uint64_t slot)
 {
     struct network n;
-    uint32_t refusal = begun(state, state_len, &n);
+    struct next nexts[MOST_NEXTS];
+    uint32_t refusal = begun(state, state_len, &n, slot, nexts);
     if (refusal != 0)
         return refusal;
     if (slot >= n.slots)
         return NO_SUCH;
     if (n.stepped >> slot & 1)
         return ALREADY;
-    size_t board = n.slot[slot].board, length = n.slot[slot].length;
-    if (!(n.sampled >> board & 1) || n.holds[slot] & ~n.stepped)
-        return NOT_READY;
-    uint8_t *formula = state + nodes_at(n.boards, n.slots) + n.slot[slot].start;
-    uint8_t output[MOST];
-    uint16_t nodes[MOST], laid[MOST];
-    measure(formula, length, nodes);
-    struct work w = {formula, nodes, n.samples[board], n.constant, n.value, output, laid, length};
-    progress(&w);
-    size_t count = length - w.front;
-    copy_bytes(formula, output + w.front, count);
-    clear_bytes(formula + count, length - count);
     uint8_t *record = state + slots_at(n.boards) + SLOT * slot;
+    struct slot old = slot_at(record);
+    if (!(n.sampled >> old.board & 1) || n.holds & ~n.stepped)
+        return NOT_READY;
+    struct outcome outcome;
+    size_t front = settle(&n, old, get64(state + HEADER + BOARD * old.board + 8), &outcome), count = MOST - front;
+    uint8_t *formula = state + nodes_at(n.boards, n.slots) + old.start;
+    copy_bytes(formula, outcome.node + front, count);
+    clear_bytes(formula + count, old.length - count);
     record[1] = 1;
-    put_little_endian(record + 4, 2, count);
+    put16(record + 4, count);
     return 0;
 }
 
@@ -118,7 +104,7 @@ uint32_t plain_close(const uint8_t *state, size_t state_len, uint8_t *second, si
     struct layout layout;
     if (second_len != STATE_BYTES)
         return LENGTH;
-    uint32_t refusal = begun(state, state_len, &n);
+    uint32_t refusal = begun(state, state_len, &n, NO_SLOT, NULL);
     if (refusal != 0)
         return refusal;
     if (n.sampled != UINT64_MAX >> (64 - n.boards) || n.stepped != UINT64_MAX >> (64 - n.slots))
@@ -134,7 +120,7 @@ uint32_t plain_close(const uint8_t *state, size_t state_len, uint8_t *second, si
 uint32_t plain_ask(const uint8_t *state, size_t state_len, uint32_t *verdict, uint32_t *ticks, uint64_t *slots, uint64_t *nodes)
 {
     struct network n;
-    if (network_of(state, state_len, &n) != 0)
+    if (network_of(state, state_len, &n, NO_SLOT, NULL) != 0)
         return STATE;
     *verdict = is_finished(&n) ? (uint32_t)n.value : PENDING;
     *ticks = n.ticks;

@@ -32,7 +32,7 @@ pub fn begin(masks: &[u64], rule: &[u8], state: &mut [u8]) -> Outcome
     if form.slots_most() < slots {
         return Outcome::Refused(Refusal::Slots);
     }
-    let nodes = sizing::count_unfolded(rule).written + part.cuts;
+    let nodes = sizing::count_unfolded(rule) + part.cuts;
     if form.nodes_most() < nodes {
         return Outcome::Refused(Refusal::Nodes);
     }

@@ -1,2 +1,2 @@
 -- What the contracts of `buffers` cite.
-pub mod Starts
+pub mod Compares

@@ -15,7 +15,6 @@ use Rattle.state.specs.Bytes.{formulaAt}
 use Rattle.nodes.specs.Begins.{Front, Begins}
 use Rattle.nodes.proofs.Fronts.{front-length}
 use Rattle.scores.specs.Owned.{Table}
-use Rattle.sizing.specs.declared.Walk.{Walk}
 use Rattle.unfolding.specs.Unfolds.{UnfoldAsk, Unfolds, UnfoldedTo}
 use Rattle.unfolding.proofs.Fronts.{written-bytes, written-front}
 use Rattle.tagging.specs.declared.TaggedPart as tag
@@ -39,24 +38,24 @@ module _ {s : List ℕ} {c : Counts} {m : ℕ} {owner u tags : List ℕ} (ask : 
     slot-front = lent-front (ask .known) (ask .there) x
 
     pub unfold-ask : UnfoldAsk u bytes
-    unfold-ask = record { begins = record { formula = formulaAt s m; rest = []; front = slot-front }; room = ask .room }
+    unfold-ask = record { formula = formulaAt s m; front = slot-front; few = ask .few; room = ask .room }
 
-    module _ {u′ : List ℕ} (w : Walk) (h : Unfolds u bytes u′ (w .read) (w .written)) where
-      slot-unfolded : UnfoldedTo (formulaAt s m) u u′ (w .read) (w .written)
-      slot-unfolded = h (formulaAt s m) [] slot-front
+    module _ {u′ : List ℕ} (n : ℕ) (h : Unfolds u bytes u′ n) where
+      slot-unfolded : UnfoldedTo (formulaAt s m) u u′ n
+      slot-unfolded = h (formulaAt s m) slot-front
 
-      pub written-is : w .written ≡ size (unfoldedAt s m)
+      pub written-is : n ≡ size (unfoldedAt s m)
       written-is = slot-unfolded .writes
 
-      unfolded-front : Front (take (w .written) u′) (unfoldedAt s m) []
+      unfolded-front : Front (take n u′) (unfoldedAt s m) []
       unfolded-front = written-front slot-unfolded (slot-front .coded)
 
-      pub tag-ask : length u′ ≡ length u → Begins (take (w .written) u′) × Table owner × (length (take (w .written) u′) ≤ length tags) × (length (take (w .written) u′) ≤ nodesRoom)
+      pub tag-ask : length u′ ≡ length u → Begins (take n u′) × Table owner × (length (take n u′) ≤ length tags) × (length (take n u′) ≤ nodesRoom)
       tag-ask k =
-          let e = front-length (take (w .written) u′) (unfoldedAt s m) [] unfolded-front in
+          let e = front-length (take n u′) (unfoldedAt s m) [] unfolded-front in
           (record { formula = unfoldedAt s m; rest = []; front = unfolded-front }, ask .known .table, omega arith, omega arith)
 
-      pub slot-put : {board : ℕ} {tags′ : List ℕ} (y : tag.TaggedPart) → board ≡ boardOfIn s m → Tagging owner (take (w .written) u′) board tags′ y → PutsSlot s m u u′ tags′ (w .written)
+      pub slot-put : {board : ℕ} {tags′ : List ℕ} (y : tag.TaggedPart) → board ≡ boardOfIn s m → Tagging owner (take n u′) board tags′ y → PutsSlot s m u u′ tags′ n
       slot-put y b h =
           let within = slot-within s (ask .known .opened .passes) m there in
           let z = slot-numbers (ask .known) (ask .there) .few-boards in

@@ -16,7 +16,7 @@ pub fn put_slot(
     ensures { λ r. ⌜ PutsSlot (now (state .entry)) m (now (u .entry)) (now (u .exit)) (now (tags .exit)) r ⌝ }
 {
     let Span { from, to } = state::span_of(state, c, m);
-    let n = unfolding::unfold_into(u, &state[from..to]).written;
+    let n = unfolding::unfold_into(u, &state[from..to]);
     let board = state::board_of(state, c, m);
     tagging::tag(&u[..n], tags, owner, board);
     n

@@ -72,9 +72,9 @@ module _ (s : List ℕ) (event : Event) (out : List ℕ) where
     unfolding centralSays
     refused-formula e = refusal Formula (order-ok 1 _ _ _ l ∙ order-refused 6 _ _ _ e)
 
-    module _ (r : isRule propositionsMost s ≡ true) (read count : ℕ) (n : CountsUnfolded s read count) where
+    module _ (r : isRule propositionsMost s ≡ true) (count : ℕ) (n : CountsUnfolded s count) where
       counted : count ≡ min (size (unfolded (formulaOf s))) (nodesRoom + 1)
-      counted = let w = whole s r in n (w .formula-is) [] (w .front) .1 ∙ ap (λ (f : formula.Formula). min (size (unfolded f)) (nodesRoom + 1)) (sym (w .same))
+      counted = let w = whole s r in n (w .formula-is) (w .front) ∙ ap (λ (f : formula.Formula). min (size (unfolded f)) (nodesRoom + 1)) (sym (w .same))
 
       pub refused-nodes : centralNodesMost < count → Centrally s event out out (Refused Nodes)
       unfolding centralSays
@@ -82,8 +82,8 @@ module _ (s : List ℕ) (event : Event) (out : List ℕ) where
           let c = counted in
           refusal Nodes (order-ok 1 _ _ _ l ∙ order-ok 6 _ _ _ r ∙ order-refused 8 _ _ _ (lt-leb (size (unfolded (formulaOf s))) centralNodesMost (omega arith)))
 
-      pub room : count ≤ centralNodesMost → size (unfolded (whole s r .formula-is)) ≤ centralNodesMost
-      room h = let c = n (whole s r .formula-is) [] (whole s r .front) .1 in omega arith
+      pub count-is : count ≤ centralNodesMost → count ≡ size (unfolded (whole s r .formula-is))
+      count-is h = let c = n (whole s r .formula-is) (whole s r .front) in omega arith
 
       pub progressed-to : count ≤ centralNodesMost → (out′ : List ℕ) (k : ℕ) (v : Verdict) → ProgressedTo s event out out′ k
           → ((g : formula.Formula) (e : out′ ≡ padded (length out) (encode g)) → v ≡ verdictOf g)

@@ -1,13 +1,17 @@
-// The call `central`: a whole rule progressed in one place. One walk counts what the formula unfolds to, one unfolds it into the
+// The call `central`: a whole rule progressed in one place. One loop counts what the formula unfolds to, one unfolds it into the
 // output, and one resolves it there.
 ghost use mathlib.Core.Path.{_≡_};
 ghost use Rattle.central.specs.Central.{centralLengthsOk, Centrally};
-ghost use Rattle.central.specs.Progressing.{Progressable, ProgressedTo};
+ghost use Rattle.limits.specs.Limits.{nodesRoom};
+ghost use Rattle.rewriting.specs.Rewritten.{smallMost};
+ghost use Rattle.central.specs.Progressing.{ProgressableIn, ProgressableWithin, Progressable, UnfoldsAll, ProgressesIn, ProgressedTo};
 use answers::Refusal;
 use answers::Verdict;
 use limits::CENTRAL_NODES_MOST;
+use limits::NODES_ROOM;
 use limits::PROPOSITIONS_MOST;
 use resolving::Seen;
+use rewriting::SMALL_MOST;
 use slot_sets::no_slots;
 
 pub struct Progress {
@@ -33,21 +37,70 @@ fn lengths_ok(formula: usize, output: usize) -> bool
     output == CENTRAL_NODES_MOST
 }
 
-// Progresses the formula into the output, zero past the result, and answers the result's length.
-fn progress_into(output: &mut [u8], formula: &[u8], event: u64) -> usize
-    requires { ⌜ Progressable (now output) (now formula) ⌝ }
+// Unfolds the formula to all of p, and outlines it there. One that becomes no longer has no temporal operator outside next, and
+// unfolds to itself.
+fn unfold_all(p: &mut [u8], formula: &[u8], notes: &mut [u16])
+    requires { ⌜ ProgressableIn (now p) (now formula) (now notes) ⌝ }
+    ensures { λ _. ⌜ UnfoldsAll (now (formula .entry)) (now (p .exit)) (now (notes .exit)) ⌝ }
+{
+    if p.len() == formula.len() {
+        buffers::copy(p, formula);
+        outlining::outline(p, notes);
+        return;
+    }
+    unfolding::unfold_outlined(p, formula, notes);
+}
+
+// Progresses the formula in p, which is as long as what it unfolds to. What it becomes stands at the front; answers its length.
+fn progress_noted(p: &mut [u8], formula: &[u8], notes: &mut [u16], seen: Seen) -> usize
+    requires { ⌜ ProgressableIn (now p) (now formula) (now notes) ⌝ }
+    ensures { λ n. ⌜ ProgressesIn seen (now (formula .entry)) (now (p .exit)) n ⌝ }
+{
+    unfold_all(p, formula, notes);
+    rewriting::to_front(p, notes, seen)
+}
+
+// What the notes hold at first does not matter. They are filled with ones, since zeros would be written by a call of the C library.
+fn progress_small(p: &mut [u8], formula: &[u8], seen: Seen) -> usize
+    requires { ⌜ ProgressableWithin smallMost (now p) (now formula) ⌝ }
+    ensures { λ n. ⌜ ProgressesIn seen (now (formula .entry)) (now (p .exit)) n ⌝ }
+{
+    let mut notes = [1u16; SMALL_MOST];
+    progress_noted(p, formula, &mut notes, seen)
+}
+
+fn progress_large(p: &mut [u8], formula: &[u8], seen: Seen) -> usize
+    requires { ⌜ ProgressableWithin nodesRoom (now p) (now formula) ⌝ }
+    ensures { λ n. ⌜ ProgressesIn seen (now (formula .entry)) (now (p .exit)) n ⌝ }
+{
+    let mut notes = [1u16; NODES_ROOM];
+    progress_noted(p, formula, &mut notes, seen)
+}
+
+fn progress_any(p: &mut [u8], formula: &[u8], seen: Seen) -> usize
+    requires { ⌜ ProgressableWithin nodesRoom (now p) (now formula) ⌝ }
+    ensures { λ n. ⌜ ProgressesIn seen (now (formula .entry)) (now (p .exit)) n ⌝ }
+{
+    if p.len() <= SMALL_MOST {
+        return progress_small(p, formula, seen);
+    }
+    progress_large(p, formula, seen)
+}
+
+// Progresses the formula, which unfolds to `size` nodes, into the output, zero past the result, and answers the result's length.
+fn progress_into(output: &mut [u8], formula: &[u8], event: u64, size: usize) -> usize
+    requires { ⌜ Progressable (now output) (now formula) size ⌝ }
     ensures { λ r. ⌜ ProgressedTo (now (formula .entry)) event (now (output .entry)) (now (output .exit)) r ⌝ }
 {
-    unfolding::unfold_into(output, formula);
     let none = no_slots();
-    rewriting::rewrite(
-        output,
-        Seen {
-            event: event,
-            yes: none,
-            no: none,
-        },
-    )
+    let seen = Seen {
+        event: event,
+        yes: none,
+        no: none,
+    };
+    let n = progress_any(&mut output[..size], formula, seen);
+    buffers::clear(&mut output[n..]);
+    n
 }
 
 // Progresses a formula over one event.
@@ -61,10 +114,10 @@ pub fn central(formula: &[u8], event: u64, output: &mut [u8]) -> CentralAnswer
         return CentralAnswer::Refused(Refusal::Formula);
     }
     let unfolded = sizing::count_unfolded(formula);
-    if CENTRAL_NODES_MOST < unfolded.written {
+    if CENTRAL_NODES_MOST < unfolded {
         return CentralAnswer::Refused(Refusal::Nodes);
     }
-    let n = progress_into(output, formula, event);
+    let n = progress_into(output, formula, event, unfolded);
     CentralAnswer::Progressed(Progress {
         verdict: verdicts::verdict(output[0]),
         length: n,

@@ -9,16 +9,13 @@ use Prim.Native.Nat.{ℕ, _+_, _-_, _<_, _≤_}
 use native.Mathlib.Omega.{arith}
 use lib.ListN.{length, replicate, length-append, length-replicate}
 use Rattle.lists.specs.Runs.{padded}
-use Rattle.kinds.specs.declared.Leaf.the-variants.{Const, Prop, Hold}
-use Rattle.kinds.specs.declared.Unary.the-variants.{Not, Next, Ever}
-use Rattle.kinds.specs.declared.Binary.the-variants.{Joined, Until}
 use Rattle.answers.specs.declared.Verdict.{Verdict}
 use Rattle.le.specs.Le.{le}
-use Rattle.ltl.specs.Formula.{Formula, leaf, one, two, size, encode}
+use Rattle.ltl.specs.Formula.{Formula, size, encode}
 use Rattle.ltl.specs.Meaning.{Event}
 use Rattle.ltl.specs.Decode.{decoded, someFormula}
 use Rattle.ltl.specs.Progression.{resolved, filled, verdictOf}
-use Rattle.ltl.proofs.Joining.{joined-elim, negated-elim}
+use Rattle.ltl.proofs.Lengths.{resolved-no-longer}
 use Rattle.ltl.proofs.Decoding.{length-encode}
 use Rattle.network.proofs.Laying.{HoldsIn}
 use Rattle.network.proofs.Settling.{filled-same}
@@ -27,33 +24,6 @@ use Rattle.state.specs.Clauses.{stateOk}
 use Rattle.state.specs.Bytes.{formulaAt}
 use Rattle.state.specs.Calls.{steppedTo}
 use Rattle.checked.proofs.Passing.{passing}
-
--- ---- over formulas
-resolved-size : (e : Event) (f : Formula) → size (resolved e f) ≤ size f
-resolved-size e (leaf (Const v)) = omega arith
-resolved-size e (leaf (Prop i)) = omega arith
-resolved-size e (leaf (Hold k)) = omega arith
-resolved-size e (one Not f) =
-    let h = resolved-size e f in
-    negated-elim (λ g. size g ≤ 1 + size f) (resolved e f) (λ q. omega arith) (λ q. omega arith) (omega arith)
-resolved-size e (one Next f) = omega arith
-resolved-size e (one (Ever j) f) = omega arith
-resolved-size e (two (Joined j) f g) =
-    let h = resolved-size e f in
-    let i = resolved-size e g in
-    joined-elim (λ x. size x ≤ 1 + size f + size g) j (resolved e f) (resolved e g) (λ q. omega arith) (λ q. omega arith) (λ q. omega arith) (λ q. omega arith) (λ q. omega arith) (omega arith)
-resolved-size e (two Until f g) = omega arith
-
-filled-size : (held : ℕ → Verdict) (f : Formula) → size (filled held f) ≡ size f
-filled-size held (leaf a) = refl
-filled-size held (one Not f) = ap (1 +_) (filled-size held f)
-filled-size held (one Next f) = refl
-filled-size held (one (Ever j) f) = refl
-filled-size held (two (Joined j) f g) = omega (arith, filled-size held f, filled-size held g)
-filled-size held (two Until f g) = refl
-
-resolved-no-longer : (e : Event) (held : ℕ → Verdict) (f : Formula) → size (resolved e (filled held f)) ≤ size f
-resolved-no-longer e held f = omega (arith, resolved-size e (filled held f), filled-size held f)
 
 -- ---- in a state
 pub step-no-longer : (s : List ℕ) (k : ℕ) → size (steppedTo s k) ≤ size (formulaAt s k)

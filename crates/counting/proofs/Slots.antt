@@ -34,23 +34,22 @@ use Rattle.counting.specs.Tables.{Tables, HeldBy, FormulaAsk, CountedOn,
 module _ {p : List ℕ} {board on : ℕ} {owner slots nodes : List ℕ} (ask : FormulaAsk p board owner slots nodes) (x : CutWalk) (cut : Cutting owner p on x) where
   pub cuts-few : x .part .cuts < 4100 * nodesRoom
   cuts-few =
-      let b = ask .begins in
-      let l = front-length p (b .formula) (b .rest) (b .front) in
+      let l = front-length p (ask .formula) [] (ask .front) in
       let f = ask .few in
-      let u = unfolded-few (b .formula) (omega arith) in
-      let c = cut (b .formula) (b .rest) (b .front) .parted .few in
+      let u = unfolded-few (ask .formula) (omega arith) in
+      let c = cut (ask .formula) [] (ask .front) .parted .few in
       omega arith
 
-  pub own-few : (read written : ℕ) → sizes.CountsUnfolded p read written → x .part .cuts + written < 4101 * (nodesRoom + 1)
-  own-few read written walk = let b = ask .begins in let c = cuts-few in let w = walk (b .formula) (b .rest) (b .front) .1 in omega arith
+  pub own-few : (count : ℕ) → sizes.CountsUnfolded p count → x .part .cuts + count < 4101 * (nodesRoom + 1)
+  own-few count counts = let c = cuts-few in let w = counts (ask .formula) (ask .front) in omega arith
 
 -- on its own board
 pub counts-on : {p : List ℕ} {board : ℕ} {owner slots nodes : List ℕ} → FormulaAsk p board owner slots nodes → (x : CutWalk) → Cutting owner p board x
-    → (read written : ℕ) → sizes.CountsUnfolded p read written → (held r : Totals) → HeldBy slots nodes p held → r .slots ≡ capped slotsRoom (1 + x .part .cuts + held .slots)
-    → r .nodes ≡ capped nodesRoom (x .part .cuts + written + held .nodes) → CountsOn p board owner slots nodes r
-counts-on {p} {board} {owner} {slots} {nodes} ask x cut read written walk held r h es en f front n end masks owned within =
+    → (count : ℕ) → sizes.CountsUnfolded p count → (held r : Totals) → HeldBy slots nodes p held → r .slots ≡ capped slotsRoom (1 + x .part .cuts + held .slots)
+    → r .nodes ≡ capped nodesRoom (x .part .cuts + count + held .nodes) → CountsOn p board owner slots nodes r
+counts-on {p} {board} {owner} {slots} {nodes} ask x cut count counts held r h es en f front n end masks owned within =
     let c = cut f [] front .parted .cuts-are n end masks owned (unfolded-coded n end f within) board (inr (refl, ask .there)) in
-    let w = walk f [] front .1 in
+    let w = counts f front in
     let b : p ≡ encode f = front .bytes ∙ append-nil (encode f) in
     let hs = h .slots-are ∙ ap (λ (l : List ℕ). capped slotsRoom (heldOver (entryIn slots) l)) b in
     let hn = h .nodes-are ∙ ap (λ (l : List ℕ). capped nodesRoom (heldOver (entryIn nodes) l)) b in
@@ -78,7 +77,8 @@ module _ {s : List ℕ} {c : Counts} {k : ℕ} {owner : List ℕ} (known : Opene
         let f = y .few-nodes in
         let g = y .few-slots in
         record {
-          begins = record { formula = formulaAt s k; rest = []; front = lent-front };
+          formula = formulaAt s k;
+          front = lent-front;
           few = let n = front-length bytes (formulaAt s k) [] lent-front in let z = passing .length-is in omega arith;
           holds = λ i. (let h = lent-holds (known .opened) k l x i in omega arith);
           there = let b = y .few-boards in omega arith;

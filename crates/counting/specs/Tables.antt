@@ -7,7 +7,7 @@ use Rattle.limits.specs.Limits.{boardsMost, nodesRoom, slotsRoom}
 use Rattle.ltl.specs.Formula.{Formula, size, encode, Within}
 use Rattle.ltl.specs.Progression.{unfolded}
 use Rattle.network.specs.Scores.{chosen}
-use Rattle.nodes.specs.Begins.{Front, Begins}
+use Rattle.nodes.specs.Begins.{Front}
 use Rattle.scores.specs.Owned.{Table, Owned}
 use Rattle.cutting.specs.Cuts.{cutsOn}
 use Rattle.checked.specs.Holds.{Holds}
@@ -27,7 +27,8 @@ pub record HeldBy (slots nodes p : List ℕ) (r : Totals) : Type 0 where
 
 -- the bytes of a slot on a board that is there
 pub record FormulaAsk (p : List ℕ) (board : ℕ) (owner slots nodes : List ℕ) : Type 0 where
-  pub begins : Begins p
+  pub formula : Formula
+  pub front : Front p formula []
   pub few : length p ≤ nodesRoom
   pub holds : Holds slotsRoom p
   pub there : board < boardsMost

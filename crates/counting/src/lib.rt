@@ -84,7 +84,7 @@ fn count_formula(p: &[u8], board: u8, owner: &[u8], slots: &[u8], nodes: &[u16])
 {
     let cuts = cutting::count_cuts(p, owner, board).part.cuts;
     let own_slots = 1 + cuts;
-    let own_nodes = cuts + sizing::count_unfolded(p).written;
+    let own_nodes = cuts + sizing::count_unfolded(p);
     together(
         Totals {
             slots: own_slots,

@@ -1,6 +1,5 @@
--- Laws of joining in place: formulas by their first bytes, where formulas and results stand, members, and two operands joined.
-pub mod Firsts
-pub mod Places
+-- Laws of joining.
 pub mod Standing
-pub mod Members
-pub mod Sides
+pub mod Spines
+pub mod Chains
+pub mod Joinings

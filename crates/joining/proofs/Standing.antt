@@ -1,5 +1,5 @@
--- A formula that stands from a place of some bytes on: how long (`contained`), what stands behind it, the same in a part that was lent
--- (`front-part`), and where it is a node, its operands one place on (`single-at`, `double-at`). Assumes nothing.
+-- A formula that stands from a place of some bytes on: how long it is (`contained`), and where it is a node with two operands, the left
+-- one a place on (`double-at`). Assumes nothing.
 use mathlib.Core.Path.{_≡_, sym, ap, _∙_}
 use mathlib.Core.List.{List, _++_}
 use Prim.Native.Nat.{ℕ, _+_, _<_}
@@ -8,15 +8,14 @@ use lib.ListN.{length, getD, drop, length-drop}
 use lib.Seq.{drop-drop, getD-drop}
 use Rattle.lists.specs.Runs.{tail}
 use Rattle.lists.proofs.Parts.{tail-is}
-use Rattle.kinds.specs.declared.Unary.{Unary}
 use Rattle.kinds.specs.declared.Binary.{Binary}
 use Rattle.kinds.specs.declared.Kind.{Kind}
-use Rattle.kinds.specs.declared.Kind.the-variants.{One, Two}
+use Rattle.kinds.specs.declared.Kind.the-variants.{Two}
 use Rattle.kinds.specs.Kinds.{kindOf}
-use Rattle.ltl.specs.Formula.{Formula, one, two, size, encode, Coded}
+use Rattle.ltl.specs.Formula.{Formula, two, size, encode, Coded}
 use Rattle.ltl.proofs.Decoding.{size-some}
 use Rattle.nodes.specs.Begins.{Front}
-use Rattle.nodes.proofs.Fronts.{Parts, parts-as, single, double, front-length, front-rest}
+use Rattle.nodes.proofs.Fronts.{Parts, parts-as, double, front-length}
 
 -- the byte at a place
 pub first-at : (p : List ℕ) (at : ℕ) → getD p at 0 ≡ getD (drop at p) 0 0
@@ -35,20 +34,7 @@ module _ (p : List ℕ) (at : ℕ) {f : Formula} {rest : List ℕ} (x : Front (d
       let z = size-some f in
       record { long = omega arith; some = z }
 
-  -- what stands behind it
-  pub front-behind : drop (at + size f) p ≡ rest
-  front-behind = sym (drop-drop (size f) at p) ∙ front-rest (drop at p) f rest x
-
--- in a part that was lent from another place on
-pub front-part : (p : List ℕ) (a n m : ℕ) → a + n ≡ m → {f : Formula} {rest : List ℕ} → Front (drop m p) f rest → Front (drop n (tail a p)) f rest
-front-part p a n m e x = record { coded = x .coded; bytes = ap (drop n) (tail-is a p) ∙ drop-drop n a p ∙ ap (λ (i : ℕ). drop i p) e ∙ x .bytes }
-
 -- ---- a node that stands from a place on, with its operands one place on
-pub record SingleAt (p : List ℕ) (from : ℕ) (f : Formula) (rest : List ℕ) (o : Unary) : Type 0 where
-  pub operand : Formula
-  pub same : f ≡ one o operand
-  pub front : Front (drop (from + 1) p) operand rest
-
 pub record DoubleAt (p : List ℕ) (from : ℕ) (f : Formula) (rest : List ℕ) (o : Binary) : Type 0 where
   pub left : Formula
   pub right : Formula
@@ -58,20 +44,13 @@ pub record DoubleAt (p : List ℕ) (from : ℕ) (f : Formula) (rest : List ℕ) 
 
 -- by the kind that the code found there, and the variant that it was matched with
 module _ (p : List ℕ) (from : ℕ) {f : Formula} {rest : List ℕ} (x : Front (drop from p) f rest) {r : Kind} (e : r ≡ kindOf (getD p from 0)) where
-  pub parts-at : {k : Kind} → r ≡ k → Parts (drop from p) rest f k
+  parts-at : {k : Kind} → r ≡ k → Parts (drop from p) rest f k
   parts-at h = parts-as (drop from p) f rest x (e ∙ ap kindOf (first-at p from)) h
 
   next-front : {g : Formula} {l : List ℕ} → Front (tail 1 (drop from p)) g l → Front (drop (from + 1) p) g l
   next-front y = record { coded = y .coded; bytes = sym (drop-drop 1 from p) ∙ sym (tail-is 1 (drop from p)) ∙ y .bytes }
 
-  pub single-at : {o v : Unary} → r ≡ One o → o ≡ v → SingleAt p from f rest v
-  single-at h q = let y = single (parts-at (h ∙ ap One q)) in record { operand = y .operand; same = y .same; front = next-front (y .front) }
-
   pub double-at : {o v : Binary} → r ≡ Two o → o ≡ v → DoubleAt p from f rest v
   double-at h q =
       let y = double (parts-at (h ∙ ap Two q)) in
       record { left = y .left; right = y .right; same = y .same; front = next-front (y .front); coded = y .second .coded }
-
--- the right operand, where the left one ends
-pub double-second : {p : List ℕ} {from : ℕ} {f : Formula} {rest : List ℕ} {o : Binary} (y : DoubleAt p from f rest o) → Front (drop (from + 1 + size (y .left)) p) (y .right) rest
-double-second {p} {from} y = record { coded = y .coded; bytes = front-behind p (from + 1) (y .front) }

@@ -1,40 +1,65 @@
--- Two resolved operands, and what they are joined into. Assumes nothing: these are definitions.
+-- The two lowest results joined. Assumes nothing: these are definitions.
 use mathlib.Core.Path.{_≡_}
-use Prim.Native.Nat.{ℕ, _+_, _<_}
-use mathlib.Core.Bool.{Bool, false}
-use mathlib.Core.List.{List, _++_}
-use lib.ListN.{length, drop}
+use mathlib.Core.List.{List, _∷_}
+use Prim.Native.Nat.{ℕ, _+_, _<_, _≤_}
+use lib.ListN.{getD, take}
 use Rattle.kinds.specs.declared.Join.{Join}
 use Rattle.kinds.specs.declared.Leaf.the-variants.{Const}
 use Rattle.kinds.specs.Kinds.{leafCode, joinCode}
-use Rattle.ltl.specs.Formula.{Formula, size, encode, Coded}
-use Rattle.ltl.specs.Progression.{isConstant, deciding, joined}
-use Rattle.joining.specs.declared.Settled.{Settled}
-use Rattle.joining.specs.Results.{StandsAt, Settles}
+use Rattle.ltl.specs.Formula.{Formula, size}
+use Rattle.ltl.specs.Progression.{deciding, joined}
+use Rattle.stacking.specs.Stacks.{Stack, Spared}
 
--- l from `start` to `end`, behind a byte at least, and r where `right` says behind `end`
-pub record Sides (p : List ℕ) (op decide start end : ℕ) (right : Settled) (j : Join) (l r : Formula) (rest : List ℕ) : Type 0 where
-  pub low : List ℕ
-  pub bytes : p ≡ low ++ (encode l ++ drop end p)
-  pub start-is : start ≡ length low
-  pub some : 0 < start
-  pub end-is : end ≡ start + size l
-  pub stands : StandsAt r (drop end p) rest right
-  pub coded-l : Coded l
-  pub coded-r : Coded r
-  pub pending : (v : Bool) → isConstant v l ≡ false
+-- f is the lowest result and g the one behind it; op is the code of the join, and decide that of the constant that settles it
+pub record Pair (p notes : List ℕ) (w op decide : ℕ) (j : Join) (f g : Formula) (fs : List Formula) : Type 0 where
+  pub stack : Stack (f ∷ (g ∷ fs)) p notes w
   pub op-is : op ≡ joinCode j
   pub decide-is : decide ≡ leafCode (Const (deciding j))
 
--- there are two such operands
-pub record Sided (p : List ℕ) (op decide start end : ℕ) (right : Settled) : Type 0 where
+pub record JoinAsk (p notes : List ℕ) (w op decide : ℕ) : Type 0 where
   pub j : Join
-  pub l : Formula
-  pub r : Formula
-  pub rest : List ℕ
-  pub sides : Sides p op decide start end right j l r rest
+  pub f : Formula
+  pub g : Formula
+  pub others : List Formula
+  pub pair : Pair p notes w op decide j f g others
+  pub some : 0 < w
 
-abbrev pub Joins : ℕ → ℕ → ℕ → ℕ → Settled → List ℕ → List ℕ → Settled → Type 0
-Joins op decide start end right p p′ at =
-    (j : Join) (l r : Formula) (rest : List ℕ) → Sides p op decide start end right j l r rest
-    → Settles (joined j l r) (end + right .next) p′ rest at
+pub record JoinsPair (p notes : List ℕ) (w op decide : ℕ) (p′ notes′ : List ℕ) (v : ℕ) : Type 0 where
+  pub untouched : Spared w p notes p′ notes′
+  pub means : (j : Join) (f g : Formula) (fs : List Formula) → Pair p notes w op decide j f g fs → Stack (joined j f g ∷ fs) p′ notes′ v
+
+-- ---- where the left operand is no constant, and the right one not the constant that settles it
+pub record Open (p notes : List ℕ) (w op l r : ℕ) (j : Join) (f g : Formula) (fs : List Formula) : Type 0 where
+  pub stack : Stack (f ∷ (g ∷ fs)) p notes w
+  pub op-is : op ≡ joinCode j
+  pub left-long : l ≡ size f
+  pub right-long : r ≡ size g
+  pub pending : 2 ≤ getD p w 0
+  pub not-settled : getD p (w + l) 0 ≡ leafCode (Const (deciding j)) → ⊥
+
+pub record OpenAsk (p notes : List ℕ) (w op l r : ℕ) : Type 0 where
+  pub j : Join
+  pub f : Formula
+  pub g : Formula
+  pub others : List Formula
+  pub open′ : Open p notes w op l r j f g others
+  pub some : 0 < w
+
+pub record OpenJoins (p notes : List ℕ) (w op l r : ℕ) (p′ notes′ : List ℕ) (v : ℕ) : Type 0 where
+  pub untouched : Spared w p notes p′ notes′
+  pub means : (j : Join) (f g : Formula) (fs : List Formula) → Open p notes w op l r j f g fs → Stack (joined j f g ∷ fs) p′ notes′ v
+
+-- ---- the left operand, of l bytes, over a right one of one byte that says nothing
+pub record KeepAsk (p notes : List ℕ) (w l : ℕ) : Type 0 where
+  pub f : Formula
+  pub g : Formula
+  pub others : List Formula
+  pub stack : Stack (f ∷ (g ∷ others)) p notes w
+  pub left-long : l ≡ size f
+  pub right-long : size g ≡ 1
+
+pub record Keeps (p notes : List ℕ) (w l : ℕ) (p′ notes′ : List ℕ) (v : ℕ) : Type 0 where
+  pub place : v ≡ w + 1
+  pub front : (u : ℕ) → u ≤ w → take u p′ ≡ take u p
+  pub notes-front : (q : ℕ) → q < w → getD notes′ q 0 ≡ getD notes q 0
+  pub means : (f g : Formula) (fs : List Formula) → Stack (f ∷ (g ∷ fs)) p notes w → l ≡ size f → size g ≡ 1 → Stack (f ∷ fs) p′ notes′ v

@@ -1,4 +1,3 @@
 -- What the contracts of `joining` cite.
-pub mod Results
 pub mod Members
 pub mod Joins

@@ -1,74 +1,62 @@
-// Two resolved operands joined in place, by the member rule. The byte of an operator that gives way to one of them is left out and not moved over,
-// so that a result may begin behind the front.
-ghost use Rattle.joining.specs.Members.{Comparable, IsMember};
-ghost use Rattle.joining.specs.Joins.{Sided, Joins};
+// The two lowest results joined, by the member rule. The result stands where the two stood, at their end: to drop the left one is to
+// leave it behind, to keep both is to put the operator below them.
+mod members;
 
-// Where a result stands, from `start` to `end`, and where the bytes begin that were not read.
-pub struct Settled {
-    pub next: usize,
-    pub start: usize,
-    pub end: usize,
-}
+ghost use Rattle.joining.specs.Joins.{JoinAsk, JoinsPair, OpenAsk, OpenJoins, KeepAsk, Keeps};
+use members::is_member;
 
-// Whether the formula l is a member of the formula r by the join op: r itself and, where r is joined so, its left operand and
-// the members of its right. No formula's bytes begin another's, so that a formula is found by comparing what bytes begin with.
-fn is_member(l: &[u8], r: &[u8], op: u8) -> bool
-    requires { ⌜ Comparable (now l) (now r) op ⌝ }
-    ensures { λ x. ⌜ IsMember (now (l .entry)) (now (r .entry)) op x ⌝ }
+// JoinsPair the results at w by op, which the constant `decide` settles.
+pub fn join(p: &mut [u8], notes: &mut [u16], w: usize, op: u8, decide: u8) -> usize
+    requires { ⌜ JoinAsk (now p) (now notes) w op decide ⌝ }
+    ensures { λ v. ⌜ JoinsPair (now (p .entry)) (now (notes .entry)) w op decide (now (p .exit)) (now (notes .exit)) v ⌝ }
 {
-    let mut at: usize = 0;
-    while r[at] == op {
-        // A formula that is not longer than l has no other member that l could be.
-        if r.len() - at <= l.len() {
-            return buffers::begins(l, &r[at..]);
-        }
-        let left = at + 1;
-        if buffers::begins(l, &r[left..]) {
-            return true;
-        }
-        at = left + nodes::operand_end(&r[left..]);
-    }
-    buffers::begins(l, &r[at..])
-}
-
-// Joins two resolved operands, the left one from `start` to `end` and no constant, the right one where `right` says behind `end`.
-pub fn join(p: &mut [u8], op: u8, decide: u8, start: usize, end: usize, right: Settled) -> Settled
-    requires { ⌜ Sided (now p) op decide start end right ⌝ }
-    ensures { λ r. ⌜ Joins op decide start end right (now (p .entry)) (now (p .exit)) r ⌝ }
-{
-    let from = end + right.start;
-    let to = end + right.end;
-    let next = end + right.next;
-    let first = p[from];
+    let l = buffers::wide(notes[w]);
+    let m = w + l;
+    let r = buffers::wide(notes[m]);
+    let first = p[w];
     if first == decide {
-        p[0] = decide;
-        return Settled {
-            next: next,
-            start: 0,
-            end: 1,
-        };
+        return stacking::push(decide, p, notes, m + r);
     }
     if first < 2 {
-        return Settled {
-            next: next,
-            start: start,
-            end: end,
-        };
+        return m;
     }
-    if is_member(&p[start..end], &p[from..to], op) {
-        return Settled {
-            next: next,
-            start: from,
-            end: to,
-        };
+    if p[m] == decide {
+        return m;
     }
-    let n = right.end - right.start;
-    buffers::slide(&mut p[end..to], right.start, n);
-    let top = start - 1;
-    p[top] = op;
-    Settled {
-        next: next,
-        start: top,
-        end: end + n,
+    join_open(p, notes, w, op, l, r)
+}
+
+// The same where the left one, of l bytes, is no constant, and the right one, of r bytes, does not settle it.
+fn join_open(p: &mut [u8], notes: &mut [u16], w: usize, op: u8, l: usize, r: usize) -> usize
+    requires { ⌜ OpenAsk (now p) (now notes) w op l r ⌝ }
+    ensures { λ v. ⌜ OpenJoins (now (p .entry)) (now (notes .entry)) w op l r (now (p .exit)) (now (notes .exit)) v ⌝ }
+{
+    let right = w + l;
+    if p[right] < 2 {
+        return keep_left(p, notes, w, l);
     }
+    if is_member(p, notes, op, w, l, r) {
+        return right;
+    }
+    let v = w - 1;
+    p[v] = op;
+    notes[v] = buffers::narrow(1 + l + r);
+    notes[w] = buffers::narrow(l);
+    v
+}
+
+// The left one, of l bytes, moved over a right one of one byte that says nothing.
+fn keep_left(p: &mut [u8], notes: &mut [u16], w: usize, l: usize) -> usize
+    requires { ⌜ KeepAsk (now p) (now notes) w l ⌝ }
+    ensures { λ v. ⌜ Keeps (now (p .entry)) (now (notes .entry)) w l (now (p .exit)) (now (notes .exit)) v ⌝ }
+{
+    let first = p[w];
+    let v = w + 1;
+    buffers::raise(p, w, l, 1);
+    if stacking::is_join(first) {
+        buffers::raise_notes(notes, w, l, 1);
+        return v;
+    }
+    notes[v] = buffers::narrow(l);
+    v
 }

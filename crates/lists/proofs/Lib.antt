@@ -2,5 +2,7 @@
 pub mod Tests
 pub mod Listed
 pub mod Overlay
+pub mod Drops
 pub mod Parts
+pub mod Splices
 pub mod Stretches

@@ -6,7 +6,7 @@ use Prim.Native.Nat.{ℕ, suc, _+_, _<_, _≤_}
 use native.Mathlib.Omega.{arith}
 use native.Mathlib.Numerals.{add-one}
 use lib.ListN.{length, getD, set, take, drop, drop-of-length-le}
-use lib.Seq.{take-suc, drop-cons, set-at, length-take-le, take-length, getD-append-add, getD-drop}
+use lib.Seq.{take-suc, drop-cons, set-at, length-take-le, take-length}
 
 abbrev pub overlaid : ℕ → List ℕ → List ℕ → List ℕ
 overlaid i xs p = take i xs ++ drop i p
@@ -17,11 +17,6 @@ module _ (xs p : List ℕ) (i : ℕ) where
   overlaid-more h k =
       rw (add-one, drop-cons p i 0 k, set-at (take i xs) (getD p i 0) (drop (suc i) p) (getD xs i 0) i (length-take-le i xs (omega arith)), take-suc xs i 0 h)
       (sym (append-assoc (take i xs) (getD xs i 0 ∷ []) (drop (suc i) p)))
-
-  -- what is not overwritten yet
-  pub overlaid-behind : (k : ℕ) → i ≤ length xs → getD (overlaid i xs p) (i + k) 0 ≡ getD p (i + k) 0
-  overlaid-behind k h =
-      ap (λ (n : ℕ). getD (overlaid i xs p) (n + k) 0) (sym (length-take-le i xs h)) ∙ getD-append-add (take i xs) (drop i p) k 0 ∙ getD-drop i p k 0
 
 -- all of it
 pub overlaid-all : (xs p : List ℕ) → overlaid (length xs) xs p ≡ xs ++ drop (length xs) p

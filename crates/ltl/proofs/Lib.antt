@@ -4,3 +4,4 @@ pub mod Decoding
 pub mod Owing
 pub mod Joining
 pub mod Soundness
+pub mod Lengths

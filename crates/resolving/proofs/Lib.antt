@@ -1,3 +1,2 @@
 -- Laws of resolving in place.
 pub mod Coded
-pub mod Walks

@@ -1,17 +1,67 @@
-// A formula rewritten in its own bytes as what it becomes: resolved there, moved to the front, and zeros behind it.
-ghost use Rattle.nodes.specs.Begins.{Begins};
-ghost use Rattle.rewriting.specs.Rewritten.{Rewritten};
+// A formula rewritten in its own bytes as what it becomes: resolved there, moved to the front, and zeros behind it. The notes beside the
+// bytes are local: a small formula has a small array of them.
+ghost use Rattle.limits.specs.Limits.{nodesRoom};
+ghost use Rattle.sweeping.specs.Passes.{Outlining};
+ghost use Rattle.rewriting.specs.Rewritten.{smallMost, Rewritable, RewritableIn, Fronted, Rewritten};
+use limits::NODES_ROOM;
 use resolving::Seen;
 
-// Answers the result's length.
+// The most nodes of a small formula.
+pub const SMALL_MOST: usize = 128;
+
+// Resolves the formula that p is, with its outline beside it, and moves what it becomes to the front. Answers its length.
+pub fn to_front(p: &mut [u8], notes: &mut [u16], seen: Seen) -> usize
+    requires { ⌜ Outlining (now p) (now notes) ⌝ }
+    ensures { λ n. ⌜ Fronted seen (now (p .entry)) (now (p .exit)) n ⌝ }
+{
+    let w = sweeping::sweep(p, notes, seen);
+    let n = p.len() - w;
+    buffers::slide(p, w, n);
+    n
+}
+
+// The same of a formula without its outline.
+fn rewrite_noted(p: &mut [u8], notes: &mut [u16], seen: Seen) -> usize
+    requires { ⌜ RewritableIn (now p) (now notes) ⌝ }
+    ensures { λ n. ⌜ Fronted seen (now (p .entry)) (now (p .exit)) n ⌝ }
+{
+    outlining::outline(p, notes);
+    to_front(p, notes, seen)
+}
+
+// What the notes hold at first does not matter. They are filled with ones, since zeros would be written by a call of the C library.
+fn rewrite_small(p: &mut [u8], seen: Seen) -> usize
+    requires { ⌜ Rewritable smallMost (now p) ⌝ }
+    ensures { λ n. ⌜ Fronted seen (now (p .entry)) (now (p .exit)) n ⌝ }
+{
+    let mut notes = [1u16; SMALL_MOST];
+    rewrite_noted(p, &mut notes, seen)
+}
+
+fn rewrite_large(p: &mut [u8], seen: Seen) -> usize
+    requires { ⌜ Rewritable nodesRoom (now p) ⌝ }
+    ensures { λ n. ⌜ Fronted seen (now (p .entry)) (now (p .exit)) n ⌝ }
+{
+    let mut notes = [1u16; NODES_ROOM];
+    rewrite_noted(p, &mut notes, seen)
+}
+
+fn rewrite_any(p: &mut [u8], seen: Seen) -> usize
+    requires { ⌜ Rewritable nodesRoom (now p) ⌝ }
+    ensures { λ n. ⌜ Fronted seen (now (p .entry)) (now (p .exit)) n ⌝ }
+{
+    if p.len() <= SMALL_MOST {
+        return rewrite_small(p, seen);
+    }
+    rewrite_large(p, seen)
+}
+
+// Rewrites the formula that p is. Answers the result's length.
 pub fn rewrite(p: &mut [u8], seen: Seen) -> usize
-    requires { ⌜ Begins (now p) ⌝ }
+    requires { ⌜ Rewritable nodesRoom (now p) ⌝ }
     ensures { λ r. ⌜ Rewritten seen (now (p .entry)) (now (p .exit)) r ⌝ }
 {
-    let at = resolving::resolve(p, 0, seen);
-    let start = at.start;
-    let n = at.end - start;
-    buffers::slide(p, start, n);
+    let n = rewrite_any(p, seen);
     buffers::clear(&mut p[n..]);
     n
 }

@@ -1,5 +1,5 @@
--- What the writer leaves: a slot marked, its formula rewritten and its length put (`put-done`). Its bytes begin with its formula
--- (`lent-begins`), and what it becomes is no longer (`count-few`). Assumes nothing.
+-- What the writer leaves: a slot marked, its formula rewritten and its length put (`put-done`). Its bytes are its formula
+-- (`lent-rewritable`), and what it becomes is no longer (`count-few`). Assumes nothing.
 use mathlib.Core.Path.{_≡_, sym, ap, _∙_}
 use mathlib.Core.List.{List, [], _++_, append-nil}
 use Prim.Native.Nat.{ℕ, _+_, _-_, _<_, _≤_}
@@ -10,7 +10,7 @@ use Rattle.lists.specs.Runs.{padded}
 use Rattle.le.specs.Le.{le}
 use Rattle.ltl.specs.Formula.{Formula, size, encode}
 use Rattle.ltl.proofs.Decoding.{length-encode}
-use Rattle.nodes.specs.Begins.{Front, Begins}
+use Rattle.nodes.specs.Begins.{Front}
 use Rattle.state.specs.declared.Counts.{Counts}
 use Rattle.state.specs.Fields.{slotsIn, lengthIn}
 use Rattle.state.specs.Bytes.{formulaAt}
@@ -22,7 +22,7 @@ use Rattle.checked.proofs.Lying.{slot-passing, lying, lent-is}
 use Rattle.checked.proofs.Stepping.{result-fits, result-room}
 use Rattle.resolving.specs.declared.Seen.{Seen}
 use Rattle.resolving.specs.Settles.{heldBy, settled}
-use Rattle.rewriting.specs.Rewritten.{Rewritten}
+use Rattle.rewriting.specs.Rewritten.{Rewritable, Rewritten}
 use Rattle.settling.specs.Putting.{steppedAs}
 
 -- ---- slot k of the state s, its nodes from `from` up to `to`, and m, where it is marked
@@ -40,22 +40,25 @@ module _ {s : List ℕ} {c : Counts} (o : Opened s c) {k : ℕ} (l : k < c .slot
   lent-front : Front lent (formulaAt s k) []
   lent-front = record { coded = slot-passing o k l .coded; bytes = marked-is ∙ sym (append-nil (encode (formulaAt s k))) }
 
-  pub lent-begins : Begins lent
-  lent-begins = record { formula = formulaAt s k; rest = []; front = lent-front }
+  pub lent-rewritable : Rewritable nodesRoom lent
+  lent-rewritable =
+      let e = ap length marked-is ∙ length-encode (formulaAt s k) ∙ sym (slot-passing o k l .length-is) in
+      let f = lying o k l .few-nodes in
+      record { formula = formulaAt s k; front = lent-front; few = omega arith }
 
   module _ {seen : Seen} {y : List ℕ} {w : ℕ} (r : Rewritten seen lent y w) where
     abbrev result : Formula
     result = settled seen (formulaAt s k)
 
     count-is : w ≡ size result
-    count-is = r .count (formulaAt s k) [] lent-front
+    count-is = r .count (formulaAt s k) lent-front
 
     pub count-few : w ≤ nodesRoom
     count-few = let f = lying o k l .few-nodes in omega (arith, count-is, result-fits s (o .passes) k there (seen .event) (heldBy seen))
 
     bytes-are : y ≡ padded (lengthIn s k) (encode result)
     bytes-are =
-        r .bytes (formulaAt s k) [] lent-front
+        r .bytes (formulaAt s k) lent-front
         ∙ ap (λ (i : ℕ). padded i (encode result)) (ap length marked-is ∙ length-encode (formulaAt s k) ∙ sym (slot-passing o k l .length-is))
 
     pub put-done : {t u : List ℕ} → t ≡ take from m ++ (y ++ drop (to - from) (drop from m)) → u ≡ putAt (recordOf c k + 4) (le 2 w) t → u ≡ steppedAs result s k

@@ -1,2 +1,3 @@
 -- What the contracts of `sizing` cite.
 pub mod Sizes
+pub mod Sums

@@ -1,79 +1,87 @@
-// How many nodes a formula unfolds to, counted over its bytes as they stand. The walk returns how far it read, so that no operand's end
-// is looked for.
+// How many nodes a formula unfolds to, counted over its bytes as they stand, in a loop forwards: each node counts as one, and a
+// temporal operator that is unfolded adds what it becomes besides. What stands under next is passed over at once.
 ghost use mathlib.Core.Path.{_≡_};
-ghost use Prim.Native.Nat.{_+_, _≤_, min};
-ghost use lib.ListN.{length};
-ghost use Rattle.limits.specs.Limits.{nodesRoom};
-ghost use Rattle.nodes.specs.Begins.{Begins};
-ghost use Rattle.sizing.specs.Sizes.{CountsUnfolded};
-use kinds::Binary;
+ghost use Rattle.sizing.specs.Sizes.{SizeAsk, CountsUnfolded};
+ghost use Rattle.sizing.specs.Sums.{everKind, SumsWhole, SumsEver, SumsOn};
 use kinds::Kind;
 use kinds::Unary;
 use limits::NODES_ROOM;
 
-// How many bytes of a formula were read, and how many were written, or would be.
-pub struct Walk {
-    pub read: usize,
-    pub written: usize,
+// Where the count goes on, and how many nodes were counted.
+struct Tally {
+    i: usize,
+    count: usize,
 }
 
-// A count of nodes, or one more than the most where there are more.
-fn capped(n: usize) -> usize
-    ensures { λ r. ⌜ r ≡ min n (nodesRoom + 1) ⌝ }
+// Eventually or always.
+fn is_ever(k: Kind) -> bool
+    ensures { λ r. ⌜ r ≡ everKind k ⌝ }
 {
-    if n <= NODES_ROOM { n } else { NODES_ROOM + 1 }
-}
-
-// How many nodes the formula that s begins with unfolds to, counted up to one more than the most.
-pub fn count_unfolded(s: &[u8]) -> Walk
-    requires { ⌜ Begins (now s) × (length (now s) ≤ nodesRoom) ⌝ }
-    ensures { λ r. ⌜ CountsUnfolded (now (s .entry)) (r .read) (r .written) ⌝ }
-{
-    let k = Kind::of(s[0]);
     match k {
-        Kind::Zero(_) => Walk {
-            read: 1,
-            written: 1,
+        Kind::Zero(_) => false,
+        Kind::One(o) => match o {
+            Unary::Not => false,
+            Unary::Next => false,
+            Unary::Ever(_) => true,
         },
-        Kind::One(o) => {
-            let a = count_unfolded(&s[1..]);
-            let n = 1 + a.read;
-            match o {
-                Unary::Not => Walk {
-                    read: n,
-                    written: capped(1 + a.written),
-                },
-                Unary::Next => Walk {
-                    read: n,
-                    written: n,
-                },
-                Unary::Ever(_) => Walk {
-                    read: n,
-                    written: capped(2 + a.written + n),
-                },
-            }
-        }
-        Kind::Two(o) => {
-            let a = count_unfolded(&s[1..]);
-            let m = 1 + a.read;
-            let c = count_unfolded(&s[m..]);
-            let n = m + c.read;
-            let both = a.written + c.written;
-            match o {
-                Binary::Joined(_) => Walk {
-                    read: n,
-                    written: capped(1 + both),
-                },
-                Binary::Until => Walk {
-                    read: n,
-                    written: capped(3 + both + n),
-                },
-            }
-        }
-        // No formula begins with such a byte.
-        Kind::NoCode => Walk {
-            read: 0,
-            written: 0,
-        },
+        Kind::Two(_) => false,
+        Kind::NoCode => false,
     }
+}
+
+// Eventually and always that stand one behind the other end at one place, so that it is looked for once. Each adds a join, and
+// next with itself.
+fn count_ever(s: &[u8], from: usize, end: usize, start: usize) -> Tally
+    requires { ⌜ SumsEver (now s) from end start ⌝ }
+    ensures { λ r. ⌜ SumsOn (now (s .entry)) from (r .i) (r .count) ⌝ }
+{
+    let mut i = from;
+    let mut count = start;
+    while is_ever(Kind::of(s[i])) {
+        count = count + 1 + (end - i);
+        i += 1;
+    }
+    Tally { i, count }
+}
+
+// A next, which stays whole, or a temporal operator, which is unfolded: until adds two joins, and next with itself.
+fn count_whole(s: &[u8], i: usize, count: usize) -> Tally
+    requires { ⌜ SumsWhole (now s) i count ⌝ }
+    ensures { λ r. ⌜ SumsOn (now (s .entry)) i (r .i) (r .count) ⌝ }
+{
+    let end = i + nodes::operand_end(&s[i..]);
+    if s[i] == Kind::NEXT {
+        return Tally { i: end, count };
+    }
+    if is_ever(Kind::of(s[i])) {
+        return count_ever(s, i, end, count);
+    }
+    let more = count + 2 + (end - i);
+    Tally {
+        i: i + 1,
+        count: more,
+    }
+}
+
+// How many nodes the formula unfolds to whose bytes s are, counted up to one more than the most.
+pub fn count_unfolded(s: &[u8]) -> usize
+    requires { ⌜ SizeAsk (now s) ⌝ }
+    ensures { λ r. ⌜ CountsUnfolded (now (s .entry)) r ⌝ }
+{
+    let n = s.len();
+    let mut count = n;
+    let mut i: usize = 0;
+    while i < n {
+        if outlining::stays_whole(Kind::of(s[i])) {
+            let t = count_whole(s, i, count);
+            i = t.i;
+            count = t.count;
+            if NODES_ROOM < count {
+                return NODES_ROOM + 1;
+            }
+        } else {
+            i += 1;
+        }
+    }
+    count
 }

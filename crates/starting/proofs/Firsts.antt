@@ -13,7 +13,6 @@ use Rattle.state.specs.Calls.{firstOf, loadedState}
 use Rattle.nodes.specs.Begins.{Front, Begins}
 use Rattle.nodes.proofs.Fronts.{front-length, front-one-way}
 use Rattle.scores.specs.Owned.{Table}
-use Rattle.sizing.specs.declared.Walk.{Walk}
 use Rattle.unfolding.specs.Unfolds.{UnfoldAsk, Unfolds, UnfoldedTo}
 use Rattle.unfolding.proofs.Fronts.{written-bytes, written-front}
 use Rattle.tagging.specs.declared.TaggedPart.{TaggedPart}
@@ -33,23 +32,23 @@ module _ {state masks bytes owner : List ℕ} {board slots nodes : ℕ} {u tags 
   first-size = let l = first-large (ask .ruled) in let f = nodes-few (formIn state) in omega arith
 
   pub unfold-ask : UnfoldAsk u bytes
-  unfold-ask = record { begins = record { formula = ask .rule; rest = []; front = ask .ruled .front }; room = let s = first-size in omega arith }
+  unfold-ask = record { formula = ask .rule; front = ask .ruled .front; few = first-size; room = let s = first-size in omega arith }
 
-  module _ {u′ : List ℕ} (w : Walk) (h : Unfolds u bytes u′ (w .read) (w .written)) where
-    rule-unfolded : UnfoldedTo (ask .rule) u u′ (w .read) (w .written)
-    rule-unfolded = h (ask .rule) [] (ask .ruled .front)
+  module _ {u′ : List ℕ} (n : ℕ) (h : Unfolds u bytes u′ n) where
+    rule-unfolded : UnfoldedTo (ask .rule) u u′ n
+    rule-unfolded = h (ask .rule) (ask .ruled .front)
 
-    front-is : Front (take (w .written) u′) U []
+    front-is : Front (take n u′) U []
     front-is = written-front rule-unfolded (ask .ruled .front .coded)
 
-    pub tag-ask : Begins (take (w .written) u′) × Table owner × (length (take (w .written) u′) ≤ length tags) × (length (take (w .written) u′) ≤ nodesRoom)
+    pub tag-ask : Begins (take n u′) × Table owner × (length (take n u′) ≤ length tags) × (length (take n u′) ≤ nodesRoom)
     tag-ask =
-        let e = front-length (take (w .written) u′) U [] front-is in
+        let e = front-length (take n u′) U [] front-is in
         let s = first-size in
         (whole-begins front-is, ask .table, omega arith, omega arith)
 
-    module _ {tags′ : List ℕ} (y : TaggedPart) (m : Tagging owner (take (w .written) u′) board tags′ y) (kept : length tags′ ≡ length tags) where
-      laid-is : LaidOut (take (w .written) u′) tags′ (firstOf masks (ask .rule))
+    module _ {tags′ : List ℕ} (y : TaggedPart) (m : Tagging owner (take n u′) board tags′ y) (kept : length tags′ ≡ length tags) where
+      laid-is : LaidOut (take n u′) tags′ (firstOf masks (ask .rule))
       laid-is =
           subst (λ (x : List ℕ). LaidOut x tags′ (firstOf masks (ask .rule))) (sym (written-bytes rule-unfolded))
           (first-laid (ask .ruled) owner (ask .owned) tags′ y (subst (λ (b : ℕ). TaggedAs owner U b tags′ y) (ask .board-is) (m U [] front-is))
@@ -58,10 +57,10 @@ module _ {state masks bytes owner : List ℕ} {board slots nodes : ℕ} {u tags 
       counts-are : LaidCounts (firstOf masks (ask .rule)) slots nodes
       counts-are = record { slots-are = ask .slots-are; nodes-are = ask .nodes-are; few-slots = (let a = ask .few-slots in let f = slots-few (formIn state) in omega arith); few-nodes = (let a = ask .few-nodes in let f = nodes-few (formIn state) in omega arith) }
 
-      pub state-ask : StateAsk state masks slots nodes (take (w .written) u′) tags′
+      pub state-ask : StateAsk state masks slots nodes (take n u′) tags′
       state-ask = record { network = firstOf masks (ask .rule); laid-out = laid-is; counts = counts-are; long = ask .long; few-boards = ask .ruled .few-boards; form-slots = ask .few-slots; form-nodes = ask .few-nodes }
 
-      pub first-put : {state′ : List ℕ} → Stores (formIn state) masks slots nodes 0 (take (w .written) u′) tags′ state′ → Firsts (formIn state) masks bytes state′
+      pub first-put : {state′ : List ℕ} → Stores (formIn state) masks slots nodes 0 (take n u′) tags′ state′ → Firsts (formIn state) masks bytes state′
       first-put {state′} h rule r =
           let same : ask .rule ≡ rule = front-one-way bytes (ask .rule) rule [] [] (ask .ruled .front) (r .front) .0 in
           subst (λ (f : Formula). state′ ≡ loadedState (formIn state) masks f) same (h (firstOf masks (ask .rule)) laid-is counts-are)

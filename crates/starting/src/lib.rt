@@ -17,7 +17,7 @@ pub fn put_first(
     requires { ⌜ FirstAsk (now state) (now masks) (now rule) (now owner) board slots nodes (now u) (now tags) ⌝ }
     ensures { λ _. ⌜ Firsts (formIn (now (state .entry))) (now (masks .entry)) (now (rule .entry)) (now (state .exit)) ⌝ }
 {
-    let n = unfolding::unfold_into(u, rule).written;
+    let n = unfolding::unfold_into(u, rule);
     tagging::tag(&u[..n], tags, owner, board);
     storing::put_state(state, masks, slots, nodes, 0, &u[..n], tags);
 }

@@ -12,7 +12,7 @@ use Rattle.ltl.proofs.Decoding.{length-encode, unfolded-coded}
 use Rattle.nodes.specs.Begins.{Front}
 use Rattle.unfolding.specs.Unfolds.{UnfoldedTo}
 
-module _ {f : Formula} {out out′ : List ℕ} {read written : ℕ} (x : UnfoldedTo f out out′ read written) where
+module _ {f : Formula} {out out′ : List ℕ} {written : ℕ} (x : UnfoldedTo f out out′ written) where
   pub written-bytes : take written out′ ≡ encode (unfolded f)
   written-bytes =
       let g = unfolded f in

@@ -1,2 +1,4 @@
 -- What the contracts of `unfolding` cite.
 pub mod Unfolds
+pub mod Tasks
+pub mod Stages

@@ -1,55 +1,33 @@
 -- What unfolding a formula's bytes asks and gives. Assumes nothing: these are definitions.
 use mathlib.Core.Path.{_≡_}
-use Prim.Native.Nat.{ℕ, _+_, _≤_}
-use mathlib.Core.List.{List, _∷_, _++_}
-use lib.ListN.{length, getD, drop}
-use Rattle.kinds.specs.declared.Unary.the-variants.{Ever}
-use Rattle.kinds.specs.declared.Join.{Join}
-use Rattle.kinds.specs.declared.Binary.the-variants.{Joined}
-use Rattle.kinds.specs.declared.Kind.the-variants.{One, Two}
-use Rattle.kinds.specs.Kinds.{kindOf, joinCode}
+use Prim.Native.Nat.{ℕ, _≤_}
+use mathlib.Core.List.{List, [], _++_}
+use lib.ListN.{length, drop}
+use Rattle.limits.specs.Limits.{nodesRoom}
 use Rattle.ltl.specs.Formula.{Formula, size, encode}
 use Rattle.ltl.specs.Progression.{unfolded}
-use Rattle.nodes.specs.Begins.{Front, Begins}
+use Rattle.nodes.specs.Begins.{Front}
 
--- the bytes begin with a formula, and there is room for what it unfolds to
+-- the bytes are one formula, whose places can be noted, with room for what it unfolds to and for a note beside each byte of that
+pub record Unfoldable (out s notes : List ℕ) : Type 0 where
+  pub formula : Formula
+  pub front : Front s formula []
+  pub few : length s ≤ nodesRoom
+  pub room : size (unfolded formula) ≤ length out
+  pub beside : size (unfolded formula) ≤ length notes
+
+-- the bytes are one formula, with room for what it unfolds to, which is no more than a network may have
 pub record UnfoldAsk (out s : List ℕ) : Type 0 where
-  pub begins : Begins s
-  pub room : size (unfolded (begins .formula)) ≤ length out
+  pub formula : Formula
+  pub front : Front s formula []
+  pub few : size (unfolded formula) ≤ nodesRoom
+  pub room : size (unfolded formula) ≤ length out
 
--- the formula in front was read, and stands unfolded at the front of the output, behind which nothing changed
-pub record UnfoldedTo (f : Formula) (out out′ : List ℕ) (read written : ℕ) : Type 0 where
-  pub reads : read ≡ size f
+-- the formula stands unfolded at the front of the output, behind which nothing changed
+pub record UnfoldedTo (f : Formula) (out out′ : List ℕ) (written : ℕ) : Type 0 where
   pub writes : written ≡ size (unfolded f)
   pub leaves : out′ ≡ encode (unfolded f) ++ drop (size (unfolded f)) out
 
-abbrev pub Unfolds : List ℕ → List ℕ → List ℕ → ℕ → ℕ → Type 0
-Unfolds out s out′ read written = (f : Formula) (rest : List ℕ) → Front s f rest → UnfoldedTo f out out′ read written
-
--- ---- the parts of the walk
--- the bytes begin with a formula, and there is room for one byte and what it unfolds to
-pub record BehindAsk (out s : List ℕ) : Type 0 where
-  pub begins : Begins s
-  pub room : 1 + size (unfolded (begins .formula)) ≤ length out
-
--- the formula in front was read, and stands unfolded behind the byte b at the front of the output, behind which nothing changed
-pub record UnfoldedBehind (b : ℕ) (f : Formula) (out out′ : List ℕ) (read written : ℕ) : Type 0 where
-  pub reads : read ≡ size f
-  pub writes : written ≡ 1 + size (unfolded f)
-  pub leaves : out′ ≡ (b ∷ encode (unfolded f)) ++ drop (1 + size (unfolded f)) out
-
--- the same of whatever formula the bytes begin with
-abbrev pub UnfoldsBehind : ℕ → List ℕ → List ℕ → List ℕ → ℕ → ℕ → Type 0
-UnfoldsBehind b out s out′ read written = (f : Formula) (rest : List ℕ) → Front s f rest → UnfoldedBehind b f out out′ read written
-
--- the first byte is eventually or always; b is the code of the join that it unfolds to
-pub record Repeated (s : List ℕ) (b : ℕ) : Type 0 where
-  pub by : Join
-  pub kind : kindOf (getD s 0 0) ≡ One (Ever by)
-  pub code : b ≡ joinCode by
-
--- the first byte is a join; b is its code
-pub record Both (s : List ℕ) (b : ℕ) : Type 0 where
-  pub by : Join
-  pub kind : kindOf (getD s 0 0) ≡ Two (Joined by)
-  pub code : b ≡ joinCode by
+-- the same of whatever formula the bytes are
+abbrev pub Unfolds : List ℕ → List ℕ → List ℕ → ℕ → Type 0
+Unfolds out s out′ written = (f : Formula) → Front s f [] → UnfoldedTo f out out′ written

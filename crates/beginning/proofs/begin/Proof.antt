@@ -28,7 +28,7 @@ abbrev counted : tie.Else1 → tie.After-count-cuts
 counted c = c .before .before .before .before
 
 abbrev unfolded : tie.Else2 → tie.After-count-unfolded
-unfolded c = c .before .before .before .before
+unfolded c = c .before .before .before
 
 abbrev first : tie.After-count-cuts → tie.Start
 first c = entry (owned c)
@@ -49,10 +49,10 @@ abbrev cuts-of : tie.Else2 → tie.After-count-cuts
 cuts-of c = counted (unfolded c .before)
 
 fits : (c : tie.Else2) {rule : Formula} (r : RuleGiven (first (cuts-of c) .args .masks .now) (first (cuts-of c) .args .rule .now) rule)
-    → let k = cuts-of c in LayoutFits (formIn (first k .args .state .now)) r (owned k .owners .last .1 .0) (k .count-cuts .result .part) (unfolded c .count-unfolded .result .written)
+    → let k = cuts-of c in LayoutFits (formIn (first k .args .state .now)) r (owned k .owners .last .1 .0) (k .count-cuts .result .part) (unfolded c .count-unfolded .result)
 fits c {rule} r =
     let u = unfolded c in
-    record { cut = cut (cuts-of c) r; few-slots = let l = u .before .if1 .left in let m = most-slots (u .before) in omega arith; count-is = u .count-unfolded .ensures rule [] (r .front) .1; few-nodes = let l = c .if2 .left in let m = most-nodes c in omega arith }
+    record { cut = cut (cuts-of c) r; few-slots = let l = u .before .if1 .left in let m = most-slots (u .before) in omega arith; count-is = u .count-unfolded .ensures rule (r .front); few-nodes = let l = c .if2 .left in let m = most-nodes c in omega arith }
 
 pub begin-spec : {M : Type 1} → statement M
 begin-spec =
@@ -66,11 +66,11 @@ begin-spec =
     (λ c. let k = c .before .before in let w = cuts-few (cut k (first k .pre .ruled)) in omega arith)
     (λ c κs. search needs)
     (λ c rule r. let k = c .before .before .before .before in begun-slots _ (cut k r) (let l = c .if1 .taken in let m = c .before .slots-most .ensures ∙ ap slotsMost (formed (owned k) .of .ensures) in omega arith))
-    (λ c κs. let r = first (counted c) .pre .ruled in let n = r .few-nodes in (whole-begins (r .front), omega arith))
-    (λ c. let u = c .before .before in let k = counted (u .before) in let r = first k .pre .ruled in let w = cuts-few (cut k r) in let n = u .count-unfolded .ensures (first k .pre .rule) [] (r .front) .1 in omega arith)
+    (λ c κs. let r = first (counted c) .pre .ruled in let n = r .few-nodes in record { formula = first (counted c) .pre .rule; front = r .front; few = omega arith })
+    (λ c. let u = c .before in let k = counted (u .before) in let r = first k .pre .ruled in let w = cuts-few (cut k r) in let n = u .count-unfolded .ensures (first k .pre .rule) (r .front) in omega arith)
     (λ c κs. search needs)
-    (λ c rule r. let u = c .before .before .before .before in let e = u .before in
-    begun-nodes _ (cut (counted e) r) (let l = e .if1 .left in let m = most-slots e in omega arith) (u .count-unfolded .ensures rule [] (r .front) .1)
+    (λ c rule r. let u = c .before .before .before in let e = u .before in
+    begun-nodes _ (cut (counted e) r) (let l = e .if1 .left in let m = most-slots e in omega arith) (u .count-unfolded .ensures rule (r .front))
     (let l = c .if2 .taken in let m = c .before .nodes-most .ensures ∙ ap nodesMost (formed (owned (counted e)) .of .ensures) in omega arith))
     (λ c κs. search needs)
     (λ c. search needs)

@@ -25,7 +25,7 @@ unfolded c = c .before .before .before .before .before
 numbers : (c : tie.Start) → Lying (c .args .state .now) (c .args .c) (c .args .m)
 numbers c = slot-numbers (c .pre .known) (c .pre .there)
 
-written-fits : (c : tie.After-unfold-into) → c .unfold-into .result .written ≤ length (c .unfold-into .last .0)
+written-fits : (c : tie.After-unfold-into) → c .unfold-into .result ≤ length (c .unfold-into .last .0)
 written-fits c =
     let p = entry (spanned c) .pre in
     let a = written-is p (spanned c .span-of .ensures) (c .unfold-into .result) (c .unfold-into .ensures) in

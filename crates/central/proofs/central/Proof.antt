@@ -10,11 +10,10 @@ use Rattle.limits.specs.Limits.{propositionsMost, centralNodesMost}
 use Rattle.ltl.specs.Formula.{size}
 use Rattle.ltl.specs.Progression.{unfolded}
 use Rattle.ltl.specs.Decode.{isRule}
-use Rattle.nodes.proofs.Fronts.{front-begins}
 use Rattle.central.specs.Central.{centralLengthsOk}
 use Rattle.verdicts.specs.Verdicts.{verdictByte}
 use Rattle.verdicts.proofs.Firsts.{verdict-first, first-of}
-use Rattle.central.proofs.Outcomes.{CentralPassed, central-passed, whole, refused-length, refused-formula, refused-nodes, room, progressed-to}
+use Rattle.central.proofs.Outcomes.{CentralPassed, central-passed, whole, refused-length, refused-formula, refused-nodes, count-is, progressed-to}
 use Rattle.central.proofs.central.Statement.{statement}
 use Rattle.central.proofs.central.Tie as tie
 
@@ -26,7 +25,7 @@ abbrev lengthy : tie.Else2 → tie.Else1
 lengthy c = c .before .before
 
 abbrev ruled : tie.Else3 → tie.Else2
-ruled c = c .before .before .before
+ruled c = c .before .before
 
 abbrev counted : tie.After-progress-into → tie.Else3
 counted c = c .before .before
@@ -41,12 +40,12 @@ lengths c = central-passed _ _ (lengths-hold (lengthy c))
 rule-holds : (c : tie.Else2) → isRule propositionsMost (entry (lengthy c) .args .formula .now) ≡ true
 rule-holds c = sym (c .before .is-rule .ensures) ∙ not-false _ (c .if2 .left)
 
--- the formula unfolds to no more than there is room for
-fits : (c : tie.Else3) → let d = ruled c in size (unfolded (whole _ (rule-holds d) .formula-is)) ≤ centralNodesMost
-fits c =
+-- what was counted is what the formula unfolds to
+counts : (c : tie.Else3) → c .before .count-unfolded .result ≡ size (unfolded (whole _ (rule-holds (ruled c)) .formula-is))
+counts c =
     let d = ruled c in
     let a = entry (lengthy d) .args in
-    room _ (a .event) (a .output .now) (lengths-hold (lengthy d)) (rule-holds d) _ _ (c .before .before .count-unfolded .ensures) (c .if3 .left)
+    count-is _ (a .event) (a .output .now) (lengths-hold (lengthy d)) (rule-holds d) _ (c .before .count-unfolded .ensures) (c .if3 .left)
 
 pub central-spec : {M : Type 1} → statement M
 central-spec =
@@ -56,13 +55,13 @@ central-spec =
     (λ c. refused-length _ _ _ (sym (c .before .lengths-ok .ensures) ∙ not-true _ (c .if1 .taken)))
     (λ c κs. search needs)
     (λ c. refused-formula _ _ _ (lengths-hold (c .before .before)) (sym (c .before .is-rule .ensures) ∙ not-true _ (c .if2 .taken)))
-    (λ c κs. (front-begins (whole _ (rule-holds c) .front), lengths c .few))
-    (λ c. let n = c .before .before in let d = n .before in refused-nodes _ _ _ (lengths-hold (lengthy d)) (rule-holds d) _ _ (n .count-unfolded .ensures) (c .if3 .taken))
-    (λ c κs. let e = c .before in let d = ruled e in let w = whole _ (rule-holds d) in let z = lengths d in let m = fits e in
-    record { whole = w .formula-is; front = w .front; room = omega arith })
+    (λ c κs. let w = whole _ (rule-holds c) in record { formula = w .formula-is; front = w .front; few = lengths c .few })
+    (λ c. let n = c .before in let d = n .before in refused-nodes _ _ _ (lengths-hold (lengthy d)) (rule-holds d) _ (n .count-unfolded .ensures) (c .if3 .taken))
+    (λ c κs. let e = c .before in let d = ruled e in let w = whole _ (rule-holds d) in let z = lengths d in let h = e .if3 .left in
+    record { whole = w .formula-is; front = w .front; long = counts e; room = omega arith; few = omega arith })
     (λ c. let p = c .before .before .before in let z = lengths (ruled (counted p)) in let k = p .progress-into .kept .0 in omega arith)
     (λ c κs. search needs)
     (λ c. search needs)
     (λ c. let p = c .before .before .before .before in let e = counted p in let d = ruled e in
-    progressed-to _ _ _ (lengths-hold (lengthy d)) (rule-holds d) _ _ (e .before .before .count-unfolded .ensures) (e .if3 .left) _ _ _ (p .progress-into .ensures)
+    progressed-to _ _ _ (lengths-hold (lengthy d)) (rule-holds d) _ (e .before .count-unfolded .ensures) (e .if3 .left) _ _ _ (p .progress-into .ensures)
     (λ g e. c .verdict .ensures ∙ ap verdictByte (first-of g _ _ e) ∙ verdict-first g)))

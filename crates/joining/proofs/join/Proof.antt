@@ -1,59 +1,60 @@
--- The two operands stand where the code was told (`Sides`), and each way out is one law of it. Assumes nothing.
+-- By the first bytes of both: a law for each way out. Assumes nothing.
+use Rattle.stacking.proofs.Stacks.{Lowest, top-of}
+use mathlib.Core.List.{_∷_}
+use Rattle.joining.proofs.Joinings.{Pairing, paired, joins-settled, joins-skipped, joins-decided, joinable-opens, joins-open}
 use native.Mathlib.Omega.{arith}
 use borrow.Author.Needs.{needs}
-use Rattle.joining.proofs.Sides.{Measured, measured, sides-compared, sides-decided, sides-left, sides-member, sides-both}
 use Rattle.joining.proofs.join.Statement.{statement}
 use Rattle.joining.proofs.join.Tie as tie
 
--- ---- from behind a test or a call back to the one before it
-abbrev entry : tie.After-slice-known2 → tie.Start
-entry c = c .before .before .before .before .before
+-- ---- from a place back to one before it
+abbrev before-wide2 : tie.After-wide2 → tie.Start
+before-wide2 c = c .before .before .before .before .before .before
 
-abbrev pending : tie.Else2 → tie.After-slice-known2
-pending c = c .before .before
+abbrev before-notes : tie.After-notes → tie.Then1
+before-notes c = c .before .before .before .before .before .before
 
-abbrev compared : tie.After-is-member → tie.Else2
-compared c = c .before .before .before .before
+abbrev before-then1 : tie.Then1 → tie.After-wide
+before-then1 c = c .before .before .before .before
 
-abbrev moved : tie.After-slide → tie.Else3
-moved c = c .before .before .before
+abbrev before-then3 : tie.Then3 → tie.After-wide2
+before-then3 c = c .before .before .before .before .before
 
--- ---- what is known there: where the two stand, in numbers
-lie : (c : tie.Start) → let a = c .args in let b = c .pre in Measured (a .p .now) (a .start) (a .end) (a .right) (b .l) (b .r) (b .rest)
-lie c = measured (c .pre .sides)
+abbrev before-else3 : tie.Else3 → tie.After-wide2
+before-else3 c = c .before .before .before .before .before
 
-lie-pending : (c : tie.Else2) → let s = entry (pending c) in let a = s .args in let b = s .pre in Measured (a .p .now) (a .start) (a .end) (a .right) (b .l) (b .r) (b .rest)
-lie-pending c = lie (entry (pending c))
+abbrev before-notes2 : tie.After-notes2 → tie.Else3
+before-notes2 c = c .before .before .before .before .before .before
+
+-- ---- what is known there
+top : (c : tie.Start) → let a = c .pre in Lowest (a .f) (a .g ∷ a .others) (c .args .p .now) (c .args .notes .now) (c .args .w)
+top c = top-of (c .pre .pair .stack)
+
+-- both results, their lengths in hand
+pair : (c : tie.After-wide2) → let a = c .before .before .before .before .before .before .pre in Pairing (a .f) (a .g) (a .others) (c .before .before .before .before .before .before .args .p .now) (c .before .before .before .before .before .before .args .notes .now) (c .before .before .before .before .before .before .args .w) (c .before .before .wide .result) (c .wide2 .result)
+pair c = paired (c .before .before .before .before .before .before .pre .pair) (c .before .before .wide .ensures) (c .wide2 .ensures)
 
 pub join-spec : {M : Type 1} → statement M
 join-spec =
     tie.close
     (tie.spec
-    (λ c. let q = lie (c .before .before) in omega arith)
-    (λ c. let q = lie (c .before .before .before) in omega arith)
-    (λ c. let q = lie (c .before .before .before .before) in omega arith)
-    (λ c. let q = lie (entry c) in omega arith)
-    (λ c. let q = lie (entry (c .before)) in omega arith)
+    (λ c. let t = top (c .before .before) in omega arith)
+    (λ c. let t = top (c .before .before .before) in omega arith)
+    (λ c κs. search needs)
+    (λ c. let t = top (c .before .before .before .before) in let e = c .wide .ensures in omega arith)
+    (λ c. let t = top (c .before .before .before .before) in let e = c .wide .ensures in omega arith)
+    (λ c. let t = top (c .before .before .before .before .before) in let u = top-of (t .others) in let e = c .before .wide .ensures in omega arith)
+    (λ c κs. search needs)
+    (λ c. let t = top (before-wide2 (c .before)) in omega arith)
+    (λ c. let k = pair (c .before .before .before .before) in omega arith)
+    (λ c κs. let k = pair (c .before .before .before .before) in (omega arith, omega arith, omega arith))
     (λ c. search needs)
-    (λ c j l r rest x. sides-decided x (c .if1 .taken))
-    (λ c j l r rest x. sides-left x (c .before .if1 .left) (c .if2 .taken))
-    (λ c. let q = lie-pending c in omega arith)
-    (λ c. let q = lie-pending (c .before) in omega arith)
-    (λ c. let q = lie-pending (c .before) in omega arith)
-    (λ c. let q = lie-pending (c .before .before) in omega arith)
-    (λ c. let q = lie-pending (c .before .before) in omega arith)
-    (λ c. let q = lie-pending (c .before .before) in omega arith)
-    (λ c κs. sides-compared (entry (pending (c .before .before .before)) .pre .sides))
     (λ c. search needs)
-    (λ c j l r rest x. let m = c .before in sides-member x (compared m .if2 .left) (m .is-member .ensures) (c .if3 .taken))
-    (λ c. let q = lie-pending (compared (c .before .before)) in omega arith)
-    (λ c. let q = lie-pending (compared (c .before .before)) in omega arith)
-    (λ c. let q = lie-pending (compared (c .before .before)) in omega arith)
-    (λ c. let q = lie-pending (compared (c .before .before)) in omega arith)
-    (λ c κs. let q = lie-pending (compared (c .before .before .before)) in omega arith)
-    (λ c. let q = lie-pending (compared (moved (c .before .before) .before)) in omega arith)
-    (λ c. let q = lie-pending (compared (moved (c .before .before) .before)) in omega arith)
-    (λ c. let q = lie-pending (compared (moved (c .before .before) .before)) in omega arith)
+    (λ c. joins-settled ((before-notes (c .before)) .before .before .before .before .wide .ensures) ((before-notes (c .before)) .before .before .wide2 .ensures) ((before-then1 (before-notes (c .before))) .before .before .before .before .pre) ((before-notes (c .before)) .if1 .taken) (c .before .before .before .before .push .ensures .0) (c .before .before .before .before .push .ensures .1) (c .before .before .before .before .push .ensures .2))
+    (λ c. joins-skipped (c .before .before .before .before .before .wide .ensures) (c .before .before .before .wide2 .ensures) (c .if2 .taken) (c .before .if1 .left))
+    (λ c. let k = pair (c .before .before .before .before) in omega arith)
+    (λ c. joins-decided ((before-then3 c) .before .before .wide .ensures) (c .before .before .before .before .before .wide2 .ensures) (c .if3 .taken))
+    (λ c κs. joinable-opens ((before-else3 (c .before .before)) .before .before .wide .ensures) ((before-else3 (c .before .before)) .wide2 .ensures) (c .before .before .before .before .if2 .left) (c .before .before .if3 .left) ((before-else3 (c .before .before)) .before .before .before .before .before .before .pre))
     (λ c. search needs)
-    (λ c j l r rest x. let s = c .before .before in let e = moved s in let m = e .before in
-    sides-both x (compared m .if2 .left) (m .is-member .ensures) (e .if3 .left) (s .slide .ensures)))
+    (λ c. search needs)
+    (λ c. joins-open ((before-else3 (before-notes2 (c .before))) .before .before .wide .ensures) ((before-notes2 (c .before)) .before .before .before .before .before .wide2 .ensures) ((before-notes2 (c .before)) .before .before .if2 .left) ((before-notes2 (c .before)) .if3 .left) (c .before .before .before .before .join-open .ensures)))

@@ -1,6 +1,5 @@
 -- The rule unfolded, tagged and laid out. Assumes nothing.
 use mathlib.Core.Path.{sym}
-use mathlib.Core.List.{[]}
 use Prim.Native.Nat.{_≤_}
 use lib.ListN.{length}
 use lib.Seq.{length-take-le}
@@ -24,8 +23,8 @@ abbrev tagged : tie.After-put-state-arg → tie.After-tag
 tagged c = c .before .before .before
 
 -- what was unfolded is inside its list
-inside : (c : tie.After-unfold-into) → c .unfold-into .result .written ≤ length (c .unfold-into .last .0)
-inside c = let a = first c .pre in let w = c .unfold-into .ensures (a .rule) [] (a .ruled .front) .writes in let s = first-size a in let k = c .unfold-into .kept .0 in omega arith
+inside : (c : tie.After-unfold-into) → c .unfold-into .result ≤ length (c .unfold-into .last .0)
+inside c = let a = first c .pre in let w = c .unfold-into .ensures (a .rule) (a .ruled .front) .writes in let s = first-size a in let k = c .unfold-into .kept .0 in omega arith
 
 pub put-first-spec : {M : Type 1} → statement M
 put-first-spec =

@@ -7,7 +7,7 @@ use Rattle.state.specs.Form.{slotRow}
 use Rattle.state.specs.Counted.{recordOf}
 use Rattle.state.proofs.Places.{record-within}
 use Rattle.records.proofs.Opened.{opened-sized, opened-slot}
-use Rattle.settling.proofs.Rewriting.{lent-begins, count-few, put-done}
+use Rattle.settling.proofs.Rewriting.{lent-rewritable, count-few, put-done}
 use native.Mathlib.Omega.{arith}
 use borrow.Author.Needs.{needs}
 use Rattle.settling.proofs.putting.put_stepped.Statement.{statement}
@@ -48,7 +48,7 @@ put-stepped-spec =
     (λ c. let x = spanned (c .before .before) .span-of .ensures in omega arith)
     (λ c. let x = spanned (c .before .before) .span-of .ensures in omega arith)
     (λ c. let m = c .before .before in let x = spanned m .span-of .ensures in let k = m .put-mark .kept .0 in omega arith)
-    (λ c κs. let m = c .before .before .before in let p = entry (spanned m) .pre in lent-begins (p .0) (p .1) (spanned m .span-of .ensures) (m .put-mark .ensures))
+    (λ c κs. let m = c .before .before .before in let p = entry (spanned m) .pre in lent-rewritable (p .0) (p .1) (spanned m .span-of .ensures) (m .put-mark .ensures))
     (λ c. let f = few (rewritten c) in omega arith)
     (λ c κs. let m = marked (rewritten c) in let r = record-lies (entry (spanned m)) in let k = m .put-mark .kept .0 in let e = c .before .before .s2 .given .1 in omega arith)
     (λ c. search needs)

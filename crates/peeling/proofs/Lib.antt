@@ -1,0 +1,2 @@
+-- Laws of the formulas behind a place.
+pub mod Peels

@@ -1,0 +1,2 @@
+-- What the walks from byte to byte cite.
+pub mod Peeled

@@ -1,0 +1,3 @@
+-- Laws of results at the end of some bytes.
+pub mod Firsts
+pub mod Stacks

@@ -1,0 +1,4 @@
+-- Laws of resolving in place.
+pub mod Nodes
+pub mod Wholes
+pub mod Passes

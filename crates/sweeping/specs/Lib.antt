@@ -1,0 +1,2 @@
+-- What the contracts of `sweeping` cite.
+pub mod Passes
