@@ -5,9 +5,9 @@
 // first that fails; then it has written nothing. Else it answers 0 and has stored its values behind the pointers to single
 // numbers. What it answers and writes follows from what it is given, and from nothing else.
 //
-// Memory: a call allocates nothing and keeps nothing. It has no memory of its own but the stack, of which it takes more the
-// deeper a formula is nested. On the deepest inputs that are known a thread with 1 MiB of stack can make every call but close,
-// and one with 4 MiB can close too. That is measured and not proved: see the stack figures below.
+// Memory: a call allocates nothing and keeps nothing. It has no memory of its own but the stack. Load and close take more of it
+// the deeper a formula is nested, the others the same small amount. On the deepest inputs that are known a thread with 1 MiB of
+// stack can make every call but close, and one with 4 MiB can close too. That is measured and not proved: see the figures below.
 //
 // Threads: calls share nothing. Any thread may make any call at any time, as long as no other call writes what it is given.
 //
@@ -48,11 +48,11 @@ enum {
 enum {
     VYDRULKA_STACK_READ = 32768,      // 344
     VYDRULKA_STACK_WRITE = 32768,     // 104
-    VYDRULKA_STACK_CENTRAL = 1048576, // 884,928, 2,047 ands that lean left
-    VYDRULKA_STACK_LOAD = 1048576,    // 1,005,216, a rule of 1,023 nots
+    VYDRULKA_STACK_CENTRAL = 32768,   // 8,456, whatever the formula
+    VYDRULKA_STACK_LOAD = 1048576,    // 1,013,248, a rule of 1,023 nots
     VYDRULKA_STACK_SAMPLE = 32768,    // 520
-    VYDRULKA_STACK_STEP = 1048576,    // 884,912, a slot of 2,047 ands that lean left
-    VYDRULKA_STACK_CLOSE = 4194304,   // 3,953,392, a slot of 4,095 nots
+    VYDRULKA_STACK_STEP = 32768,      // 8,776, whatever the slot
+    VYDRULKA_STACK_CLOSE = 4194304,   // 3,961,392, a slot of 4,095 nots
     VYDRULKA_STACK_ASK = 32768,       // 536
 };
 

@@ -3,7 +3,7 @@
 ghost use mathlib.Core.Path.{_≡_};
 ghost use Rattle.central.specs.Central.{centralLengthsOk, Centrally};
 ghost use Rattle.limits.specs.Limits.{nodesRoom};
-ghost use Rattle.rewriting.specs.Rewritten.{smallMost};
+ghost use Rattle.rewriting.specs.Rewritten.{smallNodes};
 ghost use Rattle.central.specs.Progressing.{ProgressableIn, ProgressableWithin, Progressable, UnfoldsAll, ProgressesIn, ProgressedTo};
 use answers::Refusal;
 use answers::Verdict;
@@ -11,7 +11,7 @@ use limits::CENTRAL_NODES_MOST;
 use limits::NODES_ROOM;
 use limits::PROPOSITIONS_MOST;
 use resolving::Seen;
-use rewriting::SMALL_MOST;
+use rewriting::SMALL_NODES;
 use slot_sets::no_slots;
 
 pub struct Progress {
@@ -62,10 +62,10 @@ fn progress_noted(p: &mut [u8], formula: &[u8], notes: &mut [u16], seen: Seen) -
 
 // What the notes hold at first does not matter. They are filled with ones, since zeros would be written by a call of the C library.
 fn progress_small(p: &mut [u8], formula: &[u8], seen: Seen) -> usize
-    requires { ⌜ ProgressableWithin smallMost (now p) (now formula) ⌝ }
+    requires { ⌜ ProgressableWithin smallNodes (now p) (now formula) ⌝ }
     ensures { λ n. ⌜ ProgressesIn seen (now (formula .entry)) (now (p .exit)) n ⌝ }
 {
-    let mut notes = [1u16; SMALL_MOST];
+    let mut notes = [1u16; SMALL_NODES];
     progress_noted(p, formula, &mut notes, seen)
 }
 
@@ -81,7 +81,7 @@ fn progress_any(p: &mut [u8], formula: &[u8], seen: Seen) -> usize
     requires { ⌜ ProgressableWithin nodesRoom (now p) (now formula) ⌝ }
     ensures { λ n. ⌜ ProgressesIn seen (now (formula .entry)) (now (p .exit)) n ⌝ }
 {
-    if p.len() <= SMALL_MOST {
+    if p.len() <= SMALL_NODES {
         return progress_small(p, formula, seen);
     }
     progress_large(p, formula, seen)

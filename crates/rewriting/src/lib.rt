@@ -2,12 +2,12 @@
 // bytes are local: a small formula has a small array of them.
 ghost use Rattle.limits.specs.Limits.{nodesRoom};
 ghost use Rattle.sweeping.specs.Passes.{Outlining};
-ghost use Rattle.rewriting.specs.Rewritten.{smallMost, Rewritable, RewritableIn, Fronted, Rewritten};
+ghost use Rattle.rewriting.specs.Rewritten.{smallNodes, Rewritable, RewritableIn, Fronted, Rewritten};
 use limits::NODES_ROOM;
 use resolving::Seen;
 
 // The most nodes of a small formula.
-pub const SMALL_MOST: usize = 128;
+pub const SMALL_NODES: usize = 128;
 
 // Resolves the formula that p is, with its outline beside it, and moves what it becomes to the front. Answers its length.
 pub fn to_front(p: &mut [u8], notes: &mut [u16], seen: Seen) -> usize
@@ -31,10 +31,10 @@ fn rewrite_noted(p: &mut [u8], notes: &mut [u16], seen: Seen) -> usize
 
 // What the notes hold at first does not matter. They are filled with ones, since zeros would be written by a call of the C library.
 fn rewrite_small(p: &mut [u8], seen: Seen) -> usize
-    requires { ⌜ Rewritable smallMost (now p) ⌝ }
+    requires { ⌜ Rewritable smallNodes (now p) ⌝ }
     ensures { λ n. ⌜ Fronted seen (now (p .entry)) (now (p .exit)) n ⌝ }
 {
-    let mut notes = [1u16; SMALL_MOST];
+    let mut notes = [1u16; SMALL_NODES];
     rewrite_noted(p, &mut notes, seen)
 }
 
@@ -50,7 +50,7 @@ fn rewrite_any(p: &mut [u8], seen: Seen) -> usize
     requires { ⌜ Rewritable nodesRoom (now p) ⌝ }
     ensures { λ n. ⌜ Fronted seen (now (p .entry)) (now (p .exit)) n ⌝ }
 {
-    if p.len() <= SMALL_MOST {
+    if p.len() <= SMALL_NODES {
         return rewrite_small(p, seen);
     }
     rewrite_large(p, seen)
