@@ -3,15 +3,15 @@
 ghost use mathlib.Core.Path.{_≡_};
 ghost use Rattle.central.specs.Central.{centralLengthsOk, Centrally};
 ghost use Rattle.limits.specs.Limits.{nodesRoom};
-ghost use Rattle.rewriting.specs.Rewritten.{smallNodes};
+ghost use Rattle.outlining.specs.Outlined.{smallNodes};
 ghost use Rattle.central.specs.Progressing.{ProgressableIn, ProgressableWithin, Progressable, UnfoldsAll, ProgressesIn, ProgressedTo};
 use answers::Refusal;
 use answers::Verdict;
 use limits::CENTRAL_NODES_MOST;
 use limits::NODES_ROOM;
 use limits::PROPOSITIONS_MOST;
+use outlining::SMALL_NODES;
 use resolving::Seen;
-use rewriting::SMALL_NODES;
 use slot_sets::no_slots;
 
 pub struct Progress {
@@ -60,7 +60,6 @@ fn progress_noted(p: &mut [u8], formula: &[u8], notes: &mut [u16], seen: Seen) -
     rewriting::to_front(p, notes, seen)
 }
 
-// What the notes hold at first does not matter. They are filled with ones, since zeros would be written by a call of the C library.
 fn progress_small(p: &mut [u8], formula: &[u8], seen: Seen) -> usize
     requires { ⌜ ProgressableWithin smallNodes (now p) (now formula) ⌝ }
     ensures { λ n. ⌜ ProgressesIn seen (now (formula .entry)) (now (p .exit)) n ⌝ }

@@ -13,6 +13,10 @@ use Rattle.kinds.specs.Kinds.{kindOf}
 use Rattle.ltl.specs.Formula.{Formula, leaf, one, two, size, encode, Coded}
 use Rattle.nodes.specs.Begins.{Front}
 
+-- the most nodes of a small formula
+abbrev pub smallNodes : ℕ
+smallNodes = 128
+
 -- a node of this kind stays as it stands: next, whose operand does, and the temporal operators
 abbrev pub wholeKind : Kind → Bool
 wholeKind (Zero a) = false

@@ -7,6 +7,10 @@ use kinds::Binary;
 use kinds::Kind;
 use kinds::Unary;
 
+// The most nodes of a small formula, which has a small array of notes: a large one is filled each time that it is made. What notes hold
+// at first does not matter. Whoever makes an array of them fills it with ones, since zeros would be written by a call of the C library.
+pub const SMALL_NODES: usize = 128;
+
 // Whether a node of kind k stays as it stands: next, whose operand does, and the temporal operators.
 pub fn stays_whole(k: Kind) -> bool
     ensures { λ r. ⌜ r ≡ wholeKind k ⌝ }

@@ -10,10 +10,6 @@ use Rattle.nodes.specs.Begins.{Front}
 use Rattle.resolving.specs.declared.Seen.{Seen}
 use Rattle.resolving.specs.Settles.{settled}
 
--- the most nodes of a small formula
-abbrev pub smallNodes : ℕ
-smallNodes = 128
-
 -- the bytes are one formula, of as many nodes at most
 pub record Rewritable (most : ℕ) (p : List ℕ) : Type 0 where
   pub formula : Formula

@@ -1,13 +1,12 @@
 // A formula rewritten in its own bytes as what it becomes: resolved there, moved to the front, and zeros behind it. The notes beside the
 // bytes are local: a small formula has a small array of them.
 ghost use Rattle.limits.specs.Limits.{nodesRoom};
+ghost use Rattle.outlining.specs.Outlined.{smallNodes};
 ghost use Rattle.sweeping.specs.Passes.{Outlining};
-ghost use Rattle.rewriting.specs.Rewritten.{smallNodes, Rewritable, RewritableIn, Fronted, Rewritten};
+ghost use Rattle.rewriting.specs.Rewritten.{Rewritable, RewritableIn, Fronted, Rewritten};
 use limits::NODES_ROOM;
+use outlining::SMALL_NODES;
 use resolving::Seen;
-
-// The most nodes of a small formula.
-pub const SMALL_NODES: usize = 128;
 
 // Resolves the formula that p is, with its outline beside it, and moves what it becomes to the front. Answers its length.
 pub fn to_front(p: &mut [u8], notes: &mut [u16], seen: Seen) -> usize
@@ -29,7 +28,6 @@ fn rewrite_noted(p: &mut [u8], notes: &mut [u16], seen: Seen) -> usize
     to_front(p, notes, seen)
 }
 
-// What the notes hold at first does not matter. They are filled with ones, since zeros would be written by a call of the C library.
 fn rewrite_small(p: &mut [u8], seen: Seen) -> usize
     requires { ⌜ Rewritable smallNodes (now p) ⌝ }
     ensures { λ n. ⌜ Fronted seen (now (p .entry)) (now (p .exit)) n ⌝ }

@@ -1,5 +1,5 @@
 -- The loop: from its start (`going-start`) over each turn (`going-more`) to its end (`going-done`), what is written and what is still to be
--- written is the unfolded formula. Assumes nothing.
+-- written is the unfolded formula. `ask-outlined`, `ask-size` and `ask-small` are for the notes of its own. Assumes nothing.
 use mathlib.Core.Path.{_≡_, refl, sym, ap, ap₂, _∙_, subst}
 use mathlib.Core.List.{List, [], _∷_, _++_, append-nil}
 use Prim.Native.Nat.{ℕ, suc, _+_, _-_, _<_, _≤_}
@@ -8,34 +8,42 @@ use lib.ListN.{length, set, take, drop, length-set, length-drop, take-append-dro
 use lib.Seq.{drop-cons, getD-set-same, length-take-le}
 use Rattle.lists.proofs.Stretches.{none-long}
 use Rattle.limits.specs.Limits.{nodesRoom}
-use Rattle.kinds.specs.declared.Unary.the-variants.{Not, Next, Ever}
-use Rattle.kinds.specs.declared.Binary.the-variants.{Joined, Until}
-use Rattle.ltl.specs.Formula.{Formula, leaf, one, two, size, encode}
+use Rattle.ltl.specs.Formula.{Formula, size, encode}
 use Rattle.ltl.specs.Progression.{unfolded}
 use Rattle.ltl.proofs.Decoding.{size-some, length-encode}
+use Rattle.ltl.proofs.Lengths.{unfolded-long}
 use Rattle.nodes.specs.Begins.{Front}
 use Rattle.nodes.proofs.Fronts.{front-begins, front-length, front-one-way}
-use Rattle.outlining.specs.Outlined.{Outlined, start}
+use Rattle.outlining.specs.Outlined.{smallNodes, Outlined, start}
+use Rattle.sizing.specs.Sizes.{SizeAsk, CountsUnfolded}
 use Rattle.unfolding.specs.Tasks.{Task, here, Todo, nothing, first}
 use Rattle.unfolding.specs.Stages.{Stage, StageAfter, Busy}
-use Rattle.unfolding.specs.Unfolds.{Unfoldable, UnfoldAsk, UnfoldedTo, Unfolds}
+use Rattle.unfolding.specs.Unfolds.{Unfoldable, UnfoldWithin, UnfoldAsk, UnfoldedTo, Unfolds}
 use Rattle.unfolding.proofs.Moves.{stage-length}
 
--- ---- unfolding makes no formula smaller
-unfolded-grows : (f : Formula) → size f ≤ size (unfolded f)
-unfolded-grows (leaf a) = omega arith
-unfolded-grows (one Not f) = let h = unfolded-grows f in omega arith
-unfolded-grows (one Next f) = omega arith
-unfolded-grows (one (Ever j) f) = omega arith
-unfolded-grows (two (Joined j) f g) = let h = unfolded-grows f in let k = unfolded-grows g in omega arith
-unfolded-grows (two Until f g) = omega arith
+-- ---- notes of its own
+module _ {out s : List ℕ} where
+  -- as many as the most
+  pub ask-outlined : {most : ℕ} {notes : List ℕ} → UnfoldWithin most out s → most ≤ nodesRoom → length notes ≡ most → Unfoldable out s notes
+  ask-outlined p m l =
+      let n = front-length s (p .formula) [] (p .front) in
+      let g = unfolded-long (p .formula) in
+      let h = p .few in
+      record { formula = p .formula; front = p .front; few = omega arith; room = p .room; beside = omega arith }
 
-pub ask-outlined : {out s notes : List ℕ} → UnfoldAsk out s → length notes ≡ nodesRoom → Unfoldable out s notes
-ask-outlined {s = s} p l =
-    let n = front-length s (p .formula) [] (p .front) in
-    let g = unfolded-grows (p .formula) in
-    let h = p .few in
-    record { formula = p .formula; front = p .front; few = omega arith; room = p .room; beside = omega arith }
+  pub ask-size : UnfoldAsk out s → SizeAsk s
+  ask-size p =
+      let n = front-length s (p .formula) [] (p .front) in
+      let g = unfolded-long (p .formula) in
+      let h = p .few in
+      record { formula = p .formula; front = p .front; few = omega arith }
+
+  -- what was counted says that a few do
+  pub ask-small : (count : ℕ) → CountsUnfolded s count → count ≤ smallNodes → UnfoldAsk out s → UnfoldWithin smallNodes out s
+  ask-small count k l p =
+      let n = k (p .formula) (p .front) in
+      let h = p .few in
+      record { formula = p .formula; front = p .front; few = omega arith; room = p .room }
 
 -- ---- the loop
 -- s is a formula; what is written and what is still to be written is that formula unfolded, and behind it stands what stood there in out₀

@@ -16,12 +16,16 @@ pub record Unfoldable (out s notes : List ℕ) : Type 0 where
   pub room : size (unfolded formula) ≤ length out
   pub beside : size (unfolded formula) ≤ length notes
 
--- the bytes are one formula, with room for what it unfolds to, which is no more than a network may have
-pub record UnfoldAsk (out s : List ℕ) : Type 0 where
+-- the bytes are one formula, with room for what it unfolds to, which is no more than the most
+pub record UnfoldWithin (most : ℕ) (out s : List ℕ) : Type 0 where
   pub formula : Formula
   pub front : Front s formula []
-  pub few : size (unfolded formula) ≤ nodesRoom
+  pub few : size (unfolded formula) ≤ most
   pub room : size (unfolded formula) ≤ length out
+
+-- no more than a network may have
+abbrev pub UnfoldAsk : List ℕ → List ℕ → Type 0
+UnfoldAsk out s = UnfoldWithin nodesRoom out s
 
 -- the formula stands unfolded at the front of the output, behind which nothing changed
 pub record UnfoldedTo (f : Formula) (out out′ : List ℕ) (written : ℕ) : Type 0 where

@@ -4,14 +4,15 @@ ghost use mathlib.Core.Path.{_≡_};
 ghost use mathlib.Core.List.{_∷_, _++_};
 ghost use Prim.Native.Nat.{_+_, _-_, _<_, _≤_};
 ghost use lib.ListN.{length, set, take, drop};
-ghost use Rattle.outlining.specs.Outlined.{Outlined};
+ghost use Rattle.outlining.specs.Outlined.{smallNodes, Outlined};
 ghost use Rattle.unfolding.specs.Stages.{Busy, BusyHere, Turns, TurnsHere};
-ghost use Rattle.unfolding.specs.Unfolds.{Unfoldable, UnfoldAsk, Unfolds};
+ghost use Rattle.unfolding.specs.Unfolds.{Unfoldable, UnfoldWithin, UnfoldAsk, Unfolds};
 use kinds::Binary;
 use kinds::Join;
 use kinds::Kind;
 use kinds::Unary;
 use limits::NODES_ROOM;
+use outlining::SMALL_NODES;
 
 // Where an unfolding has come to: the place that is read next, how much is written, and where what is still to be done begins.
 struct Cursor {
@@ -41,9 +42,26 @@ pub fn unfold_outlined(out: &mut [u8], s: &[u8], notes: &mut [u16]) -> usize
     w
 }
 
-// The same with notes of its own. What they hold at first does not matter; zeros would be filled in by a call of the C library, which
-// is slow under an emulator.
+// The same with notes of its own, as many as are needed.
 pub fn unfold_into(out: &mut [u8], s: &[u8]) -> usize
+    requires { ⌜ UnfoldAsk (now out) (now s) ⌝ }
+    ensures { λ r. ⌜ Unfolds (now (out .entry)) (now (s .entry)) (now (out .exit)) r ⌝ }
+{
+    if sizing::count_unfolded(s) <= SMALL_NODES {
+        return unfold_small(out, s);
+    }
+    unfold_large(out, s)
+}
+
+fn unfold_small(out: &mut [u8], s: &[u8]) -> usize
+    requires { ⌜ UnfoldWithin smallNodes (now out) (now s) ⌝ }
+    ensures { λ r. ⌜ Unfolds (now (out .entry)) (now (s .entry)) (now (out .exit)) r ⌝ }
+{
+    let mut notes = [1u16; SMALL_NODES];
+    unfold_outlined(out, s, &mut notes)
+}
+
+fn unfold_large(out: &mut [u8], s: &[u8]) -> usize
     requires { ⌜ UnfoldAsk (now out) (now s) ⌝ }
     ensures { λ r. ⌜ Unfolds (now (out .entry)) (now (s .entry)) (now (out .exit)) r ⌝ }
 {

@@ -1,7 +1,7 @@
--- The notes are as many as a network may have nodes. Assumes nothing.
-use mathlib.Core.Path.{refl}
+-- Small formulas apart, by what was counted. Assumes nothing.
+use Rattle.unfolding.proofs.Goings.{ask-size, ask-small}
+use native.Mathlib.Omega.{arith}
 use borrow.Author.Needs.{needs}
-use Rattle.unfolding.proofs.Goings.{ask-outlined}
 use Rattle.unfolding.proofs.unfold_into.Statement.{statement}
 use Rattle.unfolding.proofs.unfold_into.Tie as tie
 
@@ -9,7 +9,10 @@ pub unfold-into-spec : {M : Type 1} → statement M
 unfold-into-spec =
     tie.close
     (tie.spec
+    (λ c κs. ask-size (c .before .before .pre))
+    (λ c κs. ask-small _ (c .before .before .count-unfolded .ensures) (c .before .if1 .taken) (c .before .before .before .before .before .pre))
     (λ c. search needs)
-    (λ c κs. ask-outlined (c .before .before .before .before .pre) refl)
     (λ c. search needs)
-    (λ c. c .before .before .before .unfold-outlined .ensures .0))
+    (λ c κs. search needs)
+    (λ c. search needs)
+    (λ c. search needs))
