@@ -2,7 +2,7 @@
 -- rest is progression: `progress-done`. `settled-alone`: where nothing is seen of a slot, settling is resolving. Assumes nothing.
 use mathlib.Core.Path.{_≡_, refl, sym, ap, ap₂, _∙_, subst}
 use mathlib.Core.List.{List, [], _++_, append-assoc, append-nil}
-use Prim.Native.Nat.{ℕ, _+_, _-_, _<_, _≤_}
+use Prim.Native.Nat.{ℕ, _+_, _-_, _≤_}
 use native.Mathlib.Omega.{arith}
 use lib.ListN.{length, take, drop, replicate, length-append, length-drop, drop-of-length-le}
 use lib.Seq.{drop-at, length-take-le}
@@ -17,7 +17,7 @@ use Rattle.answers.specs.declared.Verdict.{Verdict}
 use Rattle.answers.specs.declared.Verdict.the-variants.{Pending}
 use Rattle.ltl.specs.Formula.{Formula, leaf, one, two, join, size, encode}
 use Rattle.ltl.specs.Meaning.{Event}
-use Rattle.ltl.specs.Progression.{unfolded, resolved, progressed, filled, filledBy}
+use Rattle.ltl.specs.Progression.{unfolded, resolved, filled, filledBy}
 use Rattle.ltl.proofs.Decoding.{length-encode, unfolded-coded}
 use Rattle.ltl.proofs.Lengths.{unfolded-long, unfolded-same}
 use Rattle.nodes.specs.Begins.{Front}

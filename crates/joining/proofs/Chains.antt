@@ -16,7 +16,7 @@ use Rattle.kinds.specs.declared.Join.{Join}
 use Rattle.kinds.specs.declared.Binary.the-variants.{Joined, Until}
 use Rattle.kinds.specs.Kinds.{kindOf, joinCode}
 use Rattle.kinds.proofs.Codes.{kind-binary}
-use Rattle.ltl.specs.Formula.{Formula, leaf, one, two, join, sameJoin, same, size, encode, Coded}
+use Rattle.ltl.specs.Formula.{Formula, leaf, one, two, join, sameJoin, same, size, encode}
 use Rattle.ltl.specs.Progression.{member}
 use Rattle.ltl.proofs.Equal.{same-eq, same-refl, join-eq}
 use Rattle.ltl.proofs.Decoding.{one-way, size-some}

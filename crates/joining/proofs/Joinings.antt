@@ -3,9 +3,9 @@
 use mathlib.Core.Path.{_≡_, refl, sym, ap, ap₂, _∙_, subst}
 use mathlib.Core.Bool.{Bool, true, false, not}
 use mathlib.Core.List.{List, [], _∷_, _++_, append-assoc}
-use Prim.Native.Nat.{ℕ, zero, suc, _+_, _-_, _<_, _≤_}
+use Prim.Native.Nat.{ℕ, suc, _+_, _-_, _<_, _≤_}
 use native.Mathlib.Omega.{arith}
-use lib.ListN.{length, getD, set, take, drop, length-set, length-drop, List·getD-append}
+use lib.ListN.{length, getD, set, take, drop, length-set, length-drop}
 use lib.Seq.{getD-set-same, getD-set-other, take-set-le, length-take-le, getD-take, getD-drop}
 use Rattle.limits.specs.Limits.{nodesRoom}
 use Rattle.lists.proofs.Drops.{put-below}
@@ -14,14 +14,13 @@ use Rattle.kinds.specs.declared.Join.{Join}
 use Rattle.kinds.specs.declared.Join.the-variants.{And, Or}
 use Rattle.kinds.specs.declared.Leaf.the-variants.{Const}
 use Rattle.kinds.specs.Kinds.{leafCode, joinCode}
-use Rattle.ltl.specs.Formula.{Formula, constant, join, size, encode, Coded}
-use Rattle.ltl.specs.Progression.{deciding, member, joined}
-use Rattle.nodes.specs.Begins.{Front}
+use Rattle.ltl.specs.Formula.{Formula, constant, join, size, encode}
+use Rattle.ltl.specs.Progression.{isConstant, deciding, member, joined}
 use Rattle.nodes.proofs.Fronts.{front-own}
 use Rattle.peeling.specs.Peeled.{encodes}
 use Rattle.stacking.specs.Stacks.{Spined, Stack, Spared}
 use Rattle.stacking.proofs.Firsts.{first, first-constant, first-pending, first-other, joined-left, joined-right, joined-skip, joined-keep, joined-member, joined-both}
-use Rattle.stacking.proofs.Stacks.{Lowest, top-of, stacked, noted-same, spined-same, spined-moved, spined-plain, untouched-same, push-done}
+use Rattle.stacking.proofs.Stacks.{Lowest, top-of, stacked, spined-same, spined-moved, spined-plain, untouched-same, push-done}
 use Rattle.joining.specs.Members.{Compared, Comparable, IsMember}
 use Rattle.joining.specs.Joins.{Pair, JoinAsk, JoinsPair, Open, OpenAsk, OpenJoins, KeepAsk, Keeps}
 
@@ -95,7 +94,7 @@ module _ {f g : Formula} {fs : List Formula} {p notes : List ℕ} {w l r : ℕ} 
 
   -- ---- the left operand is no constant, and the right one does not settle it
   module _ (pending : 2 ≤ getD p w 0) (not-settled : getD p (w + l) 0 ≡ leafCode (Const (deciding j)) → ⊥) where
-    left-pending : (v : Bool) → Rattle.ltl.specs.Progression.isConstant v f ≡ false
+    left-pending : (v : Bool) → isConstant v f ≡ false
     left-pending = let b = t .left .byte in first-pending f (omega arith)
 
     -- the right one says nothing
@@ -110,7 +109,7 @@ module _ {f g : Formula} {fs : List Formula} {p notes : List ℕ} {w l r : ℕ} 
       open-kept = joined-keep j f g left-pending right-other
 
     module _ (h : 2 ≤ getD p (w + l) 0) {notes′ : List ℕ} {x : Bool} {op : ℕ} (op-is : op ≡ joinCode j) (m : IsMember p notes w l r op notes′ x) where
-      right-pending : (v : Bool) → Rattle.ltl.specs.Progression.isConstant v g ≡ false
+      right-pending : (v : Bool) → isConstant v g ≡ false
       right-pending = let b = t .right .byte in first-pending g (omega arith)
 
       compared : Compared p w l r op j f g (encodes fs)

@@ -26,10 +26,6 @@ front-length s f rest x = ap length (x .bytes) ∙ length-append (encode f) rest
 pub begins-some : (s : List ℕ) → Begins s → 0 < length s
 begins-some s b = let l = front-length s (b .formula) (b .rest) (b .front) in let z = size-some (b .formula) in omega arith
 
--- what stands behind the formula
-pub front-rest : (s : List ℕ) (f : Formula) (rest : List ℕ) → Front s f rest → drop (size f) s ≡ rest
-front-rest s f rest x = ap (drop (size f)) (x .bytes) ∙ drop-at (encode f) rest (size f) (length-encode f)
-
 -- the formula's own bytes
 pub front-own : (s : List ℕ) (f : Formula) (rest : List ℕ) → Front s f rest → take (size f) s ≡ encode f
 front-own s f rest x = ap (take (size f)) (x .bytes) ∙ take-at (encode f) rest (size f) (length-encode f)

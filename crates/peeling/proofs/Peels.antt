@@ -1,14 +1,14 @@
 -- The formulas behind a place: their bytes are those from the place on (`peeled-drop`, `whole-drop`), a formula is peeled off by as many
 -- bytes as it has (`peel-through`, `peeled-past`), and where bytes are left one of them begins there (`head-at`). Assumes nothing.
 use mathlib.Core.Path.{_≡_, refl, sym, ap, _∙_, subst}
-use mathlib.Core.List.{List, [], _∷_, _++_, append-assoc}
+use mathlib.Core.List.{List, [], _∷_, append-assoc}
 use Prim.Native.Nat.{ℕ, zero, suc, _+_, _<_, _≤_}
 use native.Mathlib.Nat.{add-zero, add-suc}
 use native.Mathlib.Omega.{arith}
 use lib.ListN.{length, drop, length-append, length-drop}
 use lib.Seq.{drop-drop}
 use native.Mathlib.Numerals.{add-one}
-use Rattle.ltl.specs.Formula.{Formula, leaf, one, two, size, encode, Coded}
+use Rattle.ltl.specs.Formula.{Formula, leaf, one, two, size, encode}
 use Rattle.ltl.proofs.Decoding.{size-some, length-encode}
 use Rattle.nodes.specs.Begins.{Front}
 use Rattle.peeling.specs.Peeled.{encodes, Codeds, peel, peeled}

@@ -1,7 +1,7 @@
 -- A result that stands at the end of some bytes, moved to the front (`fronted`), and the rest cleared (`rewrite-done`). Assumes nothing.
-use mathlib.Core.Path.{_≡_, sym, ap, ap₂, _∙_}
-use mathlib.Core.List.{List, [], _++_}
-use Prim.Native.Nat.{ℕ, _+_, _-_, _<_, _≤_}
+use mathlib.Core.Path.{_≡_, sym, ap, _∙_}
+use mathlib.Core.List.{List, _++_}
+use Prim.Native.Nat.{ℕ, _+_, _-_, _≤_}
 use native.Mathlib.Omega.{arith}
 use lib.ListN.{length, take, drop, replicate, length-append, length-drop}
 use lib.Seq.{drop-at, take-all}
@@ -9,7 +9,6 @@ use Rattle.lists.specs.Runs.{tail, padded}
 use Rattle.lists.proofs.Parts.{tail-is, handed-tail}
 use Rattle.ltl.specs.Formula.{Formula, size, encode}
 use Rattle.ltl.proofs.Decoding.{length-encode}
-use Rattle.nodes.specs.Begins.{Front}
 use Rattle.resolving.specs.declared.Seen.{Seen}
 use Rattle.resolving.specs.Settles.{settled}
 use Rattle.sweeping.specs.Passes.{SettlesAll}

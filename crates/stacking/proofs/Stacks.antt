@@ -1,21 +1,19 @@
 -- The results at the end of some bytes: `top-of` says all of the lowest one, `spined-moved`, `spined-same` and `noted-same` that notes
 -- count only where the results stand, `spined-plain` that a formula that is no join needs none; `stacked` puts a result on others. One law for each way out
 -- of `push` and `negate`. Assumes nothing.
-use mathlib.Core.Path.{_≡_, refl, sym, ap, ap₂, _∙_, subst}
+use mathlib.Core.Path.{_≡_, refl, sym, ap, _∙_, subst}
 use mathlib.Core.Bool.{Bool, true, false}
 use mathlib.Core.List.{List, [], _∷_, _++_}
 use Prim.Native.Nat.{ℕ, zero, suc, _+_, _-_, _<_, _≤_}
-use native.Mathlib.Numerals.{add-one}
 use native.Mathlib.Omega.{arith}
-use lib.ListN.{length, getD, set, take, drop, length-set}
+use lib.ListN.{length, getD, set, drop, length-set}
 use lib.Dec.{eqb}
 use borrow.Author.Tests.{eqb-false}
 use lib.Seq.{getD-set-same, getD-set-other, take-set-le, getD-drop}
 use Rattle.limits.specs.Limits.{nodesRoom}
-use Rattle.lists.proofs.Drops.{put-at, put-below, behind, drop-long}
+use Rattle.lists.proofs.Drops.{put-below, behind, drop-long}
 use Rattle.kinds.specs.declared.Join.{Join}
 use Rattle.kinds.specs.declared.Join.the-variants.{And, Or}
-use Rattle.kinds.specs.declared.Leaf.the-variants.{Const}
 use Rattle.kinds.specs.declared.Unary.the-variants.{Not}
 use Rattle.kinds.specs.declared.Binary.the-variants.{Joined, Until}
 use Rattle.kinds.specs.Kinds.{joinCode}
@@ -23,9 +21,9 @@ use Rattle.ltl.specs.Formula.{Formula, leaf, one, two, constant, size, encode, 
 use Rattle.ltl.specs.Progression.{negated}
 use Rattle.ltl.proofs.Decoding.{size-some, length-encode}
 use Rattle.nodes.specs.Begins.{Front}
-use Rattle.peeling.specs.Peeled.{encodes, Codeds}
+use Rattle.peeling.specs.Peeled.{encodes}
 use Rattle.peeling.proofs.Peels.{encodes-more}
-use Rattle.stacking.specs.Stacks.{Spined, Noted, Stack, Spared, Negates}
+use Rattle.stacking.specs.Stacks.{Spined, Noted, Stack, Spared}
 use Rattle.stacking.proofs.Firsts.{first, first-is, first-pending, first-constant, first-negated, negated-pending}
 
 -- ---- notes count only where the results stand

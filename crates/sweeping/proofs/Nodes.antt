@@ -3,9 +3,9 @@
 use mathlib.Core.Path.{_≡_, refl, sym, ap, _∙_, subst}
 use mathlib.Core.Bool.{true, false}
 use mathlib.Core.List.{List, [], _∷_, append-nil}
-use Prim.Native.Nat.{ℕ, _+_, _-_, _<_, _≤_}
+use Prim.Native.Nat.{ℕ, _-_}
 use native.Mathlib.Omega.{arith}
-use lib.ListN.{length, getD, set}
+use lib.ListN.{getD, set}
 use Rattle.lists.proofs.Tests.{no-true}
 use Rattle.kinds.specs.declared.Leaf.{Leaf}
 use Rattle.kinds.specs.declared.Leaf.the-variants.{Const, Prop, Hold}
@@ -18,14 +18,12 @@ use Rattle.kinds.specs.declared.Binary.the-variants.{Joined}
 use Rattle.kinds.specs.declared.Kind.{Kind}
 use Rattle.kinds.specs.declared.Kind.the-variants.{Zero, One, Two, NoCode}
 use Rattle.kinds.specs.Kinds.{kindOf, leafCode, joinCode, leafCoded}
-use Rattle.ltl.specs.Formula.{Formula, leaf, one, two, join, encode, Coded}
+use Rattle.ltl.specs.Formula.{Formula, leaf, one, encode, Coded}
 use Rattle.ltl.specs.Progression.{deciding}
-use Rattle.nodes.specs.Begins.{Front}
-use Rattle.nodes.proofs.Fronts.{Parts, isZero, parts-as, Single, single, Double, double, no-code}
+use Rattle.nodes.proofs.Fronts.{Parts, isZero, parts-as, single, Double, double, no-code}
 use Rattle.peeling.specs.Peeled.{peel}
 use Rattle.outlining.specs.Outlined.{wholeKind}
 use Rattle.stacking.specs.Stacks.{Stack, Negatable, Negates}
-use Rattle.stacking.proofs.Firsts.{first}
 use Rattle.stacking.proofs.Stacks.{untouched-same, push-done, push-untouched}
 use Rattle.joining.specs.Joins.{Pair, JoinAsk, JoinsPair}
 use Rattle.resolving.specs.declared.Seen.{Seen}

@@ -2,7 +2,6 @@
 -- `whole-ask` and `whole-held` that over a part that stays whole, `held-start` and `held-end` its ends. What was read is never longer
 -- than what it became, so that what is written never reaches what is not read (`wide-of`). Assumes nothing.
 use mathlib.Core.Path.{_≡_, refl, sym, ap, _∙_, subst}
-use mathlib.Core.Bool.{true, false}
 use mathlib.Core.List.{List, [], _∷_, _++_, append-nil}
 use Prim.Native.Nat.{ℕ, suc, _+_, _-_, _<_, _≤_}
 use native.Mathlib.Omega.{arith}
@@ -18,7 +17,7 @@ use Rattle.nodes.specs.Begins.{Front}
 use Rattle.nodes.proofs.Fronts.{front-one-way}
 use Rattle.peeling.specs.Peeled.{encodes, peel, peeled}
 use Rattle.peeling.proofs.Peels.{encodes-more, whole-left, whole-end, HeadAt, head-at, peeled-past}
-use Rattle.outlining.specs.Outlined.{wholeKind, Outlined}
+use Rattle.outlining.specs.Outlined.{wholeKind}
 use Rattle.outlining.proofs.Outlines.{PlainBack, plain-back, WholeBack, whole-back}
 use Rattle.stacking.specs.Stacks.{Stack}
 use Rattle.stacking.proofs.Firsts.{first-is}
@@ -108,9 +107,6 @@ module _ {f : Formula} {s m : List ℕ} {seen : Seen} {p notes : List ℕ} {i w 
     module _ {n : ℕ} (k : n ≡ getD notes j 0) (z : n ≡ 0 → ⊥) where
       whole : WholeBack s m i n
       whole = whole-back (h .outlined) e (sym note-is ∙ sym k) z
-
-      at : ℕ
-      at = i - n
 
       starts : i - n < length s
       starts = let a = h .inside in let b = whole .place in let c = size-some (whole .part) in let d = whole .long in omega arith

@@ -1,8 +1,8 @@
 -- A part that stays whole becomes a result: `kept` is what of it, where it stands (`kept-at`), and what is promised where it was moved
 -- (`keeps-whole`). Of its left operands nothing is known: `forgets-joined`, `forgets-plain`. Assumes nothing.
 use mathlib.Core.Path.{_≡_, refl, sym, ap, ap₂, _∙_, subst}
-use mathlib.Core.Bool.{Bool, true, false}
-use mathlib.Core.List.{List, [], _∷_, _++_}
+use mathlib.Core.Bool.{true}
+use mathlib.Core.List.{List, _∷_, _++_}
 use Prim.Native.Nat.{ℕ, _+_, _-_, _<_, _≤_}
 use native.Mathlib.Omega.{arith}
 use lib.ListN.{length, getD, set, take, drop, replicate, length-set, length-drop, length-replicate, take-append-drop}
@@ -20,7 +20,7 @@ use Rattle.ltl.specs.Formula.{Formula, leaf, one, two, size, encode, Coded}
 use Rattle.ltl.proofs.Decoding.{size-some, length-encode}
 use Rattle.nodes.specs.Begins.{Front}
 use Rattle.outlining.specs.Outlined.{wholeKind, topKind}
-use Rattle.stacking.specs.Stacks.{Spined, Stack, JoinByte}
+use Rattle.stacking.specs.Stacks.{Stack}
 use Rattle.stacking.proofs.Firsts.{first, first-is}
 use Rattle.stacking.proofs.Stacks.{stacked, spined-plain, spined-none, spined-first}
 use Rattle.resolving.specs.declared.Seen.{Seen}

@@ -1,7 +1,7 @@
 -- Resolving formula bytes in place, from the last byte to the first: what is asked of each turn and given by it. Assumes nothing: these
 -- are definitions.
 use mathlib.Core.Path.{_≡_}
-use mathlib.Core.Bool.{Bool, true, false}
+use mathlib.Core.Bool.{true, false}
 use mathlib.Core.List.{List, [], _∷_}
 use Prim.Native.Nat.{ℕ, _+_, _-_, _<_, _≤_}
 use lib.ListN.{length, getD, take, drop}

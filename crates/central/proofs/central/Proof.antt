@@ -2,11 +2,10 @@
 use mathlib.Core.Path.{_≡_, sym, ap, _∙_}
 use mathlib.Core.Bool.{true}
 use native.Mathlib.Omega.{arith}
-use Prim.Native.Nat.{_≤_}
 use lib.ListN.{length}
 use borrow.Author.Needs.{needs}
 use borrow.Author.Tests.{not-true, not-false}
-use Rattle.limits.specs.Limits.{propositionsMost, centralNodesMost}
+use Rattle.limits.specs.Limits.{propositionsMost}
 use Rattle.ltl.specs.Formula.{size}
 use Rattle.ltl.specs.Progression.{unfolded}
 use Rattle.ltl.specs.Decode.{isRule}

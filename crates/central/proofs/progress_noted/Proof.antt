@@ -1,6 +1,5 @@
 -- Unfolded, and resolved there. Assumes nothing.
 use Rattle.central.proofs.Progresses.{all-outlining, all-progresses}
-use native.Mathlib.Omega.{arith}
 use borrow.Author.Needs.{needs}
 use Rattle.central.proofs.progress_noted.Statement.{statement}
 use Rattle.central.proofs.progress_noted.Tie as tie

@@ -3,7 +3,6 @@ use mathlib.Core.Path.{ap, _∙_}
 use Rattle.kinds.specs.declared.Kind.the-variants.{One, Two}
 use Rattle.outlining.specs.Outlined.{wholeKind}
 use Rattle.sweeping.proofs.Nodes.{node-leaf, node-leaf-coded, node-negatable, node-not, node-joinable, node-join, node-whole, node-none}
-use native.Mathlib.Omega.{arith}
 use borrow.Author.Needs.{needs}
 use Rattle.sweeping.proofs.settle_node.Statement.{statement}
 use Rattle.sweeping.proofs.settle_node.Tie as tie

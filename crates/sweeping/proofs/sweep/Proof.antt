@@ -5,7 +5,6 @@ use Rattle.ltl.specs.Formula.{Formula}
 use Rattle.sweeping.specs.Passes.{SweptTo}
 use Rattle.sweeping.proofs.Passes.{held-start, held-end}
 use native.Mathlib.Omega.{arith}
-use borrow.Author.Needs.{needs}
 use Rattle.sweeping.proofs.sweep.Statement.{statement}
 use Rattle.sweeping.proofs.sweep.Tie as tie
 

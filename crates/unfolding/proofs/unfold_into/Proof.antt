@@ -1,6 +1,5 @@
 -- Small formulas apart, by what was counted. Assumes nothing.
 use Rattle.unfolding.proofs.Goings.{ask-size, ask-small}
-use native.Mathlib.Omega.{arith}
 use borrow.Author.Needs.{needs}
 use Rattle.unfolding.proofs.unfold_into.Statement.{statement}
 use Rattle.unfolding.proofs.unfold_into.Tie as tie

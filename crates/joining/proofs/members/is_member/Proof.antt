@@ -4,7 +4,6 @@ use Prim.Native.Nat.{_+_, _-_}
 use lib.ListN.{length}
 use Rattle.joining.proofs.Chains.{Chain, ChainAt, chain-start, chain-at, LeftWithin, left-at, left-ask, chain-short, chain-onleft, chain-again, chain-end}
 use native.Mathlib.Omega.{arith}
-use borrow.Author.Needs.{needs}
 use Rattle.joining.proofs.members.is_member.Statement.{statement}
 use Rattle.joining.proofs.members.is_member.Tie as tie
 
