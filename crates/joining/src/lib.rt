@@ -5,7 +5,7 @@ mod members;
 ghost use Rattle.joining.specs.Joins.{JoinAsk, JoinsPair, OpenAsk, OpenJoins, KeepAsk, Keeps};
 use members::is_member;
 
-// JoinsPair the results at w by op, which the constant `decide` settles.
+// Joins the results at w by op, which the constant `decide` settles.
 pub fn join(p: &mut [u8], notes: &mut [u16], w: usize, op: u8, decide: u8) -> usize
     requires { ⌜ JoinAsk (now p) (now notes) w op decide ⌝ }
     ensures { λ v. ⌜ JoinsPair (now (p .entry)) (now (notes .entry)) w op decide (now (p .exit)) (now (notes .exit)) v ⌝ }
