@@ -2,6 +2,7 @@
 // largest rule, and refusals.
 
 #include "cases.h"
+#include "constants.h"
 #include "formulas.h"
 #include "plain.h"
 #include "slow.h"
@@ -19,6 +20,13 @@ static void random_thousand(struct input *input)
         seed_random(seed++);
         random_formula(input, COUNT, 0, 64);
     } while (plain_central(input->bytes, input->count, input->number, output, sizeof output, &verdict, &length) != 0 || length < COUNT / 4);
+}
+
+// Some 1,700 nodes, of which those thousand are left.
+static void random_thousand_with_constants(struct input *input)
+{
+    random_thousand(input);
+    put_beside_leaves(input);
 }
 
 static void until(struct input *input)
@@ -41,18 +49,15 @@ static uint8_t joint_at(size_t i)
     return i % 2 == 0 ? AND : OR;
 }
 
-// The operand of a joint: two in three pending, the third a constant that the joint drops, written so or as a proposition.
+// The operand of a joint: two in three pending, the third a proposition that is settled so that the joint drops it.
 static void operand(struct input *input, size_t i)
 {
-    uint8_t dropped = joint_at(i) == AND;
     if (i % 3 == 0)
         put_all(input, (const uint8_t[]){NEXT, (uint8_t)(PROPOSITION + i % 64)}, 2);
     else if (i % 3 == 2)
         put_all(input, (const uint8_t[]){NEXT, EVENTUALLY, (uint8_t)(PROPOSITION + i % 61)}, 3);
-    else if (i % 4 < 2)
-        put(input, dropped);
     else
-        put(input, (uint8_t)(PROPOSITION + !dropped)); // the event has proposition 0 and not proposition 1
+        put(input, (uint8_t)(PROPOSITION + (joint_at(i) == OR))); // the event has proposition 0 and not proposition 1
 }
 
 static void right_leaning(struct input *input)
@@ -163,6 +168,8 @@ static const struct {
     {"central: until over two propositions", CENTRAL, until, NULL, 0, NULL},
     {"central: always eventually", CENTRAL, always_eventually, NULL, 0, NULL},
     {"central: random rule of 1,000 nodes", CENTRAL, random_thousand, NULL, 0, NULL},
+    {"central: 1,000 nodes and constants to fold", CENTRAL, random_thousand_with_constants, NULL, 0, NULL},
+    {"central: 88 times always true", CENTRAL, always_true, NULL, 0, NULL},
     {"central: left-leaning chain", CENTRAL, left_leaning, NULL, 0, NULL},
     {"central: right-leaning chain", CENTRAL, right_leaning, NULL, 0, NULL},
     {"central: 87 times always", CENTRAL, most_always, NULL, 0, NULL},
@@ -187,6 +194,8 @@ static const struct {
     {"load: responses over 16 boards", LOAD, responses_over_sixteen, finish_watch, 0, NULL},
     {"load: 999 nodes over 8 boards", LOAD, thousand_nodes, finish_watch, 0, NULL},
     {"load: 63 ors over 2 boards", LOAD, ors_over_two, finish_watch, 0, NULL},
+    {"load: responses over 4 boards, with constants", LOAD, responses_with_constants, finish_watch, 0, NULL},
+    {"load: 999 nodes over 8 boards, with constants", LOAD, thousand_nodes_with_constants, finish_watch, 0, NULL},
     {"sample: until over 2 boards", SAMPLE, until_over_two, finish_watch, 0, NULL},
     {"sample: responses over 4 boards", SAMPLE, responses_over_four, finish_watch, 0, NULL},
     {"sample: responses over 16 boards", SAMPLE, responses_over_sixteen, finish_watch, 0, NULL},
@@ -211,9 +220,13 @@ static const struct {
     {"central: chain of short members", CENTRAL, short_members, NULL, 0, "central: random rule of 1,000 nodes"},
     {"central: long member", CENTRAL, long_member, NULL, 0, "central: random rule of 1,000 nodes"},
     {"central: zigzag", CENTRAL, zigzag, NULL, 0, "central: random rule of 1,000 nodes"},
+    {"central: constants in no order", CENTRAL, constants_in_no_order, NULL, 0, "central: random rule of 1,000 nodes"},
+    {"central: short members and true", CENTRAL, short_members_and_true, NULL, 0, "central: random rule of 1,000 nodes"},
     {"load: untils over 16 boards, refused", LOAD, untils_leaning_left, finish_watch, 8, "load: responses over 4 boards"},
     {"load: temporal tower, refused", LOAD, temporal_tower, finish_watch, 8, "load: responses over 4 boards"},
     {"load: next tower", LOAD, next_tower, finish_watch, 0, "load: responses over 4 boards"},
+    {"load: untils over 16 boards and true, refused", LOAD, untils_and_true, finish_watch, 8, "load: responses over 4 boards"},
+    {"load: next tower and true", LOAD, next_tower_and_true, finish_watch, 0, "load: responses over 4 boards"},
     {"sample: random nodes", SAMPLE, random_nodes, finish_handed, 0, "sample: responses over 4 boards"},
     {"sample: chain of short members", SAMPLE, short_members, finish_handed, 0, "sample: responses over 4 boards"},
     {"step: random nodes", STEP, random_nodes, finish_handed, 0, "step: responses over 4 boards"},

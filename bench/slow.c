@@ -142,14 +142,18 @@ void long_member(struct input *input)
 }
 
 // Joints whose right operand loses its operator, at every level: whoever resolves in place moves the rest up each time. The
-// joints alternate, so that the member rule costs little.
+// joints alternate, so that the member rule costs little. Central would fold a true, so that it gets a proposition and an event which
+// makes it true.
 void zigzag(struct input *input)
 {
     enum { LEVELS = (MOST_FORMULA - 2) / 5 };
+    uint8_t last = input->call == CENTRAL ? PROPOSITION : TRUE;
     one_board(input);
+    if (input->call == CENTRAL)
+        input->number = 1;
     for (size_t i = 0; i < LEVELS; i++)
         put_all(input, (const uint8_t[]){i % 2 == 0 ? AND : OR, NEXT, (uint8_t)(PROPOSITION + i % 64), AND}, 4);
     put_all(input, (const uint8_t[]){NEXT, PROPOSITION}, 2);
     for (size_t i = 0; i < LEVELS; i++)
-        put(input, TRUE);
+        put(input, last);
 }

@@ -113,13 +113,16 @@ uint32_t vydrulka_write(const uint64_t *masks, size_t masks_len, uint64_t propos
                         size_t formula_len, uint8_t *file, size_t file_len, uint64_t *written);
 
 // Progresses a formula of 1 to VYDRULKA_NODES_MOST nodes over an event, in one place: the outcome to the front of `output`, of
-// length VYDRULKA_NODES_MOST, and zeros behind it. Gives the outcome's verdict and nodes.
+// length VYDRULKA_NODES_MOST, and zeros behind it. Gives the outcome's verdict and nodes. The formula's constants are folded
+// first, and 8 goes by the folded formula.
 // Stack: VYDRULKA_STACK_CENTRAL.
 // Refusals in order: 1, 6, 8.
 uint32_t vydrulka_central(const uint8_t *formula, size_t formula_len, uint64_t event, uint8_t *output, size_t output_len,
                           uint32_t *verdict, uint64_t *nodes);
 
 // Begins a watch: lays out the rule of a file, at 0 ticks, into `state`, of length VYDRULKA_STATE_LENGTH, and writes that whole.
+// The rule's constants are folded first, and 7 and 8 go by the folded rule; where nothing but a constant is left the watch is
+// finished at once.
 // Stack: VYDRULKA_STACK_LOAD.
 // Refusals in order: 1, 2, 3, 4, 5, 6, 7, 8.
 uint32_t vydrulka_load(const uint8_t *file, size_t file_len, uint8_t *state, size_t state_len);

@@ -8,7 +8,8 @@ struct part {
     const char *name, *before, *behind;
 };
 
-// Bytes in octal as formulas have them: 2 not, 3 and, 4 or, 5 next, 6 until, 7 eventually, 10 always, 100 and 101 propositions.
+// Bytes in octal as formulas have them: 1 true, 2 not, 3 and, 4 or, 5 next, 6 until, 7 eventually, 10 always, 100 and 101 propositions.
+// Not true stands for false, whose byte, 0, would end a string.
 static const struct part layers[] = {
     {"not .", "\2", ""},
     {"next .", "\5", ""},
@@ -31,6 +32,11 @@ static const struct part layers[] = {
     {". or next b", "\4", "\5\101"},
     {"next b or .", "\4\5\101", ""},
     {"next next a or .", "\4\5\5\100", ""},
+    {". and true", "\3", "\1"},
+    {"true and .", "\3\1", ""},
+    {". or not true", "\4", "\2\1"},
+    {"not true until .", "\6\2\1", ""},
+    {"true until .", "\6\1", ""},
 };
 const size_t layer_count = sizeof layers / sizeof *layers;
 
@@ -38,6 +44,7 @@ static const struct part cores[] = {
     {"a", "\100", ""},
     {"b", "\101", ""},
     {"next a", "\5\100", ""},
+    {"true", "\1", ""},
 };
 const size_t core_count = sizeof cores / sizeof *cores;
 
@@ -120,7 +127,7 @@ void any_nest(struct formula *formula, struct chance *chance, size_t most)
     finish(formula, &making, core);
 }
 
-// Nodes by chance with room for all operands that are owed, and no end before the room is used.
+// Nodes by chance with room for all operands that are owed, and no end before the room is used. One leaf in sixteen is a constant.
 void any_tree(struct formula *formula, struct chance *chance, size_t most)
 {
     static const uint8_t nodes[] = {VYDRULKA_NODE_PROP, VYDRULKA_NODE_NOT, VYDRULKA_NODE_NEXT, VYDRULKA_NODE_EVENTUALLY,
@@ -130,7 +137,8 @@ void any_tree(struct formula *formula, struct chance *chance, size_t most)
         size_t kinds = owed + 2 <= room ? 8 : owed < room ? 5 : 1;
         size_t least = owed == 1 && kinds > 1;
         size_t kind = least + below(chance, kinds - least);
-        formula->bytes[formula->nodes++] = (uint8_t)(nodes[kind] + (kind == 0 ? below(chance, 2) : 0));
+        size_t first = kind == 0 && below(chance, 16) == 0 ? VYDRULKA_NODE_FALSE : nodes[kind];
+        formula->bytes[formula->nodes++] = (uint8_t)(first + (kind == 0 ? below(chance, 2) : 0));
         owed += kind >= 5 ? 1 : kind == 0 ? -1 : 0;
     }
 }

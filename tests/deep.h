@@ -36,7 +36,7 @@ struct chance {
 };
 uint64_t below(struct chance *chance, uint64_t limit);
 
-// Layers by chance, and a tree by chance, both of at most `most` nodes over propositions 0 and 1.
+// Layers by chance, and a tree by chance, both of at most `most` nodes over propositions 0 and 1, with constants.
 void any_nest(struct formula *formula, struct chance *chance, size_t most);
 void any_tree(struct formula *formula, struct chance *chance, size_t most);
 

@@ -2,8 +2,9 @@
 //   generate SEED COUNT        writes the stream of COUNT requests
 //   generate SEED COUNT list   writes a line for each of them instead: its call, its offset in the stream, its length, its case
 //   generate SEED COUNT inputs ROOM   writes COUNT inputs of the run program into files ROOM/1, ROOM/2, .. and a line with the case of each
-// The worked values and the rules at the borders come first; then the cases below, for the calls without a state, and the episodes
-// on the kept state take turns, so that a stream of some hundreds meets each of them often.
+// The worked values, the rules at the borders and the smallest formulas with constants come first; then the cases below, for the
+// calls without a state, and the episodes on the kept state take turns, so that a stream of some hundreds more meets each of them
+// often.
 
 #[path = "generate/borders.rs"]
 mod borders;
@@ -11,10 +12,16 @@ mod borders;
 mod central;
 #[path = "generate/closes.rs"]
 mod closes;
+#[path = "generate/constants.rs"]
+mod constants;
 #[path = "generate/episodes.rs"]
 mod episodes;
 #[path = "generate/files.rs"]
 mod files;
+#[path = "generate/folded_rules.rs"]
+mod folded_rules;
+#[path = "generate/folding.rs"]
+mod folding;
 #[path = "generate/formulas.rs"]
 mod formulas;
 #[path = "generate/handed.rs"]
@@ -77,27 +84,35 @@ const CASES: &[(&str, &str, Case)] = &[
     ("read", "cut or extended", |random, large| files::cut_or_extended(random, large).read()),
     ("central", "no member", central::no_member),
     ("central", "members", central::members),
+    ("central", "folding: few constants", folding::few),
     ("read", "version", |random, large| files::version(random, large).read()),
     ("central", "negations", central::negations),
     ("central", "unfold limit", central::unfold_limit),
+    ("central", "folding: many constants", folding::many),
     ("read", "range", |random, large| files::range(random, large).read()),
     ("central", "nested limit", central::nested_limit),
     ("central", "far too large", central::far_too_large),
+    ("central", "folding: around a formula", folding::around),
     ("read", "offset", |random, large| files::offset(random, large).read()),
     ("central", "wrong size", central::wrong_size),
     ("central", "wrong lent", central::wrong_lent),
+    ("central", "folding: around a limit", folding::around_limit),
     ("read", "oversized", |random, large| files::oversized(random, large).read()),
     ("central", "damaged", central::damaged),
     ("central", "damaged and large", central::damaged_and_large),
+    ("central", "folding: decided", folding::decided),
     ("read", "masks", |random, large| files::of(&rules::bad_masks(random, large)).read()),
     ("central", "any bytes", central::any_bytes),
+    ("central", "folding: too large beside", folding::too_large_beside),
     ("write", "smallest", |random, large| write::of(&rules::smallest(random, large))),
     ("read", "formula", |random, large| files::of(&rules::bad_formula(random, large)).read()),
     ("write", "length", write::length),
     ("write", "range", write::range),
+    ("central", "folding: true until", folding::true_until),
     ("read", "several", |random, large| files::several(random, large).read()),
     ("write", "masks", |random, large| write::of(&rules::bad_masks(random, large))),
     ("write", "formula", |random, large| write::of(&rules::bad_formula(random, large))),
+    ("central", "folding: damaged", folding::damaged),
     ("read", "wrongly lent", |random, large| files::wrongly_lent(random, large).read()),
     ("read", "flipped", |random, large| files::flipped(random, large).read()),
     ("write", "several", write::several),
@@ -110,9 +125,11 @@ const LARGE_EVERY: usize = 6;
 fn opening(script: &mut Script) -> Vec<Made> {
     let worked = worked::worked().into_iter().map(|(call, request)| (call, "worked value", request));
     let borders = borders::borders().into_iter().map(|(call, request)| (call, "border", request));
+    let folded = folding::each_small().into_iter().map(|request| ("central", "folding: small", request));
     worked_watches::watched(script);
     borders::loaded(script);
-    worked.chain(borders).chain(std::iter::from_fn(|| script.take())).collect()
+    folded_rules::loaded(script);
+    worked.chain(borders).chain(folded).chain(std::iter::from_fn(|| script.take())).collect()
 }
 
 // Hands on the requests of a stream, one after the other.

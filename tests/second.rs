@@ -2,7 +2,7 @@
 //   second        answers the requests of PROTOCOL.md from standard input, one line each
 //   second run    does what 01 says of the run program
 // tests/compare holds the Rattle program `replay` to it, tests/watches the Rattle program `run`, and tests/store keeps its answers.
-// `rustc --test` runs it on 01's worked values and on random watches.
+// `rustc --test` runs it on 01's worked values, on random watches, and on formulas with constants.
 
 #[path = "second/model.rs"]
 mod model;
@@ -12,12 +12,21 @@ mod replay;
 mod run;
 
 #[cfg(test)]
+#[path = "second/constants.rs"]
+mod constants;
+#[cfg(test)]
+#[path = "second/folded.rs"]
+mod folded;
+#[cfg(test)]
 #[allow(dead_code)] // the tests take small formulas from the generator's many
 #[path = "generate/formulas.rs"]
 mod formulas;
 #[cfg(test)]
 #[path = "second/invariants.rs"]
 mod invariants;
+#[cfg(test)]
+#[path = "second/meaning.rs"]
+mod meaning;
 #[cfg(test)]
 #[allow(dead_code)]
 #[path = "generate/random.rs"]

@@ -1,7 +1,8 @@
-// Central: one pass from the back measures the formula and its unfolding and finds what the event decides; one walk progresses the
-// rest; the outcome is copied once.
+// Central: constants are folded where there are any; one pass from the back measures the formula and its unfolding and finds what the
+// event decides; one walk progresses the rest; the outcome is copied once.
 
 #include "../plain.h"
+#include "folding.h"
 #include "progress.h"
 
 static inline unsigned lower(unsigned a, unsigned b)
@@ -16,8 +17,8 @@ static inline unsigned higher(unsigned a, unsigned b)
 
 // The unfolded size, or 0 where this is not one whole formula. Going backwards, the first operand is always the one just measured.
 // Unfolding adds to a temporal operator its copy under next, but not below another next: there the count goes back to what it was
-// behind that next's operand.
-static size_t measure(const uint8_t *formula, size_t count, uint64_t event, struct known *known)
+// behind that next's operand. A function of its own, which compilers make better code of.
+static __attribute__((noinline)) size_t measure(const uint8_t *formula, size_t count, uint64_t event, struct known *known)
 {
     uint32_t added[MOST + 1], more = 0;
     size_t end = count;
@@ -53,7 +54,7 @@ static size_t measure(const uint8_t *formula, size_t count, uint64_t event, stru
             value = DECIDED_TRUE - value;
         } else if (code == NEXT) {
             more = added[end];
-            value = formula[i + 1] <= TRUE ? formula[i + 1] * DECIDED_TRUE : UNDECIDED;
+            value = UNDECIDED; // its operand is no constant
         } else {
             end = i + 1;
             value = code * DECIDED_TRUE;
@@ -69,8 +70,12 @@ uint32_t plain_central(const uint8_t *formula, size_t formula_len, uint64_t even
 {
     if (formula_len - 1 >= MOST || output_len != MOST)
         return LENGTH;
+    uint8_t room[MOST];
     struct known known[MOST];
     struct outcome outcome;
+    formula = folded(formula, &formula_len, room);
+    if (formula == NULL)
+        return FORMULA;
     size_t unfolded = measure(formula, formula_len, event, known);
     if (unfolded == 0)
         return FORMULA;

@@ -2,6 +2,7 @@
 // is left to be refused.
 
 #include "../plain.h"
+#include "folding.h"
 #include "layout.h"
 #include "rules.h"
 #include "settle.h"
@@ -37,11 +38,15 @@ uint32_t plain_load(const uint8_t *file, size_t file_len, uint8_t *state, size_t
 {
     struct rule rule;
     struct layout layout;
+    uint8_t room[MOST];
     if (state_len != STATE_BYTES)
         return LENGTH;
     uint32_t refusal = rule_of(file, file_len, &rule);
-    if (refusal == 0)
-        refusal = lay_rule(rule.formula, rule.nodes, rule.masks, rule.boards, &layout);
+    if (refusal == 0) {
+        size_t nodes = rule.nodes;
+        const uint8_t *formula = folded(rule.formula, &nodes, room);
+        refusal = lay_rule(formula, nodes, rule.masks, rule.boards, &layout);
+    }
     if (refusal == 0)
         write_state(state, rule.masks, rule.boards, 0, &layout);
     return refusal;

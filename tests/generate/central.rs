@@ -31,15 +31,15 @@ pub fn small(random: &mut Random, _: bool) -> Request {
 // Of the longest of these some need more than 4,096 nodes unfolded.
 pub fn temporal(random: &mut Random, _: bool) -> Request {
     let nodes = random.pick(&[20, 60, 200, 500]) + random.below(20);
-    let propositions = random.pick(&[2, 64]);
-    let f = formula(random, nodes, TEMPORAL.over(propositions));
+    let (propositions, constants) = (random.pick(&[2, 64]), random.pick(&[0, 10]));
+    let f = formula(random, nodes, TEMPORAL.over(propositions).with(constants));
     accepted(random, f)
 }
 
 pub fn plain(random: &mut Random, large: bool) -> Request {
     let nodes = if large { random.pick(&[MOST - 1, MOST]) } else { random.within(50, 300) };
-    let propositions = random.pick(&[1, 4, 64]);
-    let f = formula(random, nodes, PLAIN.over(propositions));
+    let (propositions, constants) = (random.pick(&[1, 4, 64]), random.pick(&[0, 3]));
+    let f = formula(random, nodes, PLAIN.over(propositions).with(constants));
     accepted(random, f)
 }
 

@@ -1,6 +1,7 @@
 // Closes at the limits: refused for room (7, 8) or for the counter's end (15), or just fitting.
 
 use crate::files;
+use crate::folded_rules;
 use crate::formulas::nested;
 use crate::model::formula::parse_slot;
 use crate::model::state::{Board, Network, Slot};
@@ -26,6 +27,12 @@ pub fn nodes(script: &mut Script, random: &mut Random, large: bool) {
         1 => patterns::crowded(random, large),
         _ => patterns::node_limit(random, large),
     };
+    close_later(script, random, rule);
+}
+
+// With constants around: load takes them out.
+pub fn folding(script: &mut Script, random: &mut Random, large: bool) {
+    let rule = folded_rules::around_limit(random, large);
     close_later(script, random, rule);
 }
 

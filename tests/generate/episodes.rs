@@ -5,7 +5,7 @@ use crate::random::Random;
 use crate::rules::{self, Rule};
 use crate::script::{Made, Script};
 use crate::spoilt::SPOILS;
-use crate::{closes, handed, moments, patterns, spoilt, watches};
+use crate::{closes, folded_rules, handed, moments, patterns, spoilt, watches};
 
 type Episode = Box<dyn Fn(&mut Script, &mut Random, bool)>;
 
@@ -70,22 +70,34 @@ fn loads() -> Kind {
         let (limit, large) = (random.pick(&limits), large || random.percent(50));
         files::of(&limit(random, large))
     };
+    let folding = |random: &mut Random, large: bool| {
+        let rules = [folded_rules::any, folded_rules::any, folded_rules::around_any, folded_rules::decided];
+        files::of(&random.pick(&rules)(random, large))
+    };
+    let folding_slots = |random: &mut Random, large: bool| {
+        let rules = [folded_rules::fewer_slots, folded_rules::more_slots];
+        files::of(&random.pick(&rules)(random, large))
+    };
     let episodes = vec![
         ("accepted", load(|random, large| files::of(&rules::rule(random, large)))),
+        ("folding", load(folding)),
         ("length", load(files::length)),
         ("slots", load(|random, _| files::of(&patterns::copies(random.within(62, 66))))),
         ("cut or extended", load(files::cut_or_extended)),
         ("version", load(files::version)),
+        ("folding: limit", load(|random, large| files::of(&folded_rules::around_limit(random, large)))),
         ("nodes", load(at_limit)),
         ("range", load(files::range)),
         ("offset", load(files::offset)),
         ("slots and nodes", load(|random, large| files::of(&patterns::slots_and_nodes(random, large)))),
         ("oversized", load(files::oversized)),
+        ("folding: slots", load(folding_slots)),
         ("masks", load(|random, large| files::of(&rules::bad_masks(random, large)))),
         ("nodes", load(at_limit)),
         ("formula", load(|random, large| files::of(&rules::bad_formula(random, large)))),
         ("far too large", load(|random, large| files::of(&patterns::far_too_large(random, large)))),
         ("crowded", load(|random, large| files::of(&patterns::crowded(random, large)))),
+        ("folding: more nodes", load(|random, large| files::of(&folded_rules::more_nodes(random, large)))),
         ("several", load(files::several)),
         ("wrongly lent", load(files::wrongly_lent)),
         ("flipped", load(files::flipped)),
@@ -99,6 +111,7 @@ fn whole_watches() -> Kind {
         ("watch: until", watch(patterns::until)),
         ("watch: small, later", watch_later(patterns::small)),
         ("watch: responses", watch(patterns::responses)),
+        ("watch: folding, any", watch(folded_rules::any)),
         ("watch: small", watch(patterns::small)),
         ("watch: alternatives", watch(patterns::alternatives)),
         ("watch: untils", watch(patterns::untils)),
@@ -107,6 +120,7 @@ fn whole_watches() -> Kind {
         ("watch: nested", watch(patterns::nested_always)),
         ("watch: constants", watch(patterns::constants)),
         ("watch: wide", watch(patterns::wide)),
+        ("watch: folding, around", watch(folded_rules::around_any)),
     ];
     Kind::new(5, episodes)
 }
@@ -123,6 +137,7 @@ fn closes_at_limits() -> Kind {
         ("close: nodes", Box::new(closes::nodes)),
         ("close: growing", Box::new(closes::growing)),
         ("close: handed", Box::new(closes::handed)),
+        ("close: folding", Box::new(closes::folding)),
         ("close: slots", Box::new(closes::slots)),
         ("close: last ticks", Box::new(closes::last_ticks)),
     ];
@@ -138,7 +153,16 @@ fn strange_states() -> Kind {
         watches::go_on(script, random, requests);
     });
     let flipped: Episode = Box::new(|script, random, _| spoilt::flipped(script, random));
-    Kind::new(3, vec![("handed state", handed), ("flipped state", flipped)])
+    let saved: Episode = Box::new(|script, random, large| {
+        let rule = folded_rules::any(random, large);
+        let calls = random.below(30);
+        if let Some(network) = moments::saved(random, &rule, calls) {
+            script.become_state(&network.bytes());
+            let requests = random.within(6, 20);
+            watches::go_on(script, random, requests);
+        }
+    });
+    Kind::new(4, vec![("handed state", handed), ("flipped state", flipped), ("saved state", saved)])
 }
 
 // The kinds by their places in Episodes.
@@ -150,8 +174,9 @@ const STRANGE: usize = 4;
 
 // How they take turns: a load makes one request, a watch many.
 const TURNS: &[usize] = &[
-    SPOILT, LOAD, SPOILT, CLOSE, SPOILT, LOAD, SPOILT, WATCH, LOAD, SPOILT, LOAD, SPOILT, CLOSE, SPOILT, LOAD, SPOILT, STRANGE, LOAD,
-    SPOILT, LOAD, SPOILT, CLOSE, LOAD, SPOILT, LOAD, WATCH, LOAD, SPOILT, LOAD, CLOSE, SPOILT, LOAD,
+    SPOILT, LOAD, SPOILT, LOAD, CLOSE, SPOILT, LOAD, SPOILT, LOAD, WATCH, LOAD, SPOILT, LOAD, SPOILT, LOAD, CLOSE, SPOILT, LOAD, SPOILT,
+    LOAD, STRANGE, LOAD, SPOILT, LOAD, SPOILT, LOAD, CLOSE, LOAD, SPOILT, LOAD, SPOILT, LOAD, WATCH, LOAD, SPOILT, LOAD, CLOSE, LOAD,
+    SPOILT, LOAD,
 ];
 
 pub struct Episodes {

@@ -2,6 +2,7 @@
 
 use crate::random::Random;
 
+const TRUE: u8 = 1;
 const NOT: u8 = 2;
 const AND: u8 = 3;
 const OR: u8 = 4;
@@ -31,6 +32,10 @@ pub const PLAIN: Mix = Mix { constants: 3, ones: &[NOT, NEXT, NEXT], twos: &[AND
 impl Mix {
     pub fn over(self, propositions: usize) -> Mix {
         Mix { propositions, ..self }
+    }
+
+    pub fn with(self, constants: usize) -> Mix {
+        Mix { constants, ..self }
     }
 
     pub fn leaf(&self, random: &mut Random) -> u8 {
@@ -71,7 +76,7 @@ const MOST_PENDING: usize = 5;
 // Something small that stays pending whatever the event.
 pub fn pending(random: &mut Random) -> Vec<u8> {
     let nodes = random.within(1, MOST_PENDING - 1);
-    let inner = formula(random, nodes, Mix { constants: 0, ..TEMPORAL.over(12) });
+    let inner = formula(random, nodes, TEMPORAL.over(12).with(0));
     [vec![NEXT], inner].concat()
 }
 
@@ -181,14 +186,16 @@ pub fn unfolded_size(bytes: &[u8]) -> usize {
 }
 
 // Nested temporal operators whose unfolding has exactly so many nodes: wrapped as long as it stays below, then filled up with nots.
+// There is nothing to fold in them, but an until may have true on its left.
 pub fn unfolding_to(random: &mut Random, target: usize) -> Vec<u8> {
-    let mut bytes = vec![TEMPORAL.leaf(random)];
+    let mut bytes = vec![TEMPORAL.with(0).leaf(random)];
     loop {
-        let leaf = vec![TEMPORAL.leaf(random)];
+        let leaf = vec![TEMPORAL.with(0).leaf(random)];
         let wrapped = match random.below(6) {
             0 => [vec![ALWAYS], bytes.clone()].concat(),
             1 => [vec![EVENTUALLY], bytes.clone()].concat(),
             2 => [vec![UNTIL], bytes.clone(), leaf].concat(),
+            3 if random.percent(20) => [vec![UNTIL, TRUE], bytes.clone()].concat(),
             3 => [vec![UNTIL], leaf, bytes.clone()].concat(),
             4 => [vec![random.pick(&[AND, OR])], bytes.clone(), leaf].concat(),
             _ => [vec![NOT], bytes.clone()].concat(),

@@ -1,6 +1,7 @@
 // Inputs of the run program: a rule file and events, as they should be or with something wrong.
 
 use crate::files::{self, Handed};
+use crate::folded_rules;
 use crate::patterns;
 use crate::random::Random;
 use crate::rules::{self, Rule};
@@ -15,11 +16,13 @@ pub const CASES: &[(&str, Case)] = &[
     ("watch", watch),
     ("leftover bytes", leftover),
     ("total", total),
+    ("folding", folding),
     ("event in no mask", event_outside),
     ("long watch", long_watch),
     ("limits", limits),
     ("broken file", broken_file),
     ("any rule", any_rule),
+    ("folding at the limits", folding_limits),
     ("growing", growing),
 ];
 
@@ -103,6 +106,28 @@ fn limits(random: &mut Random) -> Vec<u8> {
     ]);
     let rule = pattern(random, true);
     let rule = if random.percent(50) { patterns::later(rule) } else { rule };
+    input(random, &rule, 3)
+}
+
+// Rules with constants; some are finished when they are loaded.
+fn folding(random: &mut Random) -> Vec<u8> {
+    let pattern = random.pick::<Pattern>(&[folded_rules::any, folded_rules::around_any, folded_rules::around_any, folded_rules::decided]);
+    let (large, events) = (random.percent(20), random.below(12));
+    let rule = pattern(random, large);
+    input(random, &rule, events)
+}
+
+// The same where folding decides over 7 and 8, at load or, of what stands below next, one tick later.
+fn folding_limits(random: &mut Random) -> Vec<u8> {
+    let pattern = random.pick::<Pattern>(&[
+        folded_rules::around_limit,
+        folded_rules::fewer_slots,
+        folded_rules::more_slots,
+        folded_rules::more_nodes,
+    ]);
+    let large = random.percent(50);
+    let rule = pattern(random, large);
+    let rule = if random.percent(30) { patterns::later(rule) } else { rule };
     input(random, &rule, 3)
 }
 

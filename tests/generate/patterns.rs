@@ -1,6 +1,6 @@
 // Rules worth watching: small ones over several boards, the shapes that bench staff write, and shapes that grow to the limits.
 
-use crate::formulas::{formula, left_chain, nested, right_chain, unfolding_to, Mix, TEMPORAL};
+use crate::formulas::{formula, left_chain, nested, right_chain, unfolding_to, TEMPORAL};
 use crate::random::Random;
 use crate::rules::Rule;
 
@@ -9,7 +9,7 @@ const NEXT: u8 = 5;
 const UNTIL: u8 = 6;
 
 // A rule over the lowest propositions, dealt out in turn to the boards.
-fn dealt(boards: usize, propositions: usize, formula: Vec<u8>) -> Rule {
+pub fn dealt(boards: usize, propositions: usize, formula: Vec<u8>) -> Rule {
     let mut masks = vec![0; boards];
     for i in 0..propositions {
         masks[i % boards] |= 1 << i;
@@ -18,7 +18,7 @@ fn dealt(boards: usize, propositions: usize, formula: Vec<u8>) -> Rule {
 }
 
 // The same with the boards in some other order.
-fn shuffled(random: &mut Random, mut rule: Rule) -> Rule {
+pub fn shuffled(random: &mut Random, mut rule: Rule) -> Rule {
     for i in 1..rule.masks.len() {
         rule.masks.swap(i, random.below(i + 1));
     }
@@ -35,16 +35,17 @@ pub fn small(random: &mut Random, _: bool) -> Rule {
     shuffled(random, rule)
 }
 
-// No propositions at all: everything stays on board 0.
+// No propositions at all: nothing but a constant is left, on board 0.
 pub fn constants(random: &mut Random, _: bool) -> Rule {
     let nodes = random.within(2, 9);
-    dealt(2, 2, formula(random, nodes, Mix { constants: 100, ..TEMPORAL }))
+    dealt(2, 2, formula(random, nodes, TEMPORAL.with(100)))
 }
 
 // Over 16 boards and 64 propositions, of some size.
 pub fn wide(random: &mut Random, large: bool) -> Rule {
     let nodes = if large { random.within(150, 300) } else { random.within(10, 40) };
-    dealt(16, 64, formula(random, nodes, TEMPORAL))
+    let constants = random.pick(&[0, 10]);
+    dealt(16, 64, formula(random, nodes, TEMPORAL.with(constants)))
 }
 
 // Until over two boards, itself or inside something.
@@ -55,7 +56,7 @@ pub fn until(random: &mut Random, _: bool) -> Rule {
     shuffled(random, dealt(2, 2, shape))
 }
 
-fn conjunction(links: &[Vec<u8>]) -> Vec<u8> {
+pub fn conjunction(links: &[Vec<u8>]) -> Vec<u8> {
     right_chain(&vec![AND; links.len() - 1], links)
 }
 

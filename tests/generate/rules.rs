@@ -33,7 +33,8 @@ pub fn rule(random: &mut Random, large: bool) -> Rule {
     for i in 0..propositions {
         masks[random.pick(&used)] |= 1 << i;
     }
-    Rule { masks, propositions: propositions as u64, formula: formula(random, nodes, TEMPORAL.over(propositions)) }
+    let constants = random.pick(&[0, 10]);
+    Rule { masks, propositions: propositions as u64, formula: formula(random, nodes, TEMPORAL.over(propositions).with(constants)) }
 }
 
 impl Rule {

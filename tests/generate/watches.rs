@@ -38,11 +38,11 @@ pub fn go_on(script: &mut Script, random: &mut Random, requests: usize) {
     script.close();
 }
 
-// A tick from any moment up to its close, with no call that is refused for being early.
+// A tick from any moment up to its close, with no call that is refused for being early; nothing where the watch is finished.
 pub fn finish_tick(script: &mut Script, random: &mut Random) {
     while let Some(network) = script.network() {
         let ready: Vec<Call> = left_of(&network).into_iter().filter(|call| call.is_ready(&network)).collect();
-        if ready.is_empty() {
+        if ready.is_empty() || is_finished(&network) {
             break;
         }
         let call = random.pick(&ready);

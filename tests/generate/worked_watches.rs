@@ -3,9 +3,9 @@
 
 use crate::files;
 use crate::formulas::nested;
-use crate::model::formula::{next, Formula};
+use crate::model::formula::{always, and, next, or, Formula};
 use crate::model::state::{Board, Network, Slot, STATE};
-use crate::patterns::{copies, later};
+use crate::patterns::{conjunction, copies, later};
 use crate::rules::Rule;
 use crate::script::{Script, KEPT};
 
@@ -29,6 +29,7 @@ pub fn watched(script: &mut Script) {
     refused_closes(script);
     empty_mask(script);
     finished(script);
+    saved(script);
     lone_foreign_proposition(script);
 }
 
@@ -81,18 +82,15 @@ fn lengths(script: &mut Script) {
     }
 }
 
-// Pending at load and true after a tick; finished at load.
+// Finished at load, also where a constant is all that folding leaves.
 fn verdicts(script: &mut Script) {
-    load(script, &over(&[1], &[4, 1, 64]));
-    script.sample(0, 0);
-    script.step(0);
-    script.close();
-    script.ask();
-    load(script, &over(&[1], &[1]));
-    script.sample(0, 0);
+    for formula in [vec![5, 1], vec![8, 1], vec![4, 1, 64], [vec![8; 88], vec![1]].concat(), vec![1]] {
+        load(script, &over(&[1], &formula));
+        script.sample(0, 0);
+    }
 }
 
-// At the limits of nodes and slots; ties, cut nexts, scores of copies, and none at all.
+// At the limits of nodes and slots; ties, cut nexts, scores of copies, and a part without one; copies that folding cuts once more.
 fn layouts(script: &mut Script) {
     for rule in [
         over(&[1], &nested(8, 87)),
@@ -106,7 +104,9 @@ fn layouts(script: &mut Script) {
         over(TWO, &[6, 64, 7, 65]),
         over(TWO, &[3, 65, 3, 64, 65]),
         over(TWO, &[3, 64, 5, 65]),
-        over(TWO, &[8, 1]),
+        over(TWO, &[6, 1, 65]),
+        over(TWO, &conjunction(&vec![vec![8, 3, 7, 65, 6, 0, 64]; 31])),
+        over(TWO, &conjunction(&vec![vec![8, 3, 7, 65, 6, 0, 64]; 32])),
     ] {
         load(script, &rule);
     }
@@ -159,6 +159,16 @@ fn finished(script: &mut Script) {
     script.step(1);
     script.close();
     script.ask();
+}
+
+// States of watches that were begun when constants were not folded yet, 4 1 64 and 8 1: steps and closes do not fold them either.
+fn saved(script: &mut Script) {
+    for formula in [or(Formula::True, Formula::Proposition(0)), and(Formula::True, next(always(Formula::True)))] {
+        hand(script, &[formula]);
+        script.step(0);
+        script.close();
+        script.ask();
+    }
 }
 
 // A board without propositions samples too.

@@ -1,6 +1,7 @@
-// The call for central progression.
+// The call for central progression: folds, unfolds and resolves.
 
 use super::bytes::put;
+use super::folding::fold;
 use super::formula::{bytes_of, parse_rule, Formula};
 use super::progression::{resolve, unfold};
 use super::refusal::{demand, Refusal};
@@ -26,7 +27,7 @@ pub fn verdict_of(f: &Formula) -> Verdict {
 pub fn central(formula: &[u8], event: u64, output: &mut [u8]) -> Result<(Verdict, u64), Refusal> {
     demand((1..=4096).contains(&formula.len()) && output.len() == OUTPUT, Refusal::Length)?;
     let f = parse_rule(formula).ok_or(Refusal::Formula)?;
-    let unfolded = unfold(&f);
+    let unfolded = unfold(&fold(&f));
     demand(unfolded.nodes() <= MOST_NODES, Refusal::Nodes)?;
     let g = resolve(&unfolded, event);
     let bytes = bytes_of(&g);

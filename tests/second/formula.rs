@@ -34,6 +34,18 @@ pub fn next(f: Formula) -> Formula {
     Next(Rc::new(f))
 }
 
+pub fn until(f: Formula, g: Formula) -> Formula {
+    Until(Rc::new(f), Rc::new(g))
+}
+
+pub fn eventually(f: Formula) -> Formula {
+    Eventually(Rc::new(f))
+}
+
+pub fn always(f: Formula) -> Formula {
+    Always(Rc::new(f))
+}
+
 pub fn constant(value: bool) -> Formula {
     if value {
         True

@@ -1,9 +1,11 @@
 // What must hold of every watch, tried on small random rules: the order within a tick does not matter, no tick gets stuck, every
-// state passes its check, refusals write nothing, and each close gives central progression's verdict, which the meaning bears out.
+// state passes its check, refusals write nothing, and the load and each close give the verdict of the folded rule progressed in one
+// place. Of progression, that the meaning bears its verdicts out.
 
 use crate::formulas::{formula, TEMPORAL};
+use crate::meaning::meets;
 use crate::model::central::{verdict_of, Verdict};
-use crate::model::formula::Formula::{self, *};
+use crate::model::folding::fold;
 use crate::model::formula::{constant, parse_rule};
 use crate::model::progression::{resolve, unfold};
 use crate::model::refusal::Refusal;
@@ -70,7 +72,7 @@ fn watches_agree_with_central_progression_in_any_order() {
     let mut verdicts = [0; 3];
     for _ in 0..2000 {
         let rule = rule(&mut random);
-        let mut whole = parse_rule(&rule.formula).unwrap();
+        let mut whole = fold(&parse_rule(&rule.formula).unwrap());
         let mut state = loaded(&rule.masks, &rule.formula).expect("small rules have room");
         let mut verdict = verdict_of(&whole);
         for ticks in 0..6 {
@@ -95,48 +97,6 @@ fn watches_agree_with_central_progression_in_any_order() {
         verdicts[verdict as usize] += 1;
     }
     assert!(verdicts.iter().all(|&count| count > 200), "{verdicts:?}");
-}
-
-// Whether the endless trace that goes through these events and then from the last back to `again` meets a formula, at each of them.
-fn meets(f: &Formula, events: &[u64], again: usize) -> Vec<bool> {
-    let after = |i: usize| if i + 1 < events.len() { i + 1 } else { again };
-    let all = 0..events.len();
-    match f {
-        False | True => vec![*f == True; events.len()],
-        Proposition(p) => events.iter().map(|event| event >> p & 1 == 1).collect(),
-        Not(f) => meets(f, events, again).iter().map(|met| !met).collect(),
-        And(f, g) => meets(f, events, again).iter().zip(meets(g, events, again)).map(|(l, r)| *l && r).collect(),
-        Or(f, g) => meets(f, events, again).iter().zip(meets(g, events, again)).map(|(l, r)| *l || r).collect(),
-        Next(f) => {
-            let f = meets(f, events, again);
-            all.map(|i| f[after(i)]).collect()
-        }
-        // from i on come the events from i to the last and those from `again` to the last
-        Eventually(f) => {
-            let f = meets(f, events, again);
-            all.map(|i| f[i.min(again)..].contains(&true)).collect()
-        }
-        Always(f) => {
-            let f = meets(f, events, again);
-            all.map(|i| !f[i.min(again)..].contains(&false)).collect()
-        }
-        Until(f, g) => {
-            let (f, g) = (meets(f, events, again), meets(g, events, again));
-            let met = |i: usize| {
-                let mut here = i;
-                // as many ticks as there are events go through all that can come
-                for _ in &g {
-                    if g[here] || !f[here] {
-                        break;
-                    }
-                    here = after(here);
-                }
-                g[here]
-            };
-            all.map(met).collect()
-        }
-        PlaceHolder(_) => unreachable!("a rule has none"),
-    }
 }
 
 #[test]

@@ -4,6 +4,7 @@
 pub mod bytes;
 pub mod central;
 pub mod check;
+pub mod folding;
 pub mod formula;
 pub mod progression;
 pub mod refusal;

@@ -1,25 +1,20 @@
 // Examples for the places where document 01 can be read two ways. a, b, c = 64, 65, 66 on boards 0, 1, 2.
 
 use crate::model::central::central;
-use crate::model::formula::{bytes_of, parse_rule, Formula};
+use crate::model::formula::{parse_rule, Formula};
 use crate::model::progression::unfold;
 use crate::model::refusal::Refusal;
 use crate::model::rule_file::{read, write};
-use crate::model::state::{Board, Network, Slot, STATE};
+use crate::model::state::STATE;
 use crate::model::watch::{ask, close, load, sample, step};
 use crate::replay::{lent_bytes, lent_masks, replay};
 use crate::run::run;
-use crate::trying::{closed, copies, deep, file, input, loaded, network, sampled, stepped};
+use crate::trying::{closed, copies, deep, file, formula, handed, input, layout, loaded, network, progressed, sampled, stepped};
 
 const TWO: &[u64] = &[1, 2];
 
 #[test]
 fn or_has_members_too() {
-    let progressed = |formula: &[u8]| {
-        let mut output = lent_bytes(4096);
-        let (_, length) = central(formula, 0, &mut output).unwrap();
-        output[..length as usize].to_vec()
-    };
     assert_eq!(progressed(&[4, 5, 64, 4, 5, 64, 5, 65]), [4, 64, 65]);
     assert_eq!(progressed(&[3, 3, 5, 64, 5, 65, 5, 64]), [3, 3, 64, 65, 64]);
 }
@@ -35,34 +30,21 @@ fn central_sizes_and_place_holders() {
     });
 }
 
-// The board and the nodes of each slot as loaded.
-fn layout(formula: &[u8]) -> Vec<(usize, Vec<u8>)> {
-    let state = loaded(TWO, formula).unwrap();
-    network(&state).slots.iter().map(|slot| (slot.board, bytes_of(&slot.formula))).collect()
-}
-
 #[test]
 fn copies_of_unfolding_count_in_the_score() {
-    assert_eq!(layout(&[6, 64, 7, 65])[0].0, 1);
+    assert_eq!(layout(TWO, &[6, 64, 7, 65])[0].0, 1);
 }
 
 #[test]
 fn a_tie_goes_to_the_lowest_board() {
-    assert_eq!(layout(&[3, 65, 3, 64, 65]), [(1, vec![3, 65, 129]), (0, vec![3, 64, 130]), (1, vec![65])]);
+    assert_eq!(layout(TWO, &[3, 65, 3, 64, 65]), [(1, vec![3, 65, 129]), (0, vec![3, 64, 130]), (1, vec![65])]);
     assert_eq!(run(&input(TWO, &[3, 65, 3, 64, 65], &[])), "0 pending 3 7\n");
 }
 
 #[test]
 fn a_next_may_be_cut_whole() {
-    assert_eq!(layout(&[3, 64, 5, 65]), [(0, vec![3, 64, 129]), (1, vec![5, 65])]);
+    assert_eq!(layout(TWO, &[3, 64, 5, 65]), [(0, vec![3, 64, 129]), (1, vec![5, 65])]);
     assert_eq!(run(&input(TWO, &[3, 64, 5, 65], &[])), "0 pending 2 5\n");
-}
-
-#[test]
-fn without_propositions_all_stays_on_board_0() {
-    let state = loaded(&[0, 1], &[3, 5, 1, 8, 0]).unwrap();
-    let slots = network(&state).slots;
-    assert_eq!((slots.len(), slots[0].board), (1, 0));
 }
 
 // Surviving slots keep their boards, and one that has become a lone place holder stays a slot.
@@ -97,21 +79,6 @@ fn largest_unfoldings() {
         assert_eq!(unfolded(4095).nodes(), 8_398_846);
         assert_eq!(loaded(&[1], &[vec![8; 1023], vec![64]].concat()), Err(Refusal::Nodes));
     });
-}
-
-// A state with these masks, samples where there are any, and slots: board, mark and formula, each filling its stretch.
-fn handed(boards: &[(u64, Option<u64>)], slots: &[(usize, bool, Formula)]) -> Vec<u8> {
-    let boards = boards.iter().map(|&(mask, sample)| Board { mask, sample: sample.unwrap_or(0), sampled: sample.is_some() }).collect();
-    let mut network = Network { ticks: 0, nodes: 0, boards, slots: vec![] };
-    for (board, stepped, formula) in slots {
-        network.slots.push(Slot { board: *board, stepped: *stepped, start: network.nodes, formula: formula.clone() });
-        network.nodes += formula.nodes() as usize;
-    }
-    network.bytes()
-}
-
-fn formula(bytes: &[u8]) -> Formula {
-    crate::model::formula::parse_slot(bytes).unwrap()
 }
 
 #[test]

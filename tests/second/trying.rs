@@ -1,11 +1,21 @@
-// What the tests of the second program share: rule files, watches moved along a tick at a time, and room for deep formulas.
+// What the tests of the second program share: what central leaves, rule files, watches moved along a tick at a time, states as someone
+// might hand them over, and room for deep formulas.
 
+use crate::model::central::{central, OUTPUT};
 use crate::model::check::network_of;
+use crate::model::formula::{bytes_of, parse_slot, Formula};
 use crate::model::refusal::Refusal;
 use crate::model::rule_file::write;
-use crate::model::state::{Network, STATE};
+use crate::model::state::{Board, Network, Slot, STATE};
 use crate::model::watch::{close, load, sample, step};
 use crate::replay::lent_bytes;
+
+// What central makes of a formula under event 0.
+pub fn progressed(formula: &[u8]) -> Vec<u8> {
+    let mut output = lent_bytes(OUTPUT as u64);
+    let (_, length) = central(formula, 0, &mut output).unwrap();
+    output[..length as usize].to_vec()
+}
 
 // The file of a rule over these boards, their masks given.
 pub fn file(masks: &[u64], formula: &[u8]) -> Vec<u8> {
@@ -25,6 +35,12 @@ pub fn loaded(masks: &[u64], formula: &[u8]) -> Result<Vec<u8>, Refusal> {
 
 pub fn network(state: &[u8]) -> Network {
     network_of(state).expect("a state that passes the check")
+}
+
+// The board and the nodes of each slot as loaded.
+pub fn layout(masks: &[u64], formula: &[u8]) -> Vec<(usize, Vec<u8>)> {
+    let state = loaded(masks, formula).unwrap();
+    network(&state).slots.iter().map(|slot| (slot.board, bytes_of(&slot.formula))).collect()
 }
 
 // Samples all boards, each its part of the event.
@@ -53,6 +69,22 @@ pub fn closed(state: &[u8]) -> Result<Vec<u8>, Refusal> {
     Ok(second)
 }
 
+// A state with these masks, samples where there are any, and slots: board, mark and formula, each filling its stretch.
+pub fn handed(boards: &[(u64, Option<u64>)], slots: &[(usize, bool, Formula)]) -> Vec<u8> {
+    let boards = boards.iter().map(|&(mask, sample)| Board { mask, sample: sample.unwrap_or(0), sampled: sample.is_some() }).collect();
+    let mut network = Network { ticks: 0, nodes: 0, boards, slots: vec![] };
+    for (board, stepped, formula) in slots {
+        network.slots.push(Slot { board: *board, stepped: *stepped, start: network.nodes, formula: formula.clone() });
+        network.nodes += formula.nodes() as usize;
+    }
+    network.bytes()
+}
+
+// The formula that these bytes are.
+pub fn formula(bytes: &[u8]) -> Formula {
+    parse_slot(bytes).unwrap()
+}
+
 // The rule file and the events, as the run program reads them.
 pub fn input(masks: &[u64], formula: &[u8], events: &[u64]) -> Vec<u8> {
     let mut input = file(masks, formula);
@@ -60,11 +92,14 @@ pub fn input(masks: &[u64], formula: &[u8], events: &[u64]) -> Vec<u8> {
     input
 }
 
-// An and-chain of so many copies of a or b.
+// An and-chain of so many copies of a formula.
+pub fn chain(count: usize, link: &[u8]) -> Vec<u8> {
+    [[&[3], link].concat().repeat(count - 1), link.to_vec()].concat()
+}
+
+// The same of a or b.
 pub fn copies(count: usize) -> Vec<u8> {
-    let mut formula = [3, 4, 64, 65].repeat(count - 1);
-    formula.extend([4, 64, 65]);
-    formula
+    chain(count, &[4, 64, 65])
 }
 
 // Runs a test that walks down thousands of levels.

@@ -2,6 +2,7 @@
 
 use super::central::{verdict_of, Verdict};
 use super::check::network_of;
+use super::folding::fold;
 use super::formula::{
     and, constant, not, or,
     Formula::{self, *},
@@ -15,7 +16,7 @@ use super::state::{Network, STATE};
 pub fn load(file: &[u8], state: &mut [u8]) -> Result<(), Refusal> {
     demand(state.len() == STATE, Refusal::Length)?;
     let rule = rule_of(file)?;
-    let network = Network::of(&rule.masks, lay_rule(&rule.formula, &rule.masks), 0)?;
+    let network = Network::of(&rule.masks, lay_rule(&fold(&rule.formula), &rule.masks), 0)?;
     state.copy_from_slice(&network.bytes());
     Ok(())
 }

@@ -1,15 +1,17 @@
 // All worked values of document 01.
 
 use crate::model::central::{central, Verdict};
-use crate::model::formula::parse_rule;
+use crate::model::folding::fold;
+use crate::model::formula::{bytes_of, parse_rule};
 use crate::model::progression::unfold;
 use crate::model::refusal::Refusal;
 use crate::model::rule_file::{read, write, Counts};
+use crate::model::splitting::lay_rule;
 use crate::model::state::STATE;
 use crate::model::watch::{ask, close, sample, step, Standing};
 use crate::replay::{lent_bytes, lent_masks};
 use crate::run::run;
-use crate::trying::{closed, copies, loaded, network, sampled, stepped};
+use crate::trying::{chain, closed, copies, input, loaded, network, sampled, stepped};
 
 // What central answers: verdict and formula, zeros past it checked and left out.
 fn progress(formula: &[u8], event: u64) -> Result<(Verdict, Vec<u8>), Refusal> {
@@ -44,11 +46,21 @@ fn central_always_eventually() {
 }
 
 #[test]
-fn central_constants_and_negations() {
-    gives(&[5, 1], 0, &[1]);
-    gives(&[5, 2, 2, 64], 0, &[2, 2, 64]);
-    gives(&[8, 1], 0, &[8, 1]);
-    gives(&[4, 1, 64], 0, &[1]);
+fn central_whatever_the_event() {
+    for event in [0, 1, 2, u64::MAX] {
+        gives(&[5, 1], event, &[1]);
+        gives(&[5, 2, 2, 64], event, &[2, 2, 64]);
+        gives(&[8, 1], event, &[1]);
+        gives(&[4, 1, 64], event, &[1]);
+        gives(&[4, 5, 64, 4, 5, 64, 5, 65], event, &[4, 64, 65]);
+        gives(&nested(88, 1), event, &[1]);
+    }
+}
+
+#[test]
+fn central_folds() {
+    gives(&[6, 1, 64], 0, &[6, 1, 64]);
+    gives(&[8, 3, 64, 1], 1, &[8, 64]);
 }
 
 #[test]
@@ -56,15 +68,15 @@ fn central_tautology_stays_pending() {
     gives(&[4, 7, 64, 8, 2, 64], 0, &[4, 7, 64, 8, 2, 64]);
 }
 
-fn nested(count: usize) -> Vec<u8> {
-    [vec![8; count], vec![64]].concat()
+fn nested(count: usize, leaf: u8) -> Vec<u8> {
+    [vec![8; count], vec![leaf]].concat()
 }
 
 #[test]
 fn central_nested_always() {
-    assert_eq!(unfold(&parse_rule(&nested(87)).unwrap()).nodes(), 4090);
-    assert!(progress(&nested(87), 1).is_ok());
-    assert_eq!(progress(&nested(88), 1), Err(Refusal::Nodes));
+    assert_eq!(unfold(&parse_rule(&nested(87, 64)).unwrap()).nodes(), 4090);
+    assert!(progress(&nested(87, 64), 1).is_ok());
+    assert_eq!(progress(&nested(88, 64), 1), Err(Refusal::Nodes));
 }
 
 #[test]
@@ -84,12 +96,25 @@ fn standing(verdict: Verdict, ticks: u64, slots: u64, nodes: u64) -> Result<Stan
 }
 
 #[test]
-fn true_or_a_waits_a_tick() {
-    let state = loaded(&[1], &[4, 1, 64]).unwrap();
-    assert_eq!(ask(&state), standing(Verdict::Pending, 0, 1, 3));
-    let before_close = stepped(&state, 0);
-    assert_eq!(ask(&before_close), standing(Verdict::Pending, 0, 1, 3));
-    assert_eq!(ask(&closed(&before_close).unwrap()), standing(Verdict::True, 1, 1, 1));
+fn rules_that_fold_to_true_are_finished_at_load() {
+    for formula in [vec![5, 1], vec![8, 1], vec![4, 1, 64], nested(88, 1)] {
+        let state = loaded(&[1], &formula).unwrap();
+        assert_eq!(ask(&state), standing(Verdict::True, 0, 1, 1));
+        assert_eq!(run(&input(&[1], &formula, &[0])), "0 true 1 1\n");
+    }
+}
+
+// Of each copy 6 0 64 becomes 64, which changes the choice of what stands around it.
+#[test]
+fn folded_copies_need_more_slots() {
+    let masks = &[1, 2];
+    let (written, folded) = (chain(32, &[8, 3, 7, 65, 6, 0, 64]), chain(32, &[8, 3, 7, 65, 64]));
+    let whole = parse_rule(&written).unwrap();
+    assert_eq!(bytes_of(&fold(&whole)), folded);
+    assert_eq!(lay_rule(&whole, masks).len(), 33);
+    assert_eq!(lay_rule(&fold(&whole), masks).len(), 65);
+    assert_eq!(loaded(masks, &written), Err(Refusal::Slots));
+    assert_eq!(run(&input(masks, &written, &[])), "refused 7\n");
 }
 
 #[test]
@@ -139,9 +164,9 @@ fn until_is_stepped_in_its_own_stretch() {
 
 #[test]
 fn nested_always_at_load() {
-    let state = loaded(&[1], &nested(87)).unwrap();
+    let state = loaded(&[1], &nested(87, 64)).unwrap();
     assert_eq!(ask(&state), standing(Verdict::Pending, 0, 1, 4090));
-    assert_eq!(loaded(&[1], &nested(88)), Err(Refusal::Nodes));
+    assert_eq!(loaded(&[1], &nested(88, 64)), Err(Refusal::Nodes));
 }
 
 #[test]

@@ -23,7 +23,10 @@ pub record BeginAsk (masks bytes state : List ℕ) : Type 0 where
   pub ruled : RuleGiven masks bytes rule
   pub long : Formed state
 
+-- what is answered and left where a watch of the rule is begun
+pub record RuleBegun (masks : List ℕ) (rule : Formula) (state state′ : List ℕ) (answer : Outcome) : Type 0 where
+  pub says : saidOutcome answer ≡ beginSays (formIn state) masks rule
+  pub leaves : state′ ≡ left (beginSays (formIn state) masks rule) (loadedState (formIn state) masks rule) state
+
 abbrev pub Begun : List ℕ → List ℕ → List ℕ → List ℕ → Outcome → Type 0
-Begun masks bytes state state′ answer =
-    (rule : Formula) → RuleGiven masks bytes rule
-    → (saidOutcome answer ≡ beginSays (formIn state) masks rule) × (state′ ≡ left (beginSays (formIn state) masks rule) (loadedState (formIn state) masks rule) state)
+Begun masks bytes state state′ answer = (rule : Formula) → RuleGiven masks bytes rule → RuleBegun masks rule state state′ answer

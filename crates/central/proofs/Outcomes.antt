@@ -1,5 +1,5 @@
 -- What `central` answers and leaves, one law for each outcome, over plain lists. Assumes nothing.
-use mathlib.Core.Path.{_≡_, sym, ap, _∙_}
+use mathlib.Core.Path.{_≡_, sym, ap, _∙_, subst}
 use mathlib.Core.Bool.{true, false}
 use mathlib.Core.List.{List, [], append-nil}
 use mathlib.Core.Option.{some}
@@ -22,10 +22,11 @@ use Rattle.ltl.specs.Decode.{decoded, isRule, formulaOf, someFormula}
 use Rattle.lists.proofs.Tests.{both-0, both-1}
 use Rattle.ltl.proofs.Decoding.{rule-is, decoded-of, wider}
 use Rattle.nodes.specs.Begins.{Front}
-use Rattle.sizing.specs.Sizes.{CountsUnfolded}
+use Rattle.folded.specs.Folding.{folded}
 use Rattle.central.specs.declared.CentralAnswer.the-variants.{Refused, Progressed}
-use Rattle.central.specs.Central.{centralLengthsOk, answerOf, centralSays, Centrally}
-use Rattle.central.specs.Progressing.{ProgressedTo}
+use Rattle.central.specs.declared.CentralAnswer.{CentralAnswer}
+use Rattle.central.specs.Central.{centralLengthsOk, answerOf, startOf, centralSays, Centrally}
+use Rattle.central.specs.Folded.{foldedSays, Outcomed, AsFolded}
 
 -- ---- what the checks tell
 pub record CentralPassed (n room : ℕ) : Type 0 where
@@ -56,11 +57,29 @@ whole s e =
       same = ap someFormula (ap decoded (t .bytes) ∙ decoded-of f c);
     }
 
+-- ---- a formula that is folded
+module _ (g : formula.Formula) (event : Event) (out : List ℕ) where
+  abbrev outcome : List ℕ
+  outcome = padded centralNodesMost (encode (progressed event g))
+
+  module _ {count : ℕ} (c : count ≡ min (size (unfolded g)) (nodesRoom + 1)) where
+    pub folded-nodes : centralNodesMost < count → Outcomed g event out out (Refused Nodes)
+    folded-nodes h =
+        let e : foldedSays g event ≡ refused 8 = order-refused 8 _ _ _ (lt-leb (size (unfolded g)) centralNodesMost (omega arith)) in
+        record { says = sym e; leaves = sym (ap (λ (x : Said). left x outcome out) e ∙ left-refused Nodes outcome out) }
+
+    pub folded-progressed : count ≤ centralNodesMost → (out′ : List ℕ) (k : ℕ) (v : Verdict) → out′ ≡ outcome → k ≡ size (progressed event g) → v ≡ verdictOf (progressed event g)
+        → Outcomed g event out out′ (Progressed (record { verdict = v; length = k }))
+    folded-progressed h out′ k v b i q =
+        let says : foldedSays g event ≡ accepted (answerOf (progressed event g)) = order-ok 8 _ _ _ (le-leb (size (unfolded g)) centralNodesMost (omega arith)) ∙ order-done _ in
+        record { says = rw (q, i) (sym says); leaves = b ∙ sym (ap (λ (x : Said). left x outcome out) says ∙ left-accepted (answerOf (progressed event g)) outcome out) }
+
+-- ---- the call
 module _ (s : List ℕ) (event : Event) (out : List ℕ) where
   -- a refusal leaves the output as it was
   refusal : (why : Refusal) → centralSays s event (length out) ≡ refused (numberOf why) → Centrally s event out out (Refused why)
   refusal why e =
-      let o = padded centralNodesMost (encode (progressed event (formulaOf s))) in
+      let o = padded centralNodesMost (encode (progressed event (startOf s))) in
       record { says = sym e; leaves = sym (ap (λ (x : Said). left x o out) e ∙ left-refused why o out) }
 
   pub refused-length : centralLengthsOk (length s) (length out) ≡ false → Centrally s event out out (Refused Length)
@@ -72,33 +91,13 @@ module _ (s : List ℕ) (event : Event) (out : List ℕ) where
     unfolding centralSays
     refused-formula e = refusal Formula (order-ok 1 _ _ _ l ∙ order-refused 6 _ _ _ e)
 
-    module _ (r : isRule propositionsMost s ≡ true) (count : ℕ) (n : CountsUnfolded s count) where
-      counted : count ≡ min (size (unfolded (formulaOf s))) (nodesRoom + 1)
-      counted = let w = whole s r in n (w .formula-is) (w .front) ∙ ap (λ (f : formula.Formula). min (size (unfolded f)) (nodesRoom + 1)) (sym (w .same))
-
-      pub refused-nodes : centralNodesMost < count → Centrally s event out out (Refused Nodes)
+    module _ (r : isRule propositionsMost s ≡ true) where
+      says-folded : centralSays s event (length out) ≡ foldedSays (startOf s) event
       unfolding centralSays
-      refused-nodes h =
-          let c = counted in
-          refusal Nodes (order-ok 1 _ _ _ l ∙ order-ok 6 _ _ _ r ∙ order-refused 8 _ _ _ (lt-leb (size (unfolded (formulaOf s))) centralNodesMost (omega arith)))
+      says-folded = order-ok 1 _ _ _ l ∙ order-ok 6 _ _ _ r
 
-      pub count-is : count ≤ centralNodesMost → count ≡ size (unfolded (whole s r .formula-is))
-      count-is h = let c = n (whole s r .formula-is) (whole s r .front) in omega arith
-
-      pub progressed-to : count ≤ centralNodesMost → (out′ : List ℕ) (k : ℕ) (v : Verdict) → ProgressedTo s event out out′ k
-          → ((g : formula.Formula) (e : out′ ≡ padded (length out) (encode g)) → v ≡ verdictOf g)
-          → Centrally s event out out′ (Progressed (record { verdict = v; length = k }))
-      unfolding centralSays
-      progressed-to h out′ k v p q =
-          let c = counted in
+      pub progressed-rule : {out′ : List ℕ} {answer : CentralAnswer} → AsFolded s event out out′ answer → Centrally s event out out′ answer
+      progressed-rule {out′} {answer} h =
           let w = whole s r in
-          let g = progressed event (formulaOf s) in
-          let z = central-passed (length s) (length out) l in
-          let says : centralSays s event (length out) ≡ accepted (answerOf g) =
-          order-ok 1 _ _ _ l ∙ order-ok 6 _ _ _ r ∙ order-ok 8 _ _ _ (le-leb (size (unfolded (formulaOf s))) centralNodesMost (omega arith)) ∙ order-done _ in
-          let b : out′ ≡ padded (length out) (encode g) = p .bytes (w .formula-is) (w .front) ∙ ap (λ (f : formula.Formula). padded (length out) (encode (progressed event f))) (sym (w .same)) in
-          let i : k ≡ size g = p .count (w .formula-is) (w .front) ∙ ap (λ (f : formula.Formula). size (progressed event f)) (sym (w .same)) in
-          record {
-            says = rw (q g b, i) (sym says);
-            leaves = b ∙ ap (λ (m : ℕ). padded m (encode g)) (z .room-is) ∙ sym (ap (λ (x : Said). left x (padded centralNodesMost (encode g)) out) says ∙ left-accepted (answerOf g) (padded centralNodesMost (encode g)) out);
-          }
+          let o = subst (λ (f : formula.Formula). Outcomed (folded f) event out out′ answer) (sym (w .same)) (h (w .formula-is) (w .front)) in
+          record { says = o .says ∙ sym says-folded; leaves = o .leaves ∙ ap (λ (x : Said). left x (padded centralNodesMost (encode (progressed event (startOf s)))) out) (sym says-folded) }

@@ -13,6 +13,7 @@ use Rattle.ltl.specs.Formula.{Formula, size, encode}
 use Rattle.ltl.specs.Meaning.{Event}
 use Rattle.ltl.specs.Progression.{unfolded, progressed, verdictOf}
 use Rattle.ltl.specs.Decode.{formulaOf, isRule}
+use Rattle.folded.specs.Folding.{folded}
 use Rattle.central.specs.declared.CentralAnswer.{CentralAnswer}
 use Rattle.central.specs.declared.CentralAnswer.the-variants.{Refused, Progressed}
 
@@ -24,14 +25,18 @@ centralLengthsOk formula room = both (leb 1 formula) (both (leb formula centralN
 abbrev pub answerOf : Formula → List ℕ
 answerOf g = verdictNumber (verdictOf g) ∷ size g ∷ []
 
+-- the formula that is progressed: the one given, with its constants folded
+abbrev pub startOf : List ℕ → Formula
+startOf formula = folded (formulaOf formula)
+
 unfoldable pub centralSays : List ℕ → Event → ℕ → Said
 centralSays formula event room =
     inOrder
     (check 1 (centralLengthsOk (length formula) room)
     ∷ check 6 (isRule propositionsMost formula)
-    ∷ check 8 (leb (size (unfolded (formulaOf formula))) centralNodesMost)
+    ∷ check 8 (leb (size (unfolded (startOf formula))) centralNodesMost)
     ∷ [])
-    (accepted (answerOf (progressed event (formulaOf formula))))
+    (accepted (answerOf (progressed event (startOf formula))))
 
 -- the enum's cases by number and values
 abbrev pub saidCentral : CentralAnswer → Said
@@ -41,4 +46,4 @@ saidCentral (Progressed p) = accepted (verdictNumber (p .verdict) ∷ p .length 
 -- the promise: the answer, and the lent output, zero past the formula
 pub record Centrally (formula : List ℕ) (event : Event) (output output′ : List ℕ) (answer : CentralAnswer) : Type 0 where
   pub says : saidCentral answer ≡ centralSays formula event (length output)
-  pub leaves : output′ ≡ left (centralSays formula event (length output)) (padded centralNodesMost (encode (progressed event (formulaOf formula)))) output
+  pub leaves : output′ ≡ left (centralSays formula event (length output)) (padded centralNodesMost (encode (progressed event (startOf formula)))) output

@@ -1,8 +1,9 @@
-// The call `central`: a whole rule progressed in one place. One loop counts what the formula unfolds to, one unfolds it into the
-// output, and one resolves it there.
+// The call `central`: a whole rule progressed in one place. Where the formula has constants to fold, one loop folds it. Then one loop counts
+// what it unfolds to, one unfolds it into the output, and one resolves it there.
 ghost use mathlib.Core.Path.{_≡_};
 ghost use Rattle.central.specs.Central.{centralLengthsOk, Centrally};
-ghost use Rattle.limits.specs.Limits.{nodesRoom};
+ghost use Rattle.limits.specs.Limits.{centralNodesMost, nodesRoom};
+ghost use Rattle.central.specs.Folded.{FormulaGiven, FoldGiven, AsGiven, AsFolded};
 ghost use Rattle.outlining.specs.Outlined.{smallNodes};
 ghost use Rattle.central.specs.Progressing.{ProgressableIn, ProgressableWithin, Progressable, UnfoldsAll, ProgressesIn, ProgressedTo};
 use answers::Refusal;
@@ -102,6 +103,62 @@ fn progress_into(output: &mut [u8], formula: &[u8], event: u64, size: usize) -> 
     n
 }
 
+// Progresses a formula that is folded, where what it unfolds to is within the limit.
+fn progress_folded(formula: &[u8], event: u64, output: &mut [u8]) -> CentralAnswer
+    requires { ⌜ FormulaGiven centralNodesMost (now formula) (now output) ⌝ }
+    ensures { λ r. ⌜ AsGiven (now (formula .entry)) event (now (output .entry)) (now (output .exit)) r ⌝ }
+{
+    let unfolded = sizing::count_unfolded(formula);
+    if CENTRAL_NODES_MOST < unfolded {
+        return CentralAnswer::Refused(Refusal::Nodes);
+    }
+    let n = progress_into(output, formula, event, unfolded);
+    CentralAnswer::Progressed(Progress {
+        verdict: verdicts::verdict(output[0]),
+        length: n,
+    })
+}
+
+// Folds the formula into p and progresses it.
+fn fold_into(formula: &[u8], p: &mut [u8], event: u64, output: &mut [u8]) -> CentralAnswer
+    requires { ⌜ FoldGiven (now formula) (now p) (now output) ⌝ }
+    ensures { λ r. ⌜ AsFolded (now (formula .entry)) event (now (output .entry)) (now (output .exit)) r ⌝ }
+{
+    let w = folding::fold(formula, p);
+    progress_folded(&p[w..], event, output)
+}
+
+// The same with an array of its own: the output must stay as it was until the last check has passed.
+fn fold_small(formula: &[u8], event: u64, output: &mut [u8]) -> CentralAnswer
+    requires { ⌜ FormulaGiven smallNodes (now formula) (now output) ⌝ }
+    ensures { λ r. ⌜ AsFolded (now (formula .entry)) event (now (output .entry)) (now (output .exit)) r ⌝ }
+{
+    let mut folded = [1u8; SMALL_NODES];
+    fold_into(formula, &mut folded, event, output)
+}
+
+fn fold_large(formula: &[u8], event: u64, output: &mut [u8]) -> CentralAnswer
+    requires { ⌜ FormulaGiven centralNodesMost (now formula) (now output) ⌝ }
+    ensures { λ r. ⌜ AsFolded (now (formula .entry)) event (now (output .entry)) (now (output .exit)) r ⌝ }
+{
+    let mut folded = [1u8; NODES_ROOM];
+    fold_into(formula, &mut folded, event, output)
+}
+
+// Folds the formula, unless there is nothing to fold, and progresses it.
+fn progress_rule(formula: &[u8], event: u64, output: &mut [u8]) -> CentralAnswer
+    requires { ⌜ FormulaGiven centralNodesMost (now formula) (now output) ⌝ }
+    ensures { λ r. ⌜ AsFolded (now (formula .entry)) event (now (output .entry)) (now (output .exit)) r ⌝ }
+{
+    if folding::is_bare(formula) {
+        return progress_folded(formula, event, output);
+    }
+    if formula.len() <= SMALL_NODES {
+        return fold_small(formula, event, output);
+    }
+    fold_large(formula, event, output)
+}
+
 // Progresses a formula over one event.
 pub fn central(formula: &[u8], event: u64, output: &mut [u8]) -> CentralAnswer
     ensures { λ r. ⌜ Centrally (now (formula .entry)) event (now (output .entry)) (now (output .exit)) r ⌝ }
@@ -112,13 +169,5 @@ pub fn central(formula: &[u8], event: u64, output: &mut [u8]) -> CentralAnswer
     if !owing::is_rule(formula, PROPOSITIONS_MOST as u64) {
         return CentralAnswer::Refused(Refusal::Formula);
     }
-    let unfolded = sizing::count_unfolded(formula);
-    if CENTRAL_NODES_MOST < unfolded {
-        return CentralAnswer::Refused(Refusal::Nodes);
-    }
-    let n = progress_into(output, formula, event, unfolded);
-    CentralAnswer::Progressed(Progress {
-        verdict: verdicts::verdict(output[0]),
-        length: n,
-    })
+    progress_rule(formula, event, output)
 }

@@ -18,7 +18,7 @@ use Rattle.state.specs.Fields.{boardsIn, sampleIn, masksIn}
 use Rattle.state.specs.Calls.{doneIn}
 use Rattle.state.proofs.Listed.{masks-length}
 use Rattle.closing.specs.Close.{Closes}
-use Rattle.loading.specs.Load.{ruleIn}
+use Rattle.loading.specs.Load.{startIn}
 use Rattle.watching.specs.Watch.{StateWatch, Tick}
 use Rattle.watching.proofs.Started.{Started}
 use Rattle.watching.proofs.Ticked.{watch-started, close-passed}
@@ -42,7 +42,7 @@ module _ (file : List ℕ) (us : List Event) (s : List ℕ) (w : Watched file us
   masks = rule-file.masksInFile file
 
   abbrev rule : Formula
-  rule = ruleIn file
+  rule = startIn file
 
   started : Started p masks rule us s
   started = watch-started p masks rule (watched w)
@@ -58,9 +58,9 @@ module _ (file : List ℕ) (us : List Event) (s : List ℕ) (w : Watched file us
       → doneIn t ≡ true → doneIn u ≡ true → SameGiven c d → (b : ℕ) → b < boardsIn s → sampleIn t b ≡ sampleIn u b
   samples-same other vs r v one t u c d done-t done-u same b l =
       let n = ap length one in
-      let z = watch-started (rule-file.propositionsInFile other) (rule-file.masksInFile other) (ruleIn other) (watched v) in
+      let z = watch-started (rule-file.propositionsInFile other) (rule-file.masksInFile other) (startIn other) (watched v) in
       let g = sample-given p masks rule us s started t c done-t b l in
-      let k = sample-given (rule-file.propositionsInFile other) (rule-file.masksInFile other) (ruleIn other) vs r z u d done-u b (omega (arith, masks-length s, masks-length r)) in
+      let k = sample-given (rule-file.propositionsInFile other) (rule-file.masksInFile other) (startIn other) vs r z u d done-u b (omega (arith, masks-length s, masks-length r)) in
       g .2 ∙ same b (g .0) (k .0) (g .1) (k .1) ∙ sym (k .2)
 
   pub bytes-same : (d e : Event) (a b : List ℕ) (x : Ticked masks s d a) (y : Ticked masks s e b) → SameGiven (x .calls) (y .calls) → a ≡ b
@@ -84,10 +84,10 @@ pub networks-same : (file : List ℕ) (us : List Event) (s : List ℕ) → Watch
     → (d e : Event) (a b : List ℕ) (x : Ticked (rule-file.masksInFile file) s d a) (y : Ticked (rule-file.masksInFile other) r e b) → SameGiven (x .calls) (y .calls) → OneNetwork a b
 networks-same file us s w other vs r v one d e a b x y same =
     let m : rule-file.masksInFile other ≡ rule-file.masksInFile file = sym (masks-are other vs r v) ∙ sym (one .masks) ∙ masks-are file us s w in
-    let z = subst (λ (ms : List ℕ). StateWatch (rule-file.propositionsInFile other) ms (ruleIn other) vs r) m (watched v) in
+    let z = subst (λ (ms : List ℕ). StateWatch (rule-file.propositionsInFile other) ms (startIn other) vs r) m (watched v) in
     record {
       masks = masks-are file _ a (ticked w d x) ∙ sym m ∙ sym (masks-are other _ b (ticked v e y));
-      slots = networks-agree (rule-file.propositionsInFile file) (rule-file.masksInFile file) (ruleIn file) us s (watched w) (rule-file.propositionsInFile other) (ruleIn other) vs r z (one .slots) d e a b
+      slots = networks-agree (rule-file.propositionsInFile file) (rule-file.masksInFile file) (startIn file) us s (watched w) (rule-file.propositionsInFile other) (startIn other) vs r z (one .slots) d e a b
           (tick file us s w x) (tick other vs r v y)
           (samples-same file us s w other vs r v (one .masks) (x .last) (y .last) (x .calls) (y .calls) (close-done (x .last) _ a (x .closes)) (close-done (y .last) _ b (y .closes)) same);
     }

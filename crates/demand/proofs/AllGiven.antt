@@ -18,7 +18,7 @@ use Rattle.rules.specs.RuleFile as rule-file
 use Rattle.state.specs.Fields.{boardsIn, slotsIn, masksIn}
 use Rattle.state.specs.Clauses.{inMask}
 use Rattle.state.specs.Calls.{finishedIn, sampleLeaves, stepLeaves}
-use Rattle.loading.specs.Load.{ruleIn}
+use Rattle.loading.specs.Load.{startIn}
 use Rattle.giving.specs.Give.{After, sampledFrom, steppedBelow, givenUnder, Comes}
 use Rattle.giving.proofs.Determined.{comes-determined}
 use Rattle.giving.proofs.Following.{sampled-more, sampled-all, stepped-more, stepped-all, given-outside, given-stepped}
@@ -108,22 +108,22 @@ module _ (file : List ℕ) (us : List Event) (s : List ℕ) (w : Watched file us
   abbrev masks : List ℕ
   masks = rule-file.masksInFile file
 
-  start : Started p masks (ruleIn file) us s
-  start = watch-started p masks (ruleIn file) (watched w)
+  start : Started p masks (startIn file) us s
+  start = watch-started p masks (startIn file) (watched w)
 
   unfinished : finishedIn s ≡ false
-  unfinished = pending-unfinished s (watch-verdict p masks (ruleIn file) us s (watched w) ∙ pending)
+  unfinished = pending-unfinished s (watch-verdict p masks (startIn file) us s (watched w) ∙ pending)
 
   module _ (inside : inMask e (unionWith 0 (masksIn s)) ≡ true) where
-    far : ComesFar p masks (ruleIn file) us s start unfinished e (givenUnder s e) 0
-    far = all-come p masks (ruleIn file) us s start unfinished e inside
+    far : ComesFar p masks (startIn file) us s start unfinished e (givenUnder s e) 0
+    far = all-come p masks (startIn file) us s start unfinished e inside
 
     pub give-gets : Gets (Comes (givenUnder s e)) Done
     give-gets = record { leaves = far .last; allowed = far .comes; only = λ t answer c. comes-determined (givenUnder s e) t (far .last) answer Done c (far .comes) .0 }
 
     pub give-reaches : (t : List ℕ) (answer : Outcome) → Comes (givenUnder s e) t answer → Reaches masks s e t
     give-reaches t answer c =
-        subst (λ (u : List ℕ). Reaches masks s e u) (comes-determined (givenUnder s e) (far .last) t Done answer (far .comes) c .1) (reaches p masks (ruleIn file) us s start unfinished e far)
+        subst (λ (u : List ℕ). Reaches masks s e u) (comes-determined (givenUnder s e) (far .last) t Done answer (far .comes) c .1) (reaches p masks (startIn file) us s start unfinished e far)
 
   -- an event with a bit in no mask gets 12, and the state stays
   pub give-stays : inMask e (unionWith 0 (masksIn s)) ≡ false → Comes (givenUnder s e) s (Refused Outside)

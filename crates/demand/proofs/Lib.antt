@@ -7,6 +7,7 @@ pub mod Watches
 pub mod Getting
 pub mod Agreeing
 pub mod Repeating
+pub mod Written
 pub mod Demand
 pub mod Sentences
 pub mod Ticks

@@ -11,7 +11,7 @@ use Rattle.state.specs.declared.Form.{Form}
 use Rattle.state.specs.Form.{formIn}
 use Rattle.state.specs.Calls.{loadedState}
 use Rattle.state.proofs.Forms.{form-one}
-use Rattle.loading.specs.Load.{ruleIn}
+use Rattle.loading.specs.Load.{startIn}
 use Rattle.demand.specs.Called.{Ticked, Watched, begun, ticked}
 use Rattle.demand.proofs.Loaded.{load-accepted}
 use Rattle.demand.proofs.Agreeing.{event-same}
@@ -32,7 +32,7 @@ last-same (u ∷ us) (v ∷ vs) d e h =
 
 pub watches-same : {file : List ℕ} {us vs : List Event} {s r : List ℕ} → Watched file us s → Watched file vs r → us ≡ vs → s ≡ r
 watches-same {file} (begun {before = b} {s = s} l) (begun {before = c} {s = r} m) h =
-    load-accepted file b s l .state-is ∙ ap (λ (φ : Form). loadedState φ (masksInFile file) (ruleIn file)) (form-one (formIn b) (formIn c)) ∙ sym (load-accepted file c r m .state-is)
+    load-accepted file b s l .state-is ∙ ap (λ (φ : Form). loadedState φ (masksInFile file) (startIn file)) (form-one (formIn b) (formIn c)) ∙ sym (load-accepted file c r m .state-is)
 watches-same (begun l) (ticked {us = vs} v e y) h = absurd (none-more vs e h)
 watches-same (ticked {us = us} w d x) (begun m) h = absurd (none-more us d (sym h))
 watches-same {file} (ticked {us = us} {s = s} {s′ = a} w d x) (ticked {us = vs} {s = r} {s′ = b} v e y) h =

@@ -19,7 +19,7 @@ use Rattle.state.specs.Form.{formIn, stateLength}
 use Rattle.state.specs.Calls.{sampleSays, stepSays, closeSays, loadedState}
 use Rattle.state.proofs.Forms.{form-at}
 use Rattle.telling.specs.declared.AskAnswer.the-variants.{Told}
-use Rattle.loading.specs.Load.{ruleIn, loadSays}
+use Rattle.loading.specs.Load.{startIn, loadSays}
 use Rattle.stars.proofs.States.{LoadGives, SampleGives, StepGives, CloseGives, LoadRefuses, CloseRefuses, AskGives}
 use Rattle.demand.specs.Called as call
 use Rattle.demand.specs.Called.{Called, GivenBy, SameGiven, Ticked, Watched}
@@ -33,11 +33,11 @@ pub buffer-long : (φ : Form) → length (buffer φ) ≡ stateLength φ
 buffer-long φ = length-replicate {A = ℕ} (stateLength φ) 7
 
 -- ---- a load into a state of the rows' form, whatever it held
-load-leaves : (file t after : List ℕ) → length t ≡ stateLength Plain → left (loadSays file (stateLength Plain)) (loadedState Plain (masksInFile file) (ruleIn file)) t ≡ after
-    → left (loadSays file (length t)) (loadedState (formIn t) (masksInFile file) (ruleIn file)) t ≡ after
+load-leaves : (file t after : List ℕ) → length t ≡ stateLength Plain → left (loadSays file (stateLength Plain)) (loadedState Plain (masksInFile file) (startIn file)) t ≡ after
+    → left (loadSays file (length t)) (loadedState (formIn t) (masksInFile file) (startIn file)) t ≡ after
 load-leaves file t after long e =
     let form = form-at Plain t long in
-    ap₂ (λ (n : ℕ) (φ : Form). left (loadSays file n) (loadedState φ (masksInFile file) (ruleIn file)) t) long form ∙ e
+    ap₂ (λ (n : ℕ) (φ : Form). left (loadSays file n) (loadedState φ (masksInFile file) (startIn file)) t) long form ∙ e
 
 -- a watch begins
 pub load-watches : (file s : List ℕ) → LoadGives file s → Watched file [] s

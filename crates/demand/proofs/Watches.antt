@@ -6,7 +6,7 @@ use Prim.Native.Nat.{ℕ}
 use Rattle.ltl.specs.Formula.{Formula}
 use Rattle.ltl.specs.Meaning.{Event}
 use Rattle.rules.specs.RuleFile.{propositionsInFile, masksInFile}
-use Rattle.loading.specs.Load.{ruleIn}
+use Rattle.loading.specs.Load.{startIn}
 use Rattle.watching.specs.Watch.{Tick, StateWatch}
 use Rattle.watching.specs.Watch as watch
 use Rattle.watching.proofs.Ticked.{watch-started, close-passed}
@@ -26,8 +26,8 @@ tick-of p masks rule us s w {e} x =
       leaves = x .closes .leaves;
     }
 
-pub watched : {file : List ℕ} {us : List Event} {s : List ℕ} → Watched file us s → StateWatch (propositionsInFile file) (masksInFile file) (ruleIn file) us s
+pub watched : {file : List ℕ} {us : List Event} {s : List ℕ} → Watched file us s → StateWatch (propositionsInFile file) (masksInFile file) (startIn file) us s
 watched {file} (begun {before = before} {s = s} l) =
     let x = load-accepted file before s l in
-    subst (λ (t : List ℕ). StateWatch (propositionsInFile file) (masksInFile file) (ruleIn file) [] t) (sym (x .state-is)) (watch.begun (x .loads))
-watched {file} (ticked {us = us} {s = s} w e t) = watch.ticked (watched w) e (tick-of (propositionsInFile file) (masksInFile file) (ruleIn file) us s (watched w) t)
+    subst (λ (t : List ℕ). StateWatch (propositionsInFile file) (masksInFile file) (startIn file) [] t) (sym (x .state-is)) (watch.begun (x .loads))
+watched {file} (ticked {us = us} {s = s} w e t) = watch.ticked (watched w) e (tick-of (propositionsInFile file) (masksInFile file) (startIn file) us s (watched w) t)

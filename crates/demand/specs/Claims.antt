@@ -7,6 +7,7 @@ use lib.ListN.{length}
 use Rattle.answers.specs.declared.Refusal.the-variants.{Slots, Nodes, Ticks}
 use Rattle.answers.specs.declared.Outcome.{Outcome}
 use Rattle.answers.specs.declared.Outcome.the-variants.{Refused, Done}
+use Rattle.answers.specs.declared.Verdict.{Verdict}
 use Rattle.ltl.specs.Meaning.{Event}
 use Rattle.ltl.specs.Progression.{progressedOver, verdictOf}
 use Rattle.state.specs.Form.{formIn, stateLength}
@@ -20,7 +21,7 @@ use Rattle.telling.specs.Ask.{Asks}
 use Rattle.taking.specs.Sample.{Samples}
 use Rattle.settling.specs.Step.{StepsSlot}
 use Rattle.closing.specs.Close.{Closes}
-use Rattle.loading.specs.Load.{ruleIn}
+use Rattle.loading.specs.Load.{ruleIn, startIn}
 use Rattle.demand.specs.Called.{Called, nothing, sampled, stepped, asked, closed, load-refused, close-refused, write-refused, central-refused, read-refused, GivenBy}
 
 -- the call, by its promise of what it leaves and answers, gets this answer: it is allowed, and no other is
@@ -57,11 +58,15 @@ pub record OneNetwork (s t : List ℕ) : Type 0 where
   pub masks : masksIn s ≡ masksIn t
   pub slots : networkOf s ≡ networkOf t
 
--- how a watch of a file stands after some events: the verdict of progressing the whole rule in one place, without a limit of size; as many
--- ticks as events; the slots and nodes of the state's network
+-- how a watch of a file stands after some events: the verdict of progressing the whole rule, folded, in one place, without a limit of size;
+-- as many ticks as events; the slots and nodes of the state's network
 abbrev pub standing : List ℕ → List Event → List ℕ → Standing
 standing file us s =
-    record { verdict = verdictOf (progressedOver us (ruleIn file)); ticks = length us; slots = length (networkOf s); nodes = nodesOf (networkOf s) }
+    record { verdict = verdictOf (progressedOver us (startIn file)); ticks = length us; slots = length (networkOf s); nodes = nodesOf (networkOf s) }
+
+-- the verdict of progressing the rule as written, without folding it
+abbrev pub asWritten : List ℕ → List Event → Verdict
+asWritten file us = verdictOf (progressedOver us (ruleIn file))
 
 -- ask answers so: it is allowed, and nothing else is
 pub record AskGets (t : List ℕ) (wanted : Standing) : Type 0 where

@@ -92,4 +92,6 @@ demanded-from-c {file} {us} {s} w =
       asks = λ t c. storing t (standing file us s) (d .asks t (from-c c));
       when-true = d .when-true;
       when-false = d .when-false;
+      in-time = d .in-time;
+      agrees = d .agrees;
     }

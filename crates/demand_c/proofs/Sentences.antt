@@ -2,14 +2,14 @@
 -- `demanded-from-c`, so that no part of the claim can go, or say less, without a proof that fails here. Assumes nothing.
 use mathlib.Core.Path.{_≡_}
 use mathlib.Core.Bool.{true}
-use mathlib.Core.List.{List}
+use mathlib.Core.List.{List, _++_}
 use Prim.Native.Nat.{ℕ}
 use Rattle.answers.specs.declared.Verdict.the-variants.{False, True, Pending}
 use Rattle.ltl.specs.Meaning.{Event, Trace, Satisfies, continued}
 use Rattle.ltl.specs.Progression.{progressedOver, verdictOf}
 use Rattle.rules.specs.RuleFile.{masksInFile}
 use Rattle.state.specs.Calls.{doneIn}
-use Rattle.loading.specs.Load.{ruleIn}
+use Rattle.loading.specs.Load.{ruleIn, startIn}
 use Rattle.exports.specs.Exported.{CloseExported, AskExported}
 use Rattle.demand.specs.Claims.{OneNetwork, standing}
 use Rattle.demand_c.specs.FromC.{CalledFromC, SameGivenFromC, TickedFromC, WatchedFromC}
@@ -32,7 +32,7 @@ module _ (file : List ℕ) (us : List Event) (s : List ℕ) (w : WatchedFromC fi
   c-order-answers-alike = demanded-from-c w .same-close
 
   -- until a verdict there is a call that goes on
-  pub c-tick-not-stuck : verdictOf (progressedOver us (ruleIn file)) ≡ Pending → (t : List ℕ) → CalledFromC s t → GoesOnFromC t
+  pub c-tick-not-stuck : verdictOf (progressedOver us (startIn file)) ≡ Pending → (t : List ℕ) → CalledFromC s t → GoesOnFromC t
   c-tick-not-stuck = demanded-from-c w .goes-on
 
   -- the verdict that is stored is that of one place
@@ -41,9 +41,18 @@ module _ (file : List ℕ) (us : List Event) (s : List ℕ) (w : WatchedFromC fi
   c-verdict-of-one-place = demanded-from-c w .asks
 
   -- true: whatever comes meets the rule
-  pub c-true-is-met : verdictOf (progressedOver us (ruleIn file)) ≡ True → (tail : Trace) → Satisfies (continued us tail) (ruleIn file)
+  pub c-true-is-met : verdictOf (progressedOver us (startIn file)) ≡ True → (tail : Trace) → Satisfies (continued us tail) (ruleIn file)
   c-true-is-met = demanded-from-c w .when-true
 
   -- false: nothing that comes does
-  pub c-false-is-unmet : verdictOf (progressedOver us (ruleIn file)) ≡ False → (tail : Trace) → Satisfies (continued us tail) (ruleIn file) → ⊥
+  pub c-false-is-unmet : verdictOf (progressedOver us (startIn file)) ≡ False → (tail : Trace) → Satisfies (continued us tail) (ruleIn file) → ⊥
   c-false-is-unmet = demanded-from-c w .when-false
+
+  -- no verdict comes later because the rule is folded
+  pub c-verdict-in-time : (verdictOf (progressedOver us (ruleIn file)) ≡ Pending → ⊥) → verdictOf (progressedOver us (startIn file)) ≡ verdictOf (progressedOver us (ruleIn file))
+  c-verdict-in-time = demanded-from-c w .in-time
+
+  -- and none differs
+  pub c-verdict-agrees : (vs : List Event) → (verdictOf (progressedOver us (startIn file)) ≡ Pending → ⊥) → (verdictOf (progressedOver (us ++ vs) (ruleIn file)) ≡ Pending → ⊥)
+      → verdictOf (progressedOver us (startIn file)) ≡ verdictOf (progressedOver (us ++ vs) (ruleIn file))
+  c-verdict-agrees = demanded-from-c w .agrees

@@ -2,7 +2,7 @@
 -- definitions.
 use mathlib.Core.Path.{_≡_}
 use mathlib.Core.Bool.{true}
-use mathlib.Core.List.{List}
+use mathlib.Core.List.{List, _++_}
 use Prim.Native.Nat.{ℕ}
 use lib.ListN.{length}
 use Rattle.answers.specs.Said.{verdictNumber}
@@ -14,7 +14,7 @@ use Rattle.state.specs.Calls.{doneIn}
 use Rattle.loading.specs.Load.{ruleIn}
 use Rattle.telling.specs.declared.Standing.{Standing}
 use Rattle.exports.specs.Exported.{SampleExported, StepExported, CloseExported, AskExported}
-use Rattle.demand.specs.Claims.{OneNetwork, standing}
+use Rattle.demand.specs.Claims.{OneNetwork, standing, asWritten}
 use Rattle.demand_c.specs.FromC.{CalledFromC, SameGivenFromC, TickedFromC, WatchedFromC}
 
 -- the call, by its promise of what it leaves and answers, answers this number: it may, and it may answer no other
@@ -55,10 +55,14 @@ pub record DemandedFromC (file : List ℕ) (us : List Event) (s : List ℕ) : Ty
       → (second a b : List ℕ) (m n : ℕ) → CloseExported t second a m → CloseExported u second b n → (m ≡ n) × (a ≡ b)
   -- no tick gets stuck
   pub goes-on : standing file us s .verdict ≡ Pending → (t : List ℕ) → CalledFromC s t → GoesOnFromC t
-  -- after each close, and until the next, ask stores the verdict that progressing the whole rule in one place gives for the same events
+  -- after each close, and until the next, ask stores the verdict that progressing the whole rule, folded, in one place gives for the same events
   pub asks : (t : List ℕ) → CalledFromC s t → (verdict ticks slots nodes verdict′ ticks′ slots′ nodes′ n : ℕ) → AskExported t verdict ticks slots nodes verdict′ ticks′ slots′ nodes′ n
       → Stores (standing file us s) verdict′ ticks′ slots′ nodes′ n
-  -- true: every endless continuation of the events meets the rule
+  -- true: every endless continuation of the events meets the rule as written
   pub when-true : standing file us s .verdict ≡ True → (w : Trace) → Satisfies (continued us w) (ruleIn file)
   -- false: none does
   pub when-false : standing file us s .verdict ≡ False → (w : Trace) → Satisfies (continued us w) (ruleIn file) → ⊥
+  -- no verdict comes later because the rule is folded: where the rule as written has one after these events, it is told
+  pub in-time : (asWritten file us ≡ Pending → ⊥) → standing file us s .verdict ≡ asWritten file us
+  -- and none differs, however much later the rule as written has one
+  pub agrees : (vs : List Event) → (standing file us s .verdict ≡ Pending → ⊥) → (asWritten file (us ++ vs) ≡ Pending → ⊥) → standing file us s .verdict ≡ asWritten file (us ++ vs)

@@ -5,7 +5,6 @@ use Prim.Native.Nat.{ℕ}
 use mathlib.Core.List.{List}
 use lib.ListN.{length, getD}
 use lib.Dec.{eqb}
-use Rattle.ltl.specs.Decode.{formulaOf}
 use Rattle.limits.specs.Limits.{boardsMost, ruleNodesMost, centralNodesMost}
 use Rattle.lists.specs.Tests.{pick}
 use Rattle.lists.specs.Runs.{padded}
@@ -15,10 +14,10 @@ use Rattle.ltl.specs.Progression.{progressed}
 use Rattle.rules.specs.RuleFile.{fileMost, masksInFile, formulaInFile, fileOf}
 use Rattle.rules.specs.Read.{readSays}
 use Rattle.rules.specs.Write.{writeSays}
-use Rattle.central.specs.Central.{centralSays}
+use Rattle.central.specs.Central.{startOf, centralSays}
 use Rattle.state.specs.Form.{formIn}
 use Rattle.state.specs.Calls.{loadedState, askSays, sampleSays, sampleLeaves, stepSays, stepLeaves, closeSays, closeLeaves}
-use Rattle.loading.specs.Load.{ruleIn, loadSays}
+use Rattle.loading.specs.Load.{startIn, loadSays}
 
 -- what stands behind a reference afterwards: an accepted call's value, and what stood there before a refusal
 unfoldable pub valueAt : Said → ℕ → ℕ → ℕ
@@ -39,13 +38,13 @@ pub record WriteExported (masks : List ℕ) (p : ℕ) (formula file file′ : Li
 
 pub record CentralExported (formula : List ℕ) (event : ℕ) (output output′ : List ℕ) (verdict nodes verdict′ nodes′ answer : ℕ) : Type 0 where
   pub says : answer ≡ centralSays formula event (length output) .number
-  pub leaves : output′ ≡ left (centralSays formula event (length output)) (padded centralNodesMost (encode (progressed event (formulaOf formula)))) output
+  pub leaves : output′ ≡ left (centralSays formula event (length output)) (padded centralNodesMost (encode (progressed event (startOf formula)))) output
   pub gives-verdict : verdict′ ≡ valueAt (centralSays formula event (length output)) 0 verdict
   pub gives-length : nodes′ ≡ valueAt (centralSays formula event (length output)) 1 nodes
 
 pub record LoadExported (file state state′ : List ℕ) (answer : ℕ) : Type 0 where
   pub says : answer ≡ loadSays file (length state) .number
-  pub leaves : state′ ≡ left (loadSays file (length state)) (loadedState (formIn state) (masksInFile file) (ruleIn file)) state
+  pub leaves : state′ ≡ left (loadSays file (length state)) (loadedState (formIn state) (masksInFile file) (startIn file)) state
 
 pub record SampleExported (state : List ℕ) (board bits : ℕ) (state′ : List ℕ) (answer : ℕ) : Type 0 where
   pub says : answer ≡ sampleSays state board bits .number

@@ -19,11 +19,10 @@ use Rattle.kinds.proofs.Codes.{kind-binary}
 use Rattle.ltl.specs.Formula.{Formula, leaf, one, two, join, sameJoin, same, size, encode}
 use Rattle.ltl.specs.Progression.{member}
 use Rattle.ltl.proofs.Equal.{same-eq, same-refl, join-eq}
-use Rattle.ltl.proofs.Decoding.{one-way, size-some}
+use Rattle.ltl.proofs.Decoding.{one-way, size-some, first, first-is}
 use Rattle.nodes.specs.Begins.{Front, Begins, Ends}
 use Rattle.nodes.proofs.Fronts.{front-own, front-tail, begins-tail, front-one-way}
 use Rattle.stacking.specs.Stacks.{Spined}
-use Rattle.stacking.proofs.Firsts.{first, first-is}
 use Rattle.buffers.specs.Compares.{Compares}
 use Rattle.joining.specs.Members.{SameAt, LeftKnown, LeftAsk, LeftOf, Compared, Comparable, IsMember}
 use Rattle.joining.proofs.Standing.{contained, first-at, DoubleAt, double-at}

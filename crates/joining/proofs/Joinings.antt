@@ -15,11 +15,11 @@ use Rattle.kinds.specs.declared.Join.the-variants.{And, Or}
 use Rattle.kinds.specs.declared.Leaf.the-variants.{Const}
 use Rattle.kinds.specs.Kinds.{leafCode, joinCode}
 use Rattle.ltl.specs.Formula.{Formula, constant, join, size, encode}
-use Rattle.ltl.specs.Progression.{isConstant, deciding, member, joined}
+use Rattle.ltl.specs.Progression.{isConstant, deciding, joined}
 use Rattle.nodes.proofs.Fronts.{front-own}
 use Rattle.peeling.specs.Peeled.{encodes}
 use Rattle.stacking.specs.Stacks.{Spined, Stack, Spared}
-use Rattle.stacking.proofs.Firsts.{first, first-constant, first-pending, first-other, joined-left, joined-right, joined-skip, joined-keep, joined-member, joined-both}
+use Rattle.stacking.proofs.Firsts.{first-constant, first-pending, first-other, joined-left, joined-right, joined-skip, joined-keep, joined-member, joined-both}
 use Rattle.stacking.proofs.Stacks.{Lowest, top-of, stacked, spined-same, spined-moved, spined-plain, untouched-same, push-done}
 use Rattle.joining.specs.Members.{Compared, Comparable, IsMember}
 use Rattle.joining.specs.Joins.{Pair, JoinAsk, JoinsPair, Open, OpenAsk, OpenJoins, KeepAsk, Keeps}

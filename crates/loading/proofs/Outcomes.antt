@@ -33,8 +33,9 @@ use Rattle.rules.specs.RuleFile.{version, fileFormulaAt, countsOk, versionInFil
 use Rattle.rules.specs.Read.{offsetsOk, readSays, Reads}
 use Rattle.rules.specs.Read as read
 use Rattle.starting.specs.Starting.{RuleGiven}
-use Rattle.beginning.specs.Beginning.{beginSays, BeginAsk, Begun}
-use Rattle.loading.specs.Load.{ruleIn, loadLengthsOk, loadSays, LoadsRule}
+use Rattle.beginning.specs.Beginning.{beginSays, BeginAsk}
+use Rattle.loading.specs.Begin.{BegunFolded}
+use Rattle.loading.specs.Load.{ruleIn, startIn, loadLengthsOk, loadSays, LoadsRule}
 
 -- a list of checks that refuses, with more checks behind it
 order-more : (cs ds : List Check) (vs : List ℕ) (t : Said) (n : ℕ) → 0 < n → inOrder cs (accepted vs) ≡ refused n → inOrder (cs ++ ds) t ≡ refused n
@@ -56,7 +57,7 @@ order-after (c ∷ cs) ds t p = ap (λ b. pick b (inOrder (cs ++ ds) t) (refused
 module _ (file state : List ℕ) where
   load-refusal : (why : Refusal) → loadSays file (length state) ≡ refused (numberOf why) → LoadsRule file state state (Refused why)
   load-refusal why e =
-      let o = loadedState (formIn state) (masksInFile file) (ruleIn file) in
+      let o = loadedState (formIn state) (masksInFile file) (startIn file) in
       record { says = sym e; leaves = sym (ap (λ (s : Said). left s o state) e ∙ left-refused why o state) }
 
   pub load-length : (Formed state → ⊥) → LoadsRule file state state (Refused Length)
@@ -67,7 +68,7 @@ module _ (file state : List ℕ) where
     -- the checks of the file are those of reading
     abbrev layout-checks : List Check
     layout-checks =
-        check 7 (leb (length (firstOf (masksInFile file) (ruleIn file))) (slotsMost (formIn state))) ∷ check 8 (leb (nodesOf (firstOf (masksInFile file) (ruleIn file))) (nodesMost (formIn state))) ∷ []
+        check 7 (leb (length (firstOf (masksInFile file) (startIn file))) (slotsMost (formIn state))) ∷ check 8 (leb (nodesOf (firstOf (masksInFile file) (startIn file))) (nodesMost (formIn state))) ∷ []
 
     abbrev file-checks : List Check
     file-checks =
@@ -89,12 +90,12 @@ module _ (file state : List ℕ) where
 
     -- the file was read
     module _ (passed : ReadPassed file boardsMost ruleNodesMost) where
-      pub load-begun : (state′ : List ℕ) (answer : Outcome) → saidOutcome answer ≡ beginSays (formIn state) (masksInFile file) (ruleIn file)
-          → state′ ≡ left (beginSays (formIn state) (masksInFile file) (ruleIn file)) (loadedState (formIn state) (masksInFile file) (ruleIn file)) state → LoadsRule file state state′ answer
+      pub load-begun : (state′ : List ℕ) (answer : Outcome) → saidOutcome answer ≡ beginSays (formIn state) (masksInFile file) (startIn file)
+          → state′ ≡ left (beginSays (formIn state) (masksInFile file) (startIn file)) (loadedState (formIn state) (masksInFile file) (startIn file)) state → LoadsRule file state state′ answer
       load-begun state′ answer e f =
-          let says : loadSays file (length state) ≡ beginSays (formIn state) (masksInFile file) (ruleIn file) =
+          let says : loadSays file (length state) ≡ beginSays (formIn state) (masksInFile file) (startIn file) =
           says-is ∙ order-after file-checks layout-checks (accepted []) (passed .lengths, (passed .version, (passed .counts, (passed .offsets, (passed .masks, (passed .formula, tt)))))) in
-          record { says = e ∙ sym says; leaves = f ∙ ap (λ (s : Said). left s (loadedState (formIn state) (masksInFile file) (ruleIn file)) state) (sym says) }
+          record { says = e ∙ sym says; leaves = f ∙ ap (λ (s : Said). left s (loadedState (formIn state) (masksInFile file) (startIn file)) state) (sym says) }
 
 -- ---- what was read
 module _ (file : List ℕ) (passed : ReadPassed file boardsMost ruleNodesMost) where
@@ -184,7 +185,7 @@ module _ {file masks′ formula′ : List ℕ} {c : RuleCounts} {state : List �
   pub read-begins : BeginAsk (take (c .boards) masks′) (take (c .nodes) formula′) state
   read-begins = record { rule = ruleIn file; ruled = rw (r .masks-are, r .formula-is) (read-ruled file (r .passed)); long = long }
 
-  pub read-begun : {state′ : List ℕ} {answer : Outcome} → Begun (take (c .boards) masks′) (take (c .nodes) formula′) state state′ answer → LoadsRule file state state′ answer
+  pub read-begun : {state′ : List ℕ} {answer : Outcome} → BegunFolded (take (c .boards) masks′) (take (c .nodes) formula′) state state′ answer → LoadsRule file state state′ answer
   read-begun h =
       let x = rw (r .masks-are, r .formula-is) at (h (ruleIn file)) (read-ruled file (r .passed)) in
-      load-begun file state long (r .passed) _ _ (x .0) (x .1)
+      load-begun file state long (r .passed) _ _ (x .says) (x .leaves)

@@ -1,2 +1,3 @@
--- Loading a rule file: what the contract of `loading` cites.
+-- Loading a rule file: what the contracts of `loading` cite.
 pub mod Load
+pub mod Begin

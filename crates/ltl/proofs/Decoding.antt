@@ -7,7 +7,7 @@ use mathlib.Core.List.{List, [], _∷_, _++_, append-assoc, append-nil}
 use mathlib.Core.Option.{Option, none, some}
 use Prim.Native.Nat.{ℕ, zero, suc, _+_, _<_, _≤_}
 use native.Mathlib.Omega.{arith}
-use lib.ListN.{length, length-append}
+use lib.ListN.{length, getD, length-append}
 use borrow.Author.Tests.{ltb-true, lt-ltb}
 use Rattle.limits.specs.Limits.{propositionsMost, holderCodes}
 use Rattle.kinds.specs.declared.Leaf.{Leaf}
@@ -34,6 +34,16 @@ pub length-encode : (f : Formula) → length (encode f) ≡ size f
 length-encode (leaf a) = refl
 length-encode (one o f) = let e = length-encode f in omega arith
 length-encode (two o f g) = let d = length-encode f in let e = length-encode g in let a = length-append (encode f) (encode g) in omega arith
+
+-- its first byte
+abbrev pub first : Formula → ℕ
+first f = getD (encode f) 0 0
+
+-- whatever stands behind it
+pub first-is : (f : Formula) (l : List ℕ) → getD (encode f ++ l) 0 0 ≡ first f
+first-is (leaf a) l = refl
+first-is (one o f) l = refl
+first-is (two o f g) l = refl
 
 -- ---- a formula's bytes are read as the formula, whatever stands behind them
 pub parse-encode : (f : Formula) (n : ℕ) (l : List ℕ) → Coded f → size f ≤ n → parse n (encode f ++ l) ≡ some (record { formula = f; behind = l })

@@ -10,7 +10,7 @@ use Rattle.kinds.specs.declared.Binary.the-variants.{Joined, Until}
 use Rattle.ltl.specs.Formula.{Formula, leaf, one, two, constant, join, sameBool, sameJoin, same}
 use Rattle.ltl.specs.Progression.{verdictOf, isConstant, negated, deciding, member, joined}
 use Rattle.lists.proofs.Tests.{no-true, either-elim, pick-elim}
-use Rattle.ltl.proofs.Equal.{same-eq, join-eq}
+use Rattle.ltl.proofs.Equal.{same-eq, join-eq, sameBool-refl}
 use Rattle.answers.specs.declared.Verdict.the-variants.{Pending}
 
 -- ---- a constant is what the test says
@@ -24,6 +24,20 @@ constant-is v (leaf (Prop i)) e = absurd (no-true e)
 constant-is v (leaf (Hold k)) e = absurd (no-true e)
 constant-is v (one o f) e = absurd (no-true e)
 constant-is v (two o f g) e = absurd (no-true e)
+
+-- ---- and a constant passes it, the other one does not
+not-same : (v : Bool) → sameBool v (not v) ≡ false
+unfolding sameBool
+not-same true = refl
+not-same false = refl
+
+pub constant-self : (v : Bool) → isConstant v (constant v) ≡ true
+unfolding isConstant
+constant-self v = sameBool-refl v
+
+pub constant-other : (v : Bool) → isConstant v (constant (not v)) ≡ false
+unfolding isConstant
+constant-other v = not-same v
 
 -- ---- what is no constant is pending
 pub pending : (f : Formula) → ((v : Bool) → isConstant v f ≡ false) → verdictOf f ≡ Pending

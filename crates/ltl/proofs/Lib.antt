@@ -3,5 +3,6 @@ pub mod Equal
 pub mod Decoding
 pub mod Owing
 pub mod Joining
+pub mod Verdicts
 pub mod Soundness
 pub mod Lengths

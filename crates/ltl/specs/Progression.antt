@@ -50,14 +50,17 @@ member j l (two Until f g) = same l (two Until f g)
 member j l (two (Joined k) f g) =
     either (same l (join k f g)) (pick (sameJoin j k) (either (same l f) (member j l g)) false)
 
--- and(l, r): false if either is false; r if l is true; l if r is true; r if l is a member of r; otherwise and(l, r).
+-- and(l, r) where an operand is a constant: false if either is false; r if l is true; l if r is true; otherwise what is given.
 -- Or is the mirror image: true and false change places, left and right do not.
-unfoldable pub joined : Join → Formula → Formula → Formula
-joined j l r =
+abbrev pub byConstants : Join → Formula → Formula → Formula → Formula
+byConstants j l r otherwise =
     pick (either (isConstant (deciding j) l) (isConstant (deciding j) r)) (constant (deciding j))
     (pick (isConstant (not (deciding j)) l) r
-    (pick (isConstant (not (deciding j)) r) l
-    (pick (member j l r) r (join j l r))))
+    (pick (isConstant (not (deciding j)) r) l otherwise))
+
+-- and(l, r): by its constants; else r if l is a member of r; otherwise and(l, r)
+unfoldable pub joined : Join → Formula → Formula → Formula
+joined j l r = byConstants j l r (pick (member j l r) r (join j l r))
 
 -- an unfolded formula under an event, operands first: a proposition becomes true or false, next f becomes f as it stands.
 -- An unfolded formula has a temporal operator under next alone; elsewhere one would stay whole.

@@ -1,5 +1,4 @@
 -- The split network gives the verdict of one place.
-pub mod Verdicts
 pub mod Owned
 pub mod Values
 pub mod Laying

@@ -15,7 +15,7 @@ use Rattle.ltl.specs.Formula.{Formula, leaf, one, two, constant}
 use Rattle.ltl.specs.Meaning.{Event}
 use Rattle.ltl.specs.Progression.{unfolded, verdictOf}
 use Rattle.network.specs.Layout.{Slot, Laid, whole, under, beside, cut, rooted, slotAt}
-use Rattle.network.proofs.Verdicts.{opposite, together}
+use Rattle.ltl.proofs.Verdicts.{opposite, together}
 use Rattle.network.proofs.Values.{Env, value, value-unfolded}
 
 -- ---- environments and origins

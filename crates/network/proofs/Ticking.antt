@@ -20,7 +20,7 @@ use Rattle.ltl.specs.Progression.{resolved, filled, filledBy, verdictOf}
 use Rattle.ltl.proofs.Joining.{joined-elim, negated-elim}
 use Rattle.network.specs.Layout.{Slot, slotAt}
 use Rattle.network.specs.Tick.{verdictAt, AllMarked}
-use Rattle.network.proofs.Verdicts.{known, opposite, together}
+use Rattle.ltl.proofs.Verdicts.{known, opposite, together}
 use Rattle.network.proofs.Owned.{Plain, stepped-clean, stepped-headed}
 use Rattle.network.proofs.Values.{Env, value, value-constant, value-joined, value-negated, value-free}
 use Rattle.network.proofs.Laying.{Choice, HoldsIn}

@@ -18,7 +18,7 @@ use Rattle.ltl.specs.Meaning.{Event}
 use Rattle.ltl.specs.Progression.{unfolded, isConstant, negated, deciding, joined, progressed, progressedOver, verdictOf}
 use Rattle.ltl.proofs.Joining.{constant-is, two-ways, pending, joined-cases, Member, whole, onLeft, onRight, member-is}
 use Rattle.network.proofs.Owned.{Free}
-use Rattle.network.proofs.Verdicts.{known, opposite, together, together-left, together-right, together-skip, together-keep, together-same, together-again, together-swap}
+use Rattle.ltl.proofs.Verdicts.{known, opposite, together, together-left, together-right, together-skip, together-keep, together-same, together-again, together-swap}
 
 -- the value of each slot over some events
 abbrev pub Env : Type 0

@@ -1,2 +1,3 @@
 -- Laws of the verdict before any event.
 pub mod Verdicts
+pub mod Firsts

@@ -1,17 +1,19 @@
 // Progresses a whole rule in one place: reads a rule file and then events of 8 bytes from standard input, and writes a line
-// `TICKS VERDICT NODES` for the rule as read and for each event, until a verdict or the input's end.
+// `TICKS VERDICT NODES` for the rule, its constants folded, and for each event, until a verdict or the input's end.
 // A refusal, of a call or of the input, is a last line `refused N`, and a read that fails a last line `failed read`. Where a line
 // cannot be written the program ends at once. Bits that are no proposition of the rule are ignored.
 ghost use mathlib.Core.Path.{_≡_};
 ghost use Prim.Native.Nat.{_≤_};
 ghost use lib.ListN.{length};
+ghost use Rattle.limits.specs.Limits.{centralNodesMost};
 ghost use Rattle.programs.specs.Hand.{InHand};
-ghost use Rattle.progress.specs.Before.{verdictBefore, ProgressedFrom};
+ghost use Rattle.progress.specs.Before.{verdictBefore, FoldsFirst, ProgressedFrom};
 use answers::Refusal;
 use answers::Verdict;
 use central::CentralAnswer;
 use limits::BOARDS_MOST;
 use limits::CENTRAL_NODES_MOST;
+use limits::PROPOSITIONS_MOST;
 use limits::RULE_NODES_MOST;
 use programs::input::Came;
 use programs::input::Hand;
@@ -25,7 +27,7 @@ use rules::ReadAnswer;
 // Below this number two more ticks can be counted.
 const TICKS_MOST: u64 = 18446744073709551614;
 
-// The verdict before any event: only a rule that is a constant has one.
+// The verdict before any event: only a rule that is folded to a constant has one.
 fn verdict_before(first: u8, nodes: usize) -> Verdict
     ensures { λ r. ⌜ r ≡ verdictBefore first nodes ⌝ }
 {
@@ -37,6 +39,23 @@ fn verdict_before(first: u8, nodes: usize) -> Verdict
         1 => Verdict::True,
         _ => Verdict::Pending,
     }
+}
+
+// Folds the constants of the rule that the first `nodes` bytes of `held` are, as every call of `central` would. The folded rule takes its
+// place; answers how many nodes it has. The bytes are always a rule, since `read` put it there; the tests spare a proof of that.
+fn fold_first(held: &mut [u8], nodes: usize, output: &mut [u8]) -> usize
+    requires { ⌜ (length (now held) ≡ centralNodesMost) × (length (now output) ≡ centralNodesMost) ⌝ }
+    ensures { λ n. ⌜ FoldsFirst (now (held .entry)) nodes (now (held .exit)) n ⌝ }
+{
+    if held.len() < nodes {
+        return nodes;
+    }
+    if !owing::is_rule(&held[0..nodes], PROPOSITIONS_MOST as u64) {
+        return nodes;
+    }
+    let w = folding::fold(&held[0..nodes], output);
+    buffers::copy(held, &output[w..]);
+    output.len() - w
 }
 
 // Writes a tick's line. Answers how many nodes wait for the next event: none after a verdict, or where the line was not written.
@@ -124,6 +143,7 @@ fn run(piece: &mut [u8], behind: Hand, held: &mut [u8], nodes: usize, output: &m
 fn watch(piece: &mut [u8], masks: &mut [u64], held: &mut [u8], output: &mut [u8])
     requires { do ⌜ (← ⟦piece.len()⟧) ≡ (← ⟦PIECE⟧) ⌝ }
     requires { do ⌜ (← ⟦held.len()⟧) ≡ (← ⟦CENTRAL_NODES_MOST⟧) ⌝ }
+    requires { do ⌜ (← ⟦output.len()⟧) ≡ (← ⟦CENTRAL_NODES_MOST⟧) ⌝ }
 {
     let came = turns::file(piece);
     let Came::Bytes(behind) = came else {
@@ -134,7 +154,7 @@ fn watch(piece: &mut [u8], masks: &mut [u64], held: &mut [u8], output: &mut [u8]
     match answer {
         ReadAnswer::Refused(refusal) => output::refused(refusal),
         ReadAnswer::Rule(counts) => {
-            let nodes = counts.nodes as usize;
+            let nodes = fold_first(held, counts.nodes as usize, output);
             let waiting = report(0, verdict_before(held[0], nodes), nodes);
             run(piece, behind, held, waiting, output);
         }

@@ -2,13 +2,10 @@
 -- of their operands, as the code tells them apart. Assumes nothing.
 use mathlib.Core.Path.{_≡_, refl, sym}
 use mathlib.Core.Bool.{Bool, true, false, not}
-use mathlib.Core.List.{List, _++_}
 use Prim.Native.Nat.{ℕ, zero, suc, _-_, _<_, _≤_}
 use native.Mathlib.Omega.{arith}
-use lib.ListN.{getD}
 use Rattle.lists.specs.Tests.{pick, either}
 use Rattle.lists.proofs.Tests.{either-right}
-use Rattle.ltl.proofs.Equal.{sameBool-refl}
 use Rattle.kinds.specs.declared.Leaf.the-variants.{Const, Prop, Hold}
 use Rattle.kinds.specs.declared.Unary.{Unary}
 use Rattle.kinds.specs.declared.Unary.the-variants.{Not, Next, Ever}
@@ -17,18 +14,10 @@ use Rattle.kinds.specs.declared.Join.the-variants.{And, Or}
 use Rattle.kinds.specs.declared.Binary.{Binary}
 use Rattle.kinds.specs.declared.Binary.the-variants.{Joined, Until}
 use Rattle.kinds.specs.Kinds.{leafCode, unaryCode, binaryCode}
-use Rattle.ltl.specs.Formula.{Formula, leaf, one, two, constant, join, sameBool, encode}
+use Rattle.ltl.specs.Formula.{Formula, leaf, one, two, constant, join}
 use Rattle.ltl.specs.Progression.{isConstant, negated, deciding, member, joined}
-use Rattle.ltl.proofs.Joining.{constant-is}
-
-abbrev pub first : Formula → ℕ
-first f = getD (encode f) 0 0
-
--- whatever stands behind it
-pub first-is : (f : Formula) (l : List ℕ) → getD (encode f ++ l) 0 0 ≡ first f
-first-is (leaf a) l = refl
-first-is (one o f) l = refl
-first-is (two o f g) l = refl
+use Rattle.ltl.proofs.Decoding.{first}
+use Rattle.ltl.proofs.Joining.{constant-is, constant-self, constant-other}
 
 pub unary-high : (o : Unary) → 2 ≤ unaryCode o
 unary-high Not = omega arith
@@ -72,19 +61,6 @@ first-other And f h n = first-constant true f (omega arith)
 first-other Or f h n = first-constant false f (omega arith)
 
 -- ---- `joined` by its operands
-not-same : (v : Bool) → sameBool v (not v) ≡ false
-unfolding sameBool
-not-same true = refl
-not-same false = refl
-
-constant-self : (v : Bool) → isConstant v (constant v) ≡ true
-unfolding isConstant
-constant-self v = sameBool-refl v
-
-constant-other : (v : Bool) → isConstant v (constant (not v)) ≡ false
-unfolding isConstant
-constant-other v = not-same v
-
 module _ (j : Join) (l r : Formula) where
   -- the left operand settles it
   pub joined-left : l ≡ constant (deciding j) → joined j l r ≡ constant (deciding j)

@@ -19,12 +19,12 @@ use Rattle.kinds.specs.declared.Binary.the-variants.{Joined, Until}
 use Rattle.kinds.specs.Kinds.{joinCode}
 use Rattle.ltl.specs.Formula.{Formula, leaf, one, two, constant, size, encode, Coded}
 use Rattle.ltl.specs.Progression.{negated}
-use Rattle.ltl.proofs.Decoding.{size-some, length-encode}
+use Rattle.ltl.proofs.Decoding.{size-some, length-encode, first, first-is}
 use Rattle.nodes.specs.Begins.{Front}
 use Rattle.peeling.specs.Peeled.{encodes}
 use Rattle.peeling.proofs.Peels.{encodes-more}
 use Rattle.stacking.specs.Stacks.{Spined, Noted, Stack, Spared}
-use Rattle.stacking.proofs.Firsts.{first, first-is, first-pending, first-constant, first-negated, negated-pending}
+use Rattle.stacking.proofs.Firsts.{first-pending, first-constant, first-negated, negated-pending}
 
 -- ---- notes count only where the results stand
 pub spined-moved : (f : Formula) (notes notes′ : List ℕ) (at to : ℕ) → ((k : ℕ) → 0 < k → k < size f → getD notes′ (to + k) 0 ≡ getD notes (at + k) 0)

@@ -13,9 +13,10 @@ use Rattle.answers.specs.declared.Verdict.the-variants.{Pending}
 use Rattle.kinds.specs.Kinds.{kindOf}
 use Rattle.le.specs.Le.{le, leAt}
 use Rattle.masks.specs.Masks.{sumTo, onesOf, sumOnes, unionWith, masksRule}
-use Rattle.ltl.specs.Formula.{leafOver, over}
-use Rattle.ltl.specs.Progression.{unfolded}
+use Rattle.ltl.specs.Formula.{leafOver, over, sameBool}
+use Rattle.ltl.specs.Progression.{unfolded, isConstant, negated}
 use Rattle.ltl.specs.Decode.{isFormula, formulaOf}
+use Rattle.folded.specs.Folding.{isEither, foldedOne, foldedTwo}
 use Rattle.rules.specs.RuleFile.{countsOk, maskBytes, fileOf}
 use Rattle.rules.specs.Read.{offsetsOk}
 use Rattle.network.specs.Scores.{highest, chosen}
@@ -70,7 +71,7 @@ pub record KeptBoards : Type 0 where
       ≡ on 0 (3 ∷ 129 ∷ 131 ∷ []) ∷ on 1 (3 ∷ 3 ∷ 65 ∷ 65 ∷ 130 ∷ []) ∷ on 0 (3 ∷ 64 ∷ 5 ∷ 8 ∷ 64 ∷ []) ∷ on 1 (65 ∷ []) ∷ []
 
 pub kept : KeptBoards
-unfolding pick both either bit inOrder left kindOf le leAt sumTo onesOf sumOnes unionWith masksRule leafOver over isFormula countsOk maskBytes fileOf listed offsetsOk highest chosen looked laid load relaid close holdsOnly stretchEnd eachBelow allZero eachTrue tidy unfoldedOwn loneOther heldBy among distinct boardOk recordOk gapOk holdersIn placesOk headerOk masksOk restOk formOf boardAt sampleGiven slotStepped stateOk stateOf finishedIn verdictIn askSays sampleSays readyIn stepSays steppedTo doneIn closeSays loadLengthsOk loadSays
+unfolding pick both either bit inOrder left kindOf le leAt sumTo onesOf sumOnes unionWith masksRule leafOver over isFormula countsOk maskBytes fileOf listed offsetsOk highest chosen looked laid load relaid close holdsOnly stretchEnd eachBelow allZero eachTrue tidy unfoldedOwn loneOther heldBy among distinct boardOk recordOk gapOk holdersIn placesOk headerOk masksOk restOk formOf boardAt sampleGiven slotStepped stateOk stateOf finishedIn verdictIn askSays sampleSays readyIn stepSays steppedTo doneIn closeSays loadLengthsOk loadSays isConstant sameBool negated isEither foldedOne foldedTwo
 kept =
     record {
       loads = record { says = refl; leaves = λ before. refl };

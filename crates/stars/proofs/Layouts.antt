@@ -5,14 +5,16 @@ use mathlib.Core.Path.{_≡_, refl}
 use mathlib.Core.List.{List, [], _∷_, map}
 use Prim.Native.Nat.{ℕ, zero, suc}
 use lib.ListN.{length}
-use Rattle.lists.specs.Tests.{pick, both, bit}
+use Rattle.lists.specs.Tests.{pick, both, bit, either}
 use Rattle.lists.specs.Listed.{listed}
 use Rattle.answers.specs.Said.{accepted, refused, inOrder}
 use Rattle.kinds.specs.Kinds.{kindOf}
 use Rattle.le.specs.Le.{le, leAt}
 use Rattle.masks.specs.Masks.{sumTo, onesOf, sumOnes, unionWith, masksRule}
-use Rattle.ltl.specs.Formula.{leafOver, over}
+use Rattle.ltl.specs.Formula.{leafOver, over, sameBool}
 use Rattle.ltl.specs.Decode.{isFormula, formulaOf}
+use Rattle.ltl.specs.Progression.{isConstant, negated}
+use Rattle.folded.specs.Folding.{isEither, foldedOne, foldedTwo, folded}
 use Rattle.rules.specs.RuleFile.{countsOk, maskBytes, fileOf}
 use Rattle.rules.specs.Read.{offsetsOk}
 use Rattle.network.specs.Scores.{highest, chosen}
@@ -40,10 +42,15 @@ abbrev pub copies : ℕ → List ℕ
 copies zero = 4 ∷ 64 ∷ 65 ∷ []
 copies (suc n) = 3 ∷ 4 ∷ 64 ∷ 65 ∷ copies n
 
--- n times always, then a
-abbrev pub always : ℕ → List ℕ
-always zero = 64 ∷ []
-always (suc n) = 8 ∷ always n
+-- n times always, then this byte
+abbrev pub always : ℕ → ℕ → List ℕ
+always zero b = b ∷ []
+always (suc n) b = 8 ∷ always n b
+
+-- an and-chain of n copies of always (eventually b and (false until a)), and one more
+abbrev pub falseCopies : ℕ → List ℕ
+falseCopies zero = 8 ∷ 3 ∷ 7 ∷ 65 ∷ 6 ∷ 0 ∷ 64 ∷ []
+falseCopies (suc n) = 3 ∷ 8 ∷ 3 ∷ 7 ∷ 65 ∷ 6 ∷ 0 ∷ 64 ∷ falseCopies n
 
 -- a layout has so many slots and nodes
 pub record LayoutCounted (slots : List Slot) (s n : ℕ) : Type 0 where
@@ -62,12 +69,18 @@ pub record Layouts : Type 0 where
   pub copies-load : loadSays (fileOf twoMasks 2 (copies 62)) (stateLength Plain) ≡ accepted []
   pub copies-over : loadSays (fileOf twoMasks 2 (copies 63)) (stateLength Plain) ≡ refused 7
   -- 87 times always has room, and 88 times has not
-  pub always-most : LayoutCounted (firstOf (1 ∷ []) (formulaOf (always 87))) 1 4090
-  pub always-load : loadSays (fileOf (1 ∷ []) 1 (always 87)) (stateLength Plain) ≡ accepted []
-  pub always-over : loadSays (fileOf (1 ∷ []) 1 (always 88)) (stateLength Plain) ≡ refused 8
+  pub always-most : LayoutCounted (firstOf (1 ∷ []) (formulaOf (always 87 64))) 1 4090
+  pub always-load : loadSays (fileOf (1 ∷ []) 1 (always 87 64)) (stateLength Plain) ≡ accepted []
+  pub always-over : loadSays (fileOf (1 ∷ []) 1 (always 88 64)) (stateLength Plain) ≡ refused 8
+  -- of true any number has: it folds to true
+  pub always-true : loadSays (fileOf (1 ∷ []) 1 (always 88 1)) (stateLength Plain) ≡ accepted []
+  -- folding may ask for more slots: these 32 copies have 33 as written, 65 when folded, and are refused
+  pub false-written : length (overTwo (falseCopies 31)) ≡ 33
+  pub false-folded : length (firstOf twoMasks (folded (formulaOf (falseCopies 31)))) ≡ 65
+  pub false-over : loadSays (fileOf twoMasks 2 (falseCopies 31)) (stateLength Plain) ≡ refused 7
 
 pub layouts : Layouts
-unfolding pick both bit inOrder kindOf le leAt sumTo onesOf sumOnes unionWith masksRule leafOver over isFormula countsOk maskBytes fileOf listed offsetsOk highest chosen looked laid load formOf loadLengthsOk loadSays
+unfolding pick both bit inOrder kindOf le leAt sumTo onesOf sumOnes unionWith masksRule leafOver over isFormula countsOk maskBytes fileOf listed offsetsOk highest chosen looked laid load formOf loadLengthsOk loadSays either isConstant sameBool negated isEither foldedOne foldedTwo
 layouts =
     record {
       until-ever = refl;
@@ -79,4 +92,8 @@ layouts =
       always-most = record { slots-are = refl; nodes-are = refl };
       always-load = refl;
       always-over = refl;
+      always-true = refl;
+      false-written = refl;
+      false-folded = refl;
+      false-over = refl;
     }

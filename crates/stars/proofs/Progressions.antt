@@ -14,12 +14,13 @@ use Rattle.ltl.specs.Formula.{encode, sameBool, sameLeaf, same, leafOver, over}
 use Rattle.ltl.specs.Meaning.{Event}
 use Rattle.ltl.specs.Progression.{isConstant, negated, member, joined, progressed, progressedOver}
 use Rattle.ltl.specs.Decode.{isFormula, formulaOf}
-use Rattle.central.specs.Central.{centralLengthsOk, centralSays}
+use Rattle.folded.specs.Folding.{isEither, foldedOne, foldedTwo}
+use Rattle.central.specs.Central.{centralLengthsOk, startOf, centralSays}
 
 -- progressing the bytes of a formula over one event gives the bytes of another: what the call answers, and what it leaves
 pub record Gives (before : List ℕ) (event : Event) (verdict : Verdict) (after : List ℕ) : Type 0 where
   pub says : centralSays before event centralNodesMost ≡ accepted (verdictNumber verdict ∷ length after ∷ [])
-  pub leaves : encode (progressed event (formulaOf before)) ≡ after
+  pub leaves : encode (progressed event (startOf before)) ≡ after
 
 pub record Progressions : Type 0 where
   -- a until b: under a it stays, under b it is true, under neither false
@@ -33,9 +34,12 @@ pub record Progressions : Type 0 where
   -- next true; next not not a
   pub next-true : (e : Event) → Gives (5 ∷ 1 ∷ []) e True (1 ∷ [])
   pub next-double : (e : Event) → Gives (5 ∷ 2 ∷ 2 ∷ 64 ∷ []) e Pending (2 ∷ 2 ∷ 64 ∷ [])
-  -- always true stays, under every event, and so for ever
-  pub always-true : (e : Event) → Gives (8 ∷ 1 ∷ []) e Pending (8 ∷ 1 ∷ [])
+  -- always true is true; without folding it would stay, for ever
+  pub always-true : (e : Event) → Gives (8 ∷ 1 ∷ []) e True (1 ∷ [])
   pub for-ever : (us : List Event) → encode (progressedOver us (formulaOf (8 ∷ 1 ∷ []))) ≡ 8 ∷ 1 ∷ []
+  -- true until a stays as it is; a constant below a temporal operator is folded
+  pub true-until : Gives (6 ∷ 1 ∷ 64 ∷ []) 0 Pending (6 ∷ 1 ∷ 64 ∷ [])
+  pub always-both : Gives (8 ∷ 3 ∷ 64 ∷ 1 ∷ []) 1 Pending (8 ∷ 64 ∷ [])
   -- a tautology that stays pending
   pub tautology : Gives (4 ∷ 7 ∷ 64 ∷ 8 ∷ 2 ∷ 64 ∷ []) 0 Pending (4 ∷ 7 ∷ 64 ∷ 8 ∷ 2 ∷ 64 ∷ [])
   -- true or a, after one tick
@@ -47,7 +51,7 @@ over-all [] = refl
 over-all (e ∷ us) = over-all us
 
 pub progressions : Progressions
-unfolding pick both either bit inOrder kindOf sameBool sameLeaf same leafOver over isFormula isConstant negated member joined centralLengthsOk centralSays
+unfolding pick both either bit inOrder kindOf sameBool sameLeaf same leafOver over isFormula isConstant negated member joined centralLengthsOk centralSays isEither foldedOne foldedTwo
 progressions =
     record {
       until-a = record { says = refl; leaves = refl };
@@ -60,6 +64,8 @@ progressions =
       next-double = λ e. record { says = refl; leaves = refl };
       always-true = λ e. record { says = refl; leaves = refl };
       for-ever = over-all;
+      true-until = record { says = refl; leaves = refl };
+      always-both = record { says = refl; leaves = refl };
       tautology = record { says = refl; leaves = refl };
       or-true = λ e. record { says = refl; leaves = refl };
     }

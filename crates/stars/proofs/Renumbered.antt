@@ -14,8 +14,9 @@ use Rattle.kinds.specs.Kinds.{kindOf}
 use Rattle.le.specs.Le.{le, leAt}
 use Rattle.masks.specs.Masks.{sumTo, onesOf, sumOnes, unionWith, masksRule}
 use Rattle.ltl.specs.Formula.{sameBool, sameLeaf, same, leafOver, over}
-use Rattle.ltl.specs.Progression.{isConstant, member, joined}
+use Rattle.ltl.specs.Progression.{isConstant, member, joined, negated}
 use Rattle.ltl.specs.Decode.{isFormula}
+use Rattle.folded.specs.Folding.{isEither, foldedOne, foldedTwo}
 use Rattle.rules.specs.RuleFile.{countsOk, maskBytes, fileOf}
 use Rattle.rules.specs.Read.{offsetsOk}
 use Rattle.network.specs.Scores.{highest, chosen}
@@ -118,7 +119,7 @@ pub record Renumbered : Type 0 where
   pub lone : close (chosen masks) (on 0 (129 ∷ []) ∷ on 1 (8 ∷ 66 ∷ []) ∷ []) ≡ on 0 (129 ∷ []) ∷ on 1 (3 ∷ 66 ∷ 5 ∷ 8 ∷ 66 ∷ []) ∷ []
 
 pub renumbered : Renumbered
-unfolding pick both either bit inOrder left kindOf le leAt sumTo onesOf sumOnes unionWith masksRule sameBool sameLeaf same leafOver over isFormula isConstant member joined countsOk maskBytes fileOf listed offsetsOk highest chosen looked laid load relaid close holdsOnly stretchEnd eachBelow allZero eachTrue tidy unfoldedOwn loneOther heldBy among distinct boardOk recordOk gapOk holdersIn placesOk headerOk masksOk restOk formOf boardAt sampleGiven slotStepped stateOk stateOf finishedIn verdictIn askSays sampleSays readyIn stepSays steppedTo doneIn closeSays loadLengthsOk loadSays
+unfolding pick both either bit inOrder left kindOf le leAt sumTo onesOf sumOnes unionWith masksRule sameBool sameLeaf same leafOver over isFormula isConstant member joined countsOk maskBytes fileOf listed offsetsOk highest chosen looked laid load relaid close holdsOnly stretchEnd eachBelow allZero eachTrue tidy unfoldedOwn loneOther heldBy among distinct boardOk recordOk gapOk holdersIn placesOk headerOk masksOk restOk formOf boardAt sampleGiven slotStepped stateOk stateOf finishedIn verdictIn askSays sampleSays readyIn stepSays steppedTo doneIn closeSays loadLengthsOk loadSays negated isEither foldedOne foldedTwo
 renumbered =
     record {
       loads = record { says = refl; leaves = λ before. refl };

@@ -14,8 +14,9 @@ use Rattle.kinds.specs.Kinds.{kindOf}
 use Rattle.le.specs.Le.{le, leAt}
 use Rattle.masks.specs.Masks.{sumTo, onesOf, sumOnes, unionWith, masksRule}
 use Rattle.ltl.specs.Formula.{sameBool, leafOver, over}
-use Rattle.ltl.specs.Progression.{unfolded, isConstant, joined}
+use Rattle.ltl.specs.Progression.{unfolded, isConstant, joined, negated}
 use Rattle.ltl.specs.Decode.{isFormula, formulaOf}
+use Rattle.folded.specs.Folding.{isEither, foldedOne, foldedTwo}
 use Rattle.rules.specs.RuleFile.{countsOk, maskBytes, fileOf}
 use Rattle.rules.specs.Read.{offsetsOk}
 use Rattle.network.specs.Scores.{highest, chosen}
@@ -120,7 +121,7 @@ pub record SplitUntil : Type 0 where
   pub b-over : (b bits : ℕ) → sampleSays finished b bits ≡ refused 10
 
 pub split : SplitUntil
-unfolding pick both either bit inOrder left kindOf le leAt sumTo onesOf sumOnes unionWith masksRule sameBool leafOver over isFormula isConstant joined countsOk maskBytes fileOf listed offsetsOk highest chosen looked laid load close holdsOnly stretchEnd eachBelow allZero eachTrue tidy unfoldedOwn loneOther heldBy among distinct boardOk recordOk gapOk holdersIn placesOk headerOk masksOk restOk formOf boardAt sampleGiven slotStepped stateOk stateOf finishedIn verdictIn askSays sampleSays readyIn stepSays steppedTo doneIn closeSays loadLengthsOk loadSays
+unfolding pick both either bit inOrder left kindOf le leAt sumTo onesOf sumOnes unionWith masksRule sameBool leafOver over isFormula isConstant joined countsOk maskBytes fileOf listed offsetsOk highest chosen looked laid load close holdsOnly stretchEnd eachBelow allZero eachTrue tidy unfoldedOwn loneOther heldBy among distinct boardOk recordOk gapOk holdersIn placesOk headerOk masksOk restOk formOf boardAt sampleGiven slotStepped stateOk stateOf finishedIn verdictIn askSays sampleSays readyIn stepSays steppedTo doneIn closeSays loadLengthsOk loadSays negated isEither foldedOne foldedTwo
 split =
     record {
       file = refl;

@@ -18,7 +18,7 @@ use Rattle.state.specs.Fields as fields
 use Rattle.state.specs.Fields.{ticksIn}
 use Rattle.state.specs.Bytes.{stateHeader, stateOf}
 use Rattle.state.specs.Calls.{askSays, sampleSays, sampleLeaves, stepSays, stepLeaves, nextIn, closeSays, closeLeaves, loadedState}
-use Rattle.loading.specs.Load.{ruleIn, loadSays}
+use Rattle.loading.specs.Load.{startIn, loadSays}
 
 -- ---- a state's bytes
 -- a board: its mask, its sample, and whether it has sampled
@@ -43,7 +43,7 @@ state ticks boards slots nodes =
 -- loading the file, whatever the lent state held
 pub record LoadGives (file after : List ℕ) : Type 0 where
   pub says : loadSays file (stateLength Plain) ≡ accepted []
-  pub leaves : (before : List ℕ) → left (loadSays file (stateLength Plain)) (loadedState Plain (masksInFile file) (ruleIn file)) before ≡ after
+  pub leaves : (before : List ℕ) → left (loadSays file (stateLength Plain)) (loadedState Plain (masksInFile file) (startIn file)) before ≡ after
 
 -- a board gives its sample
 pub record SampleGives (before : List ℕ) (board bits : ℕ) (after : List ℕ) : Type 0 where
@@ -75,7 +75,7 @@ close-gives before after e f =
 -- loading the file, whatever the lent state held
 pub record LoadRefuses (file : List ℕ) (number : ℕ) : Type 0 where
   pub says : loadSays file (stateLength Plain) ≡ refused number
-  pub leaves : (before : List ℕ) → left (loadSays file (stateLength Plain)) (loadedState Plain (masksInFile file) (ruleIn file)) before ≡ before
+  pub leaves : (before : List ℕ) → left (loadSays file (stateLength Plain)) (loadedState Plain (masksInFile file) (startIn file)) before ≡ before
 
 -- closing the tick, whatever the second buffer held
 pub record CloseRefuses (before : List ℕ) (number : ℕ) : Type 0 where

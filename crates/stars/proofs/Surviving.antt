@@ -16,8 +16,9 @@ use Rattle.kinds.specs.Kinds.{kindOf}
 use Rattle.le.specs.Le.{le, leAt}
 use Rattle.masks.specs.Masks.{sumTo, onesOf, sumOnes, unionWith, masksRule}
 use Rattle.ltl.specs.Formula.{sameBool, sameLeaf, same, leafOver, over}
-use Rattle.ltl.specs.Progression.{unfolded, isConstant, member, joined}
+use Rattle.ltl.specs.Progression.{unfolded, isConstant, member, joined, negated}
 use Rattle.ltl.specs.Decode.{isFormula, formulaOf}
+use Rattle.folded.specs.Folding.{isEither, foldedOne, foldedTwo}
 use Rattle.rules.specs.RuleFile.{countsOk, maskBytes, fileOf}
 use Rattle.rules.specs.Read.{offsetsOk}
 use Rattle.network.specs.Scores.{highest, chosen}
@@ -145,7 +146,7 @@ pub record Surviving : Type 0 where
   pub none-over : (b bits : ℕ) → sampleSays finished b bits ≡ refused 10
 
 pub surviving : Surviving
-unfolding pick both either bit inOrder left kindOf le leAt sumTo onesOf sumOnes unionWith masksRule sameBool sameLeaf same leafOver over isFormula isConstant member joined countsOk maskBytes fileOf listed offsetsOk highest chosen looked laid load relaid close holdsOnly stretchEnd eachBelow allZero eachTrue tidy unfoldedOwn loneOther heldBy among distinct boardOk recordOk gapOk holdersIn placesOk headerOk masksOk restOk formOf boardAt sampleGiven slotStepped stateOk stateOf finishedIn verdictIn askSays sampleSays readyIn stepSays steppedTo doneIn closeSays loadLengthsOk loadSays
+unfolding pick both either bit inOrder left kindOf le leAt sumTo onesOf sumOnes unionWith masksRule sameBool sameLeaf same leafOver over isFormula isConstant member joined countsOk maskBytes fileOf listed offsetsOk highest chosen looked laid load relaid close holdsOnly stretchEnd eachBelow allZero eachTrue tidy unfoldedOwn loneOther heldBy among distinct boardOk recordOk gapOk holdersIn placesOk headerOk masksOk restOk formOf boardAt sampleGiven slotStepped stateOk stateOf finishedIn verdictIn askSays sampleSays readyIn stepSays steppedTo doneIn closeSays loadLengthsOk loadSays negated isEither foldedOne foldedTwo
 surviving =
     record {
       file = refl;

@@ -1,4 +1,4 @@
--- The worked values of two rules on one board, true and true or a: the table's rows, `Unsplit`, and that they hold, `unsplit`. Each
+-- The worked values of rules on one board that constants settle: the table's rows, `Unsplit`, and that they hold, `unsplit`. Each
 -- is computed from the definitions that the promises of `load`, `sample`, `step`, `close` and `ask` cite, over the state's bytes.
 -- a is 64. Assumes nothing.
 use mathlib.Core.Path.{_≡_, refl}
@@ -12,8 +12,9 @@ use Rattle.kinds.specs.Kinds.{kindOf}
 use Rattle.le.specs.Le.{le, leAt}
 use Rattle.masks.specs.Masks.{sumTo, onesOf, sumOnes, unionWith, masksRule}
 use Rattle.ltl.specs.Formula.{sameBool, leafOver, over}
-use Rattle.ltl.specs.Progression.{isConstant, joined}
+use Rattle.ltl.specs.Progression.{isConstant, joined, negated}
 use Rattle.ltl.specs.Decode.{isFormula}
+use Rattle.folded.specs.Folding.{isEither, foldedOne, foldedTwo}
 use Rattle.rules.specs.RuleFile.{countsOk, maskBytes, fileOf}
 use Rattle.rules.specs.Read.{offsetsOk}
 use Rattle.network.specs.Scores.{highest, chosen}
@@ -40,7 +41,7 @@ unsampled = board 1 0 0
 abbrev pub trueLaid : ℕ → List ℕ
 trueLaid ticks = single ticks unsampled (slot 0 0 0 1) (1 ∷ [])
 
--- true or a, as laid, with this board
+-- true or a, as laid where it is not folded, with this board
 abbrev pub orLaid : List ℕ → List ℕ
 orLaid on = single 0 on (slot 0 0 0 3) (4 ∷ 1 ∷ 64 ∷ [])
 
@@ -60,20 +61,25 @@ pub record Unsplit : Type 0 where
   pub true-loads : LoadGives (fileOf (1 ∷ []) 1 (1 ∷ [])) (trueLaid 0)
   pub true-begins : AskGives (trueLaid 0) True 0 1 1
   pub true-over : (b bits : ℕ) → sampleSays (trueLaid 0) b bits ≡ refused 10
-  -- true or a is pending when it is loaded, and true after one tick
-  pub or-loads : LoadGives (fileOf (1 ∷ []) 1 (4 ∷ 1 ∷ 64 ∷ [])) (orLaid unsampled)
+  -- so are next true, always true, and true or a, whose constants are folded
+  pub next-loads : LoadGives (fileOf (1 ∷ []) 1 (5 ∷ 1 ∷ [])) (trueLaid 0)
+  pub always-loads : LoadGives (fileOf (1 ∷ []) 1 (8 ∷ 1 ∷ [])) (trueLaid 0)
+  pub or-loads : LoadGives (fileOf (1 ∷ []) 1 (4 ∷ 1 ∷ 64 ∷ [])) (trueLaid 0)
+  -- a state that was saved before they were goes on as it did: true or a is pending there, and true after one tick
   pub or-begins : AskGives (orLaid unsampled) Pending 0 1 3
   pub or-under-none : OrTick 0
   pub or-under-a : OrTick 1
   pub or-ends : AskGives (trueLaid 1) True 1 1 1
 
 pub unsplit : Unsplit
-unfolding pick both either bit inOrder left kindOf le leAt sumTo onesOf sumOnes unionWith masksRule sameBool leafOver over isFormula isConstant joined countsOk maskBytes fileOf listed offsetsOk highest chosen looked laid load close holdsOnly stretchEnd eachBelow allZero eachTrue tidy unfoldedOwn loneOther heldBy distinct boardOk recordOk gapOk holdersIn placesOk headerOk masksOk restOk formOf boardAt sampleGiven slotStepped stateOk stateOf finishedIn verdictIn askSays sampleSays readyIn stepSays steppedTo doneIn closeSays loadLengthsOk loadSays
+unfolding pick both either bit inOrder left kindOf le leAt sumTo onesOf sumOnes unionWith masksRule sameBool leafOver over isFormula isConstant joined countsOk maskBytes fileOf listed offsetsOk highest chosen looked laid load close holdsOnly stretchEnd eachBelow allZero eachTrue tidy unfoldedOwn loneOther heldBy distinct boardOk recordOk gapOk holdersIn placesOk headerOk masksOk restOk formOf boardAt sampleGiven slotStepped stateOk stateOf finishedIn verdictIn askSays sampleSays readyIn stepSays steppedTo doneIn closeSays loadLengthsOk loadSays negated isEither foldedOne foldedTwo
 unsplit =
     record {
       true-loads = record { says = refl; leaves = λ before. refl };
       true-begins = refl;
       true-over = λ b bits. refl;
+      next-loads = record { says = refl; leaves = λ before. refl };
+      always-loads = record { says = refl; leaves = λ before. refl };
       or-loads = record { says = refl; leaves = λ before. refl };
       or-begins = refl;
       or-under-none = record { samples = record { says = refl; leaves = refl }; steps = record { says = refl; leaves = refl }; unclosed = refl; closes = close-gives _ _ refl refl };

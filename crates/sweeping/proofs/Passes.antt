@@ -12,7 +12,7 @@ use Rattle.lists.proofs.Drops.{drop-long, unmoved, front-less, part-front}
 use Rattle.kinds.specs.Kinds.{kindOf}
 use Rattle.ltl.specs.Formula.{Formula, size, encode}
 use Rattle.ltl.proofs.Lengths.{resolved-no-longer}
-use Rattle.ltl.proofs.Decoding.{size-some, one-way}
+use Rattle.ltl.proofs.Decoding.{size-some, one-way, first-is}
 use Rattle.nodes.specs.Begins.{Front}
 use Rattle.nodes.proofs.Fronts.{front-one-way}
 use Rattle.peeling.specs.Peeled.{encodes, peel, peeled}
@@ -20,7 +20,6 @@ use Rattle.peeling.proofs.Peels.{encodes-more, whole-left, whole-end, HeadAt, h
 use Rattle.outlining.specs.Outlined.{wholeKind}
 use Rattle.outlining.proofs.Outlines.{PlainBack, plain-back, WholeBack, whole-back}
 use Rattle.stacking.specs.Stacks.{Stack}
-use Rattle.stacking.proofs.Firsts.{first-is}
 use Rattle.resolving.specs.declared.Seen.{Seen}
 use Rattle.resolving.specs.Settles.{heldBy, settled}
 use Rattle.sweeping.specs.Passes.{allSettled, NodeAt, NodeAsk, NodeSettles, WholeAt, KeepWholeAsk, KeepsWhole, SweptTo, Outlining}

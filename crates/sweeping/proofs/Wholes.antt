@@ -17,11 +17,10 @@ use Rattle.kinds.specs.declared.Join.the-variants.{And, Or}
 use Rattle.kinds.specs.declared.Binary.the-variants.{Joined, Until}
 use Rattle.kinds.specs.Kinds.{joinCode}
 use Rattle.ltl.specs.Formula.{Formula, leaf, one, two, size, encode, Coded}
-use Rattle.ltl.proofs.Decoding.{size-some, length-encode}
+use Rattle.ltl.proofs.Decoding.{size-some, length-encode, first, first-is}
 use Rattle.nodes.specs.Begins.{Front}
 use Rattle.outlining.specs.Outlined.{wholeKind, topKind}
 use Rattle.stacking.specs.Stacks.{Stack}
-use Rattle.stacking.proofs.Firsts.{first, first-is}
 use Rattle.stacking.proofs.Stacks.{stacked, spined-plain, spined-none, spined-first}
 use Rattle.resolving.specs.declared.Seen.{Seen}
 use Rattle.resolving.specs.Settles.{settled}

@@ -12,7 +12,8 @@ use Rattle.kinds.specs.declared.Leaf.the-variants.{Const, Prop, Hold}
 use Rattle.kinds.specs.Kinds.{propCode, holdCode}
 use Rattle.ltl.specs.Formula.{Formula, leaf, one, two, encode}
 use Rattle.ltl.specs.Progression.{verdictOf}
-use Rattle.stacking.proofs.Firsts.{first, first-is, unary-high, binary-high}
+use Rattle.ltl.proofs.Decoding.{first, first-is}
+use Rattle.stacking.proofs.Firsts.{unary-high, binary-high}
 use Rattle.verdicts.specs.Verdicts.{verdictByte}
 
 pub verdict-first : (g : Formula) → verdictByte (first g) ≡ verdictOf g

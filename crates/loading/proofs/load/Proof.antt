@@ -54,4 +54,4 @@ load-spec =
     (λ c κs. let a = c .before .before .before .before in read-begins (formed (long (answered a))) (was-read a))
     (λ c. let r = c .before .before .before .before .before in load-read _ _ (formed (long r)) (c .before .answer .given .0 .0) (ap saidRead (sym (c .before .answer .given .1)) ∙ r .read .ensures .says))
     (λ c. search needs)
-    (λ c. let b = c .before .before in let a = b .before .before .before .before .before in read-begun (formed (long (answered a))) (was-read a) (b .begin .ensures)))
+    (λ c. let b = c .before .before in let a = b .before .before .before .before .before in read-begun (formed (long (answered a))) (was-read a) (b .begin-rule .ensures)))

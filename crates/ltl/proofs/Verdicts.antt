@@ -6,12 +6,12 @@ use Rattle.kinds.specs.declared.Join.{Join}
 use Rattle.kinds.specs.declared.Join.the-variants.{And, Or}
 use Rattle.answers.specs.declared.Verdict.{Verdict}
 use Rattle.answers.specs.declared.Verdict.the-variants.{False, True, Pending}
-use Rattle.ltl.specs.Progression.{deciding}
+use Rattle.ltl.specs.Formula.{constant}
+use Rattle.ltl.specs.Progression.{deciding, verdictOf}
 
 -- the verdict of a constant
 abbrev pub known : Bool → Verdict
-known true = True
-known false = False
+known v = verdictOf (constant v)
 
 unfoldable pub opposite : Verdict → Verdict
 opposite True = False
@@ -29,6 +29,12 @@ together Or False w = w
 together Or Pending True = True
 together Or Pending False = Pending
 together Or Pending Pending = Pending
+
+-- not of a constant
+pub opposite-known : (v : Bool) → opposite (known v) ≡ known (not v)
+unfolding opposite
+opposite-known true = refl
+opposite-known false = refl
 
 -- the deciding constant, on the left and on the right
 pub together-left : (j : Join) (w : Verdict) → together j (known (deciding j)) w ≡ known (deciding j)

@@ -1,0 +1,2 @@
+-- Constants folded: what a reader has to believe of it.
+pub mod Folding

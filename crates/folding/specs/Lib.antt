@@ -1,0 +1,4 @@
+-- What the contracts of `folding` cite.
+pub mod Bare
+pub mod Results
+pub mod Folds
