@@ -26,7 +26,7 @@
 
 // The version of this interface; CHANGES.md lists what changed. A call that is changed or taken away makes a new major version.
 #define VYDRULKA_VERSION_MAJOR 1
-#define VYDRULKA_VERSION_MINOR 2
+#define VYDRULKA_VERSION_MINOR 3
 
 #ifdef __cplusplus
 extern "C" {

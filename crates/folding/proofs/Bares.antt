@@ -3,16 +3,16 @@
 -- nothing.
 use mathlib.Core.Path.{_≡_, refl, sym, ap, _∙_}
 use mathlib.Core.Bool.{Bool, true, false}
-use mathlib.Core.List.{List, [], _++_, append-assoc}
+use mathlib.Core.List.{List, [], _∷_, _++_, append-assoc}
 use mathlib.Core.Logic.{_⊎_, inl, inr}
-use Prim.Native.Nat.{ℕ, suc, _+_, _<_, _≤_}
+use Prim.Native.Nat.{ℕ, suc, _+_, _<_, _≤_, min}
 use native.Mathlib.Omega.{arith}
 use borrow.Author.Tests.{eqb-true, le-leb, lt-leb, eq-eqb, ne-eqb}
 use lib.Dec.{eqb}
 use lib.ListN.{length, getD, drop, drop-of-length-le}
 use lib.Seq.{drop-cons}
 use Rattle.lists.specs.Tests.{both, either}
-use Rattle.lists.proofs.Tests.{both-0, both-1}
+use Rattle.lists.proofs.Tests.{both-0, both-1, both-true}
 use Rattle.kinds.specs.declared.Leaf.{Leaf}
 use Rattle.kinds.specs.declared.Leaf.the-variants.{Const, Prop, Hold}
 use Rattle.kinds.specs.declared.Unary.{Unary}
@@ -25,7 +25,7 @@ use Rattle.ltl.specs.Formula.{Formula, leaf, one, two, constant, encode}
 use Rattle.nodes.specs.Begins.{Front}
 use Rattle.folded.specs.Folding.{folded}
 use Rattle.folded.proofs.Again.{Bare, bare-folded}
-use Rattle.folding.specs.Bare.{bareByte, bareFrom}
+use Rattle.folding.specs.Bare.{bareByte, bareFrom, lowestFrom}
 
 -- ---- one byte
 pub byte-high : (last b : ℕ) → 2 ≤ b → true ≡ bareByte last b
@@ -68,6 +68,35 @@ module _ {s : List ℕ} {last i : ℕ} (h : BareTo s last i) (l : i < length s) 
 
 pub bare-all : {s : List ℕ} {last i : ℕ} → BareTo s last i → length s ≤ i → true ≡ bareFrom 0 s
 bare-all {s} {last} {i} h l = sym (h .tells ∙ ap (bareFrom last) (drop-of-length-le s {i = i} l))
+
+-- ---- the lowest byte
+pub record LowestTo (s : List ℕ) (low i : ℕ) : Type 0 where
+  pub inside : i ≤ length s
+  pub tells : lowestFrom 255 s ≡ lowestFrom low (drop i s)
+
+module _ {s : List ℕ} {low i : ℕ} (h : LowestTo s low i) (l : i < length s) where
+  pub lowest-more : (next : ℕ) → next ≡ min low (getD s i 0) → LowestTo s next (i + 1)
+  lowest-more next e =
+      let k : suc i ≡ i + 1 = omega arith in
+      record {
+        inside = omega arith;
+        tells = h .tells ∙ ap (lowestFrom low) (drop-cons s i 0 l) ∙ ap (λ (n : ℕ). lowestFrom n (drop (suc i) s)) (sym e) ∙ ap (λ (n : ℕ). lowestFrom next (drop n s)) k;
+      }
+
+pub lowest-all : {s : List ℕ} {low i : ℕ} → LowestTo s low i → length s ≤ i → low ≡ lowestFrom 255 s
+lowest-all {s} {low} {i} h l = sym (h .tells ∙ ap (lowestFrom low) (drop-of-length-le s {i = i} l))
+
+-- it is no higher than what it began with
+lowest-few : (low : ℕ) (l : List ℕ) → lowestFrom low l ≤ low
+lowest-few low [] = omega arith
+lowest-few low (b ∷ l) = let h = lowest-few (min low b) l in omega arith
+
+-- where it is no constant's, no byte is
+pub lowest-bare : (low last : ℕ) (l : List ℕ) → 2 ≤ lowestFrom low l → true ≡ bareFrom last l
+lowest-bare low last [] h = refl
+lowest-bare low last (b ∷ l) h =
+    let k = lowest-few (min low b) l in
+    sym (both-true (bareByte last b) (bareFrom b l) (sym (byte-high last b (omega arith))) (sym (lowest-bare (min low b) b l h)))
 
 -- ---- what it tells
 unary-plain : (o : Unary) → unaryCode o ≡ 6 → ⊥

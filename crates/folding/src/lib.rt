@@ -5,7 +5,7 @@ mod results;
 ghost use mathlib.Core.Path.{_≡_};
 ghost use Rattle.limits.specs.Limits.{nodesRoom};
 ghost use Rattle.outlining.specs.Outlined.{smallNodes};
-ghost use Rattle.folding.specs.Bare.{bareByte, bareFrom};
+ghost use Rattle.folding.specs.Bare.{bareByte, bareFrom, lowestFrom};
 ghost use Rattle.folding.specs.Folds.{FoldNodeAsk, FoldsNode, FoldAsk, FoldNotedAsk, Folds};
 use kinds::Binary;
 use kinds::Kind;
@@ -36,8 +36,25 @@ fn bare_byte(last: u8, b: u8) -> bool
     b == Kind::TRUE
 }
 
-// Whether every byte is such a one: then the formula is folded as it stands.
-pub fn is_bare(s: &[u8]) -> bool
+// The lowest byte, 255 where there is none. A loop without a way out, which compilers turn into one over many bytes at a time.
+fn lowest(s: &[u8]) -> u8
+    ensures { λ r. ⌜ r ≡ lowestFrom 255 (now (s .entry)) ⌝ }
+{
+    let n = s.len();
+    let mut low: u8 = 255;
+    let mut i: usize = 0;
+    while i < n {
+        let b = s[i];
+        if b < low {
+            low = b;
+        }
+        i += 1;
+    }
+    low
+}
+
+// Whether every byte is such a one.
+fn bare_bytes(s: &[u8]) -> bool
     ensures { λ r. ⌜ r ≡ bareFrom 0 (now (s .entry)) ⌝ }
 {
     let n = s.len();
@@ -52,6 +69,16 @@ pub fn is_bare(s: &[u8]) -> bool
         i += 1;
     }
     true
+}
+
+// The same: then the formula is folded as it stands. Most rules have no constant, and the lowest byte tells that soonest.
+pub fn is_bare(s: &[u8]) -> bool
+    ensures { λ r. ⌜ r ≡ bareFrom 0 (now (s .entry)) ⌝ }
+{
+    if 2 <= lowest(s) {
+        return true;
+    }
+    bare_bytes(s)
 }
 
 // The node with the byte c, whose operands' results are the lowest, becomes a result.

@@ -6,7 +6,8 @@ use mathlib.Core.List.{List, [], _∷_}
 use Prim.Native.Nat.{ℕ, _+_, _-_, _<_, _≤_}
 use lib.ListN.{length, getD, take, drop}
 use Rattle.limits.specs.Limits.{nodesRoom}
-use Rattle.kinds.specs.Kinds.{kindOf}
+use Rattle.kinds.specs.declared.Unary.the-variants.{Next}
+use Rattle.kinds.specs.Kinds.{kindOf, unaryCode}
 use Rattle.ltl.specs.Formula.{Formula, size, encode, Coded}
 use Rattle.nodes.specs.Begins.{Front}
 use Rattle.peeling.specs.Peeled.{peel, peeled}
@@ -62,8 +63,8 @@ pub record KeepsWhole (p notes : List ℕ) (i n w : ℕ) (p′ notes′ : List �
 
 -- the place where what is kept begins: behind the byte of a next
 pub record KeptFrom (b a from : ℕ) : Type 0 where
-  pub next : b ≡ 5 → from ≡ a + 1
-  pub other : (b ≡ 5 → ⊥) → from ≡ a
+  pub next : b ≡ unaryCode Next → from ≡ a + 1
+  pub other : (b ≡ unaryCode Next → ⊥) → from ≡ a
 
 -- of a formula of m bytes at v nothing is known but its length; what is noted elsewhere stays
 pub record Forgets (p notes : List ℕ) (v m : ℕ) (notes′ : List ℕ) : Type 0 where

@@ -4,8 +4,10 @@ use mathlib.Core.List.{List, [], _∷_, _++_}
 use Prim.Native.Nat.{ℕ, _+_, _*_}
 use lib.ListN.{drop}
 use Rattle.limits.specs.Limits.{nodesRoom}
+use Rattle.kinds.specs.declared.Unary.the-variants.{Next}
+use Rattle.kinds.specs.declared.Join.the-variants.{And}
 use Rattle.kinds.specs.declared.Binary.the-variants.{Until}
-use Rattle.ltl.specs.Formula.{Formula, two, size, encode}
+use Rattle.ltl.specs.Formula.{Formula, one, two, join, size, encode}
 use Rattle.ltl.specs.Progression.{unfolded}
 use Rattle.nodes.specs.Begins.{Front, Begins}
 
@@ -31,7 +33,7 @@ pub record UnfoldsAt (s : List ℕ) (r : ℕ) (xs : List ℕ) (e : ℕ) : Type 0
 -- the formula at a is repeated under next; e is its end
 pub record RepeatsAt (s : List ℕ) (a : ℕ) (xs : List ℕ) (e : ℕ) : Type 0 where
   pub begins : Begins (drop a s)
-  pub writes : xs ≡ 5 ∷ encode (begins .formula)
+  pub writes : xs ≡ encode (one Next (begins .formula))
   pub ends : e ≡ a + size (begins .formula)
 
 -- of the until at a, and with its left operand unfolded is written, and the whole under next; e is its end
@@ -40,7 +42,7 @@ pub record LeftAt (s : List ℕ) (a : ℕ) (xs : List ℕ) (e : ℕ) : Type 0 wh
   pub right : Formula
   pub rest : List ℕ
   pub front : Front (drop a s) (two Until left right) rest
-  pub writes : xs ≡ 3 ∷ (encode (unfolded left) ++ (5 ∷ encode (two Until left right)))
+  pub writes : xs ≡ encode (join And (unfolded left) (one Next (two Until left right)))
   pub ends : e ≡ a + size (two Until left right)
 
 -- a task writes xs where the reading has come to r, and leaves the reading at e

@@ -4,6 +4,8 @@ ghost use mathlib.Core.Path.{_≡_};
 ghost use mathlib.Core.List.{_∷_, _++_};
 ghost use Prim.Native.Nat.{_+_, _-_, _<_, _≤_};
 ghost use lib.ListN.{length, set, take, drop};
+ghost use Rattle.kinds.specs.declared.Unary.the-variants.{Next};
+ghost use Rattle.kinds.specs.Kinds.{unaryCode};
 ghost use Rattle.outlining.specs.Outlined.{smallNodes, Outlined};
 ghost use Rattle.unfolding.specs.Stages.{Busy, BusyHere, Turns, TurnsHere};
 ghost use Rattle.unfolding.specs.Unfolds.{Unfoldable, UnfoldWithin, UnfoldAsk, Unfolds};
@@ -205,7 +207,7 @@ fn put_join(out: &mut [u8], notes: &mut [u16], w: usize, b: u8, k: usize, x: usi
 // Puts next and n bytes of s from a on, which stay whole, at w. Answers where they end.
 fn put_next(out: &mut [u8], notes: &mut [u16], w: usize, s: &[u8], a: usize, n: usize) -> usize
     requires { ⌜ (w + n < length (now out)) × (w + n < length (now notes)) × (a + n ≤ length (now s)) × (n < 65535) ⌝ }
-    ensures { λ r. ⌜ (r ≡ w + 1 + n) × (now (out .exit) ≡ take w (now (out .entry)) ++ ((5 ∷ take n (drop a (now (s .entry)))) ++ drop (w + 1 + n) (now (out .entry)))) × (now (notes .exit) ≡ set (now (notes .entry)) (w + n) (n + 1)) ⌝ }
+    ensures { λ r. ⌜ (r ≡ w + 1 + n) × (now (out .exit) ≡ take w (now (out .entry)) ++ ((unaryCode Next ∷ take n (drop a (now (s .entry)))) ++ drop (w + 1 + n) (now (out .entry)))) × (now (notes .exit) ≡ set (now (notes .entry)) (w + n) (n + 1)) ⌝ }
 {
     out[w] = Kind::NEXT;
     buffers::put(out, w + 1, s, a, n);
