@@ -48,11 +48,11 @@ enum {
 enum {
     VYDRULKA_STACK_READ = 32768,      // 344
     VYDRULKA_STACK_WRITE = 32768,     // 104
-    VYDRULKA_STACK_CENTRAL = 32768,   // 8,456, whatever the formula
-    VYDRULKA_STACK_LOAD = 1048576,    // 1,008,672, a rule of 1,023 nots
+    VYDRULKA_STACK_CENTRAL = 32768,   // 20,856, whatever the formula
+    VYDRULKA_STACK_LOAD = 1048576,    // 1,014,528, a rule of 1,023 nots
     VYDRULKA_STACK_SAMPLE = 32768,    // 520
     VYDRULKA_STACK_STEP = 32768,      // 8,776, whatever the slot
-    VYDRULKA_STACK_CLOSE = 4194304,   // 3,956,863, a slot of 4,095 nots
+    VYDRULKA_STACK_CLOSE = 4194304,   // 3,953,360, a slot of 4,095 nots
     VYDRULKA_STACK_ASK = 32768,       // 536
 };
 
