@@ -63,14 +63,14 @@ module _ (g : formula.Formula) (event : Event) (out : List ℕ) where
   outcome = padded centralNodesMost (encode (progressed event g))
 
   module _ {count : ℕ} (c : count ≡ min (size (unfolded g)) (nodesRoom + 1)) where
-    pub folded-nodes : centralNodesMost < count → Outcomed g event out out (Refused Nodes)
-    folded-nodes h =
+    pub outcome-nodes : centralNodesMost < count → Outcomed g event out out (Refused Nodes)
+    outcome-nodes h =
         let e : foldedSays g event ≡ refused 8 = order-refused 8 _ _ _ (lt-leb (size (unfolded g)) centralNodesMost (omega arith)) in
         record { says = sym e; leaves = sym (ap (λ (x : Said). left x outcome out) e ∙ left-refused Nodes outcome out) }
 
-    pub folded-progressed : count ≤ centralNodesMost → (out′ : List ℕ) (k : ℕ) (v : Verdict) → out′ ≡ outcome → k ≡ size (progressed event g) → v ≡ verdictOf (progressed event g)
+    pub outcome-progressed : count ≤ centralNodesMost → (out′ : List ℕ) (k : ℕ) (v : Verdict) → out′ ≡ outcome → k ≡ size (progressed event g) → v ≡ verdictOf (progressed event g)
         → Outcomed g event out out′ (Progressed (record { verdict = v; length = k }))
-    folded-progressed h out′ k v b i q =
+    outcome-progressed h out′ k v b i q =
         let says : foldedSays g event ≡ accepted (answerOf (progressed event g)) = order-ok 8 _ _ _ (le-leb (size (unfolded g)) centralNodesMost (omega arith)) ∙ order-done _ in
         record { says = rw (q, i) (sym says); leaves = b ∙ sym (ap (λ (x : Said). left x outcome out) says ∙ left-accepted (answerOf (progressed event g)) outcome out) }
 

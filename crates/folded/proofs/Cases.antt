@@ -1,5 +1,5 @@
 -- What folding may give, by cases, so that nobody opens its definitions again. The test for a constant: `either-is`, `either-not`,
--- `either-constant`, `either-never`; `constant-injective`: the two constants differ. What a node becomes, where whatever holds in each
+-- `either-constant`, `either-none`, `either-never`; `constant-injective`: the two constants differ. What a node becomes, where whatever holds in each
 -- case holds of it: `folded-not-cases`, `folded-next-cases`, `folded-ever-cases`, and `folded-one-cases` for all three by what an
 -- operator makes of a constant (`ofConstant`); `folded-join-cases`, `folded-until-cases`. `negated-cases` is the same for not as
 -- resolving has it. Assumes nothing.
@@ -14,7 +14,7 @@ use Rattle.ltl.specs.Formula.{Formula, one, two, constant, join, sameBool}
 use Rattle.ltl.specs.Progression.{isConstant, negated, deciding}
 use Rattle.folded.specs.Folding.{isEither, foldedOne, foldedTwo}
 use Rattle.lists.proofs.Tests.{no-true, either-elim, pick-elim}
-use Rattle.ltl.proofs.Joining.{constant-is, two-ways}
+use Rattle.ltl.proofs.Joining.{constant-is, two-ways, constants-cases}
 
 -- ---- the test for a constant
 pub either-is : (f : Formula) → isEither f ≡ true → (v : Bool) × (f ≡ constant v)
@@ -44,10 +44,10 @@ either-never f v n e = no-true (sym n ∙ ap isEither e ∙ either-constant v)
 pub constant-injective : (v w : Bool) → constant v ≡ constant w → v ≡ w
 constant-injective v w e = cc
 
--- neither this constant nor the other
-either-none : (w : Bool) (f : Formula) → isConstant w f ≡ false → isConstant (not w) f ≡ false → isEither f ≡ false
+-- neither of the constants
+pub either-none : (f : Formula) → ((v : Bool) → isConstant v f ≡ false) → isEither f ≡ false
 unfolding isEither either
-either-none w f p q = rw (two-ways w true f p q, two-ways w false f p q)
+either-none f p = rw (p true, p false)
 
 -- ---- a node with one operand
 pub negated-cases : (P : Formula → Type 0) (f : Formula)
@@ -58,7 +58,7 @@ pub negated-cases : (P : Formula → Type 0) (f : Formula)
 unfolding negated
 negated-cases P f t n h =
     pick-elim P (isConstant true f) _ _ (λ k. t (constant-is _ f k))
-    (λ a. pick-elim P (isConstant false f) _ _ (λ k. n (constant-is _ f k)) (λ b. h (either-none true f a b)))
+    (λ a. pick-elim P (isConstant false f) _ _ (λ k. n (constant-is _ f k)) (λ b. h (either-none f (λ v. two-ways true v f a b))))
 
 pub folded-not-cases : (P : Formula → Type 0) (f : Formula)
     → (f ≡ constant true → P (constant false))
@@ -101,17 +101,8 @@ pub folded-join-cases : (P : Formula → Type 0) (j : Join) (l r : Formula)
     → (r ≡ constant (not (deciding j)) → P l)
     → (isEither l ≡ false → isEither r ≡ false → P (join j l r))
     → P (foldedTwo (Joined j) l r)
-unfolding foldedTwo pick either
-folded-join-cases P j l r dl dr nl nr h =
-    go (isConstant (deciding j) l) refl (isConstant (deciding j) r) refl (isConstant (not (deciding j)) l) refl (isConstant (not (deciding j)) r) refl
-  where
-    go : (a : Bool) → isConstant (deciding j) l ≡ a → (b : Bool) → isConstant (deciding j) r ≡ b → (c : Bool) → isConstant (not (deciding j)) l ≡ c
-        → (d : Bool) → isConstant (not (deciding j)) r ≡ d → P (pick (either a b) (constant (deciding j)) (pick c r (pick d l (join j l r))))
-    go true p b q c s d t = dl (constant-is (deciding j) l p)
-    go false p true q c s d t = dr (constant-is (deciding j) r q)
-    go false p false q true s d t = nl (constant-is (not (deciding j)) l s)
-    go false p false q false s true t = nr (constant-is (not (deciding j)) r t)
-    go false p false q false s false t = h (either-none (deciding j) l p s) (either-none (deciding j) r q t)
+unfolding foldedTwo
+folded-join-cases P j l r dl dr nl nr h = constants-cases P j l r (join j l r) dl dr nl nr (λ p q. h (either-none l p) (either-none r q))
 
 pub folded-until-cases : (P : Formula → Type 0) (f g : Formula)
     → (isEither g ≡ true → P g)

@@ -1,5 +1,5 @@
 -- What `foldedOne` and `foldedTwo` give, by what the notes of their operands tell. Assumes nothing.
-use mathlib.Core.Path.{_≡_, refl, sym}
+use mathlib.Core.Path.{_≡_}
 use mathlib.Core.Bool.{Bool, true, false, not}
 use Rattle.lists.specs.Tests.{pick, either}
 use Rattle.lists.proofs.Tests.{either-right}
@@ -9,9 +9,9 @@ use Rattle.kinds.specs.declared.Join.{Join}
 use Rattle.kinds.specs.declared.Binary.the-variants.{Joined, Until}
 use Rattle.ltl.specs.Formula.{Formula, one, two, constant, join}
 use Rattle.ltl.specs.Progression.{isConstant, negated, deciding}
-use Rattle.ltl.proofs.Joining.{constant-is, constant-self, constant-other}
+use Rattle.ltl.proofs.Joining.{constant-self, constant-other, by-left, by-right, by-skip, by-keep, by-none}
 use Rattle.folded.specs.Folding.{isEither, foldedOne, foldedTwo}
-use Rattle.folded.proofs.Cases.{either-constant}
+use Rattle.folded.proofs.Cases.{either-constant, either-none}
 
 -- ---- an operator over a constant
 pub not-constant : (v : Bool) → foldedOne Not (constant v) ≡ constant (not v)
@@ -28,46 +28,38 @@ unfolding foldedOne pick
 ever-constant j v = rw (either-constant v)
 
 -- ---- over a formula that is none
-no-either : (f : Formula) → ((v : Bool) → isConstant v f ≡ false) → isEither f ≡ false
-unfolding isEither either
-no-either f p = rw (p true, p false)
-
 pub one-open : (o : Unary) (f : Formula) → ((v : Bool) → isConstant v f ≡ false) → foldedOne o f ≡ one o f
 unfolding foldedOne negated pick
 one-open Not f p = rw (p true, p false)
-one-open Next f p = rw (no-either f p)
-one-open (Ever j) f p = rw (no-either f p)
+one-open Next f p = rw (either-none f p)
+one-open (Ever j) f p = rw (either-none f p)
 
 -- ---- a join
 module _ (j : Join) (l r : Formula) where
   -- an operand settles it
   pub join-left : l ≡ constant (deciding j) → foldedTwo (Joined j) l r ≡ constant (deciding j)
-  unfolding foldedTwo pick either
-  join-left e = rw (e, constant-self (deciding j))
+  unfolding foldedTwo
+  join-left = by-left j l r (join j l r)
 
   pub join-right : r ≡ constant (deciding j) → foldedTwo (Joined j) l r ≡ constant (deciding j)
-  unfolding foldedTwo pick
-  join-right e = rw (e, constant-self (deciding j), either-right (isConstant (deciding j) l))
+  unfolding foldedTwo
+  join-right = by-right j l r (join j l r)
 
   -- the left one says nothing
   pub join-skip : l ≡ constant (not (deciding j)) → foldedTwo (Joined j) l r ≡ r
-  unfolding foldedTwo pick either
-  join-skip e = rw (e, constant-other (deciding j), constant-self (not (deciding j))) (go (isConstant (deciding j) r) refl)
-    where
-      go : (x : Bool) → isConstant (deciding j) r ≡ x → pick x (constant (deciding j)) r ≡ r
-      go true q = sym (constant-is (deciding j) r q)
-      go false q = refl
+  unfolding foldedTwo
+  join-skip = by-skip j l r (join j l r)
 
   module _ (p : (v : Bool) → isConstant v l ≡ false) where
     -- the right one says nothing
     pub join-keep : r ≡ constant (not (deciding j)) → foldedTwo (Joined j) l r ≡ l
-    unfolding foldedTwo pick either
-    join-keep e = rw (p (deciding j), p (not (deciding j)), e, constant-other (deciding j), constant-self (not (deciding j)))
+    unfolding foldedTwo
+    join-keep = by-keep j l r (join j l r) p
 
     -- neither is a constant
     pub join-both : ((v : Bool) → isConstant v r ≡ false) → foldedTwo (Joined j) l r ≡ join j l r
-    unfolding foldedTwo pick either
-    join-both q = rw (p (deciding j), p (not (deciding j)), q (deciding j), q (not (deciding j)))
+    unfolding foldedTwo
+    join-both = by-none j l r (join j l r) p
 
 -- ---- until
 module _ (f g : Formula) where
@@ -81,4 +73,4 @@ module _ (f g : Formula) where
 
   pub until-both : isConstant false f ≡ false → ((v : Bool) → isConstant v g ≡ false) → foldedTwo Until f g ≡ two Until f g
   unfolding foldedTwo pick either
-  until-both p q = rw (no-either g q, p)
+  until-both p q = rw (either-none g q, p)

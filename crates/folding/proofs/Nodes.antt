@@ -1,6 +1,6 @@
 -- A node whose operands were folded: what its kind says of the results that are asked for, and one law for each way out of `fold_node`.
 -- Assumes nothing.
-use mathlib.Core.Path.{_≡_, refl, sym, ap, _∙_, subst}
+use mathlib.Core.Path.{_≡_, sym, ap, _∙_, subst}
 use mathlib.Core.List.{List, [], _∷_, append-nil}
 use Prim.Native.Nat.{ℕ, _+_, _-_, _<_, _≤_}
 use native.Mathlib.Omega.{arith}
@@ -12,16 +12,13 @@ use Rattle.kinds.specs.declared.Binary.{Binary}
 use Rattle.kinds.specs.declared.Kind.{Kind}
 use Rattle.kinds.specs.declared.Kind.the-variants.{Zero, One, Two, NoCode}
 use Rattle.kinds.specs.Kinds.{kindOf, binaryCode}
-use Rattle.ltl.specs.Formula.{Formula, leaf, encode}
-use Rattle.nodes.proofs.Fronts.{Parts, isZero, parts-as, single, double, no-code}
+use Rattle.ltl.specs.Formula.{Formula, encode}
+use Rattle.nodes.proofs.Fronts.{Parts, parts-as, zero-is, single, double, no-code}
 use Rattle.peeling.specs.Peeled.{encodes, peel}
 use Rattle.folded.specs.Folding.{folded}
 use Rattle.folding.specs.Results.{heldAll, notesOf, Results, FoldsLeaf, OneAsk, FoldsOne, TwoAsk, FoldsTwo}
 use Rattle.folding.specs.Folds.{allFolded, FoldNodeAt, FoldNodeAsk, FoldsNode}
 use Rattle.folding.proofs.Notes.{held-short, notes-short}
-
-zero-is : {s rest : List ℕ} {f : Formula} {a : Leaf} → Parts s rest f (Zero a) → f ≡ leaf a
-zero-is (isZero w e) = refl
 
 -- what is asked leaves room for a byte and a note
 pub record NodeRoomed (p notes : List ℕ) (w t : ℕ) : Type 0 where

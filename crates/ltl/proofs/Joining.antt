@@ -1,5 +1,5 @@
--- What `joined` and `negated` may give, by cases: `joined-cases` with what is known of the operands in each, `joined-elim` without;
--- and the members of a formula as a family. Assumes nothing.
+-- What `byConstants`, `joined` and `negated` may give, by cases: `constants-cases` and `joined-cases` with what is known of the operands in
+-- each, `joined-elim` without; `by-left` and its like as equations; and the members of a formula as a family. Assumes nothing.
 use mathlib.Core.Path.{_≡_, refl, sym, subst}
 use mathlib.Core.Bool.{Bool, true, false, not}
 use Rattle.lists.specs.Tests.{pick, either}
@@ -8,8 +8,8 @@ use Rattle.kinds.specs.declared.Unary.the-variants.{Not}
 use Rattle.kinds.specs.declared.Join.{Join}
 use Rattle.kinds.specs.declared.Binary.the-variants.{Joined, Until}
 use Rattle.ltl.specs.Formula.{Formula, leaf, one, two, constant, join, sameBool, sameJoin, same}
-use Rattle.ltl.specs.Progression.{verdictOf, isConstant, negated, deciding, member, joined}
-use Rattle.lists.proofs.Tests.{no-true, either-elim, pick-elim}
+use Rattle.ltl.specs.Progression.{verdictOf, isConstant, negated, deciding, member, byConstants, joined}
+use Rattle.lists.proofs.Tests.{no-true, either-elim, either-right, pick-elim}
 use Rattle.ltl.proofs.Equal.{same-eq, join-eq, sameBool-refl}
 use Rattle.answers.specs.declared.Verdict.the-variants.{Pending}
 
@@ -55,7 +55,60 @@ two-ways true false f a b = b
 two-ways false true f a b = b
 two-ways false false f a b = a
 
--- what `joined` gives, by cases, with what is known of the operands in each
+-- ---- and, or by their constants
+-- what `byConstants` gives, by cases, with what is known of the operands in each
+pub constants-cases : (P : Formula → Type 0) (j : Join) (l r otherwise : Formula)
+    → (l ≡ constant (deciding j) → P (constant (deciding j)))
+    → (r ≡ constant (deciding j) → P (constant (deciding j)))
+    → (l ≡ constant (not (deciding j)) → P r)
+    → (r ≡ constant (not (deciding j)) → P l)
+    → (((v : Bool) → isConstant v l ≡ false) → ((v : Bool) → isConstant v r ≡ false) → P otherwise)
+    → P (byConstants j l r otherwise)
+unfolding pick either
+constants-cases P j l r otherwise dl dr nl nr h =
+    go (isConstant (deciding j) l) refl (isConstant (deciding j) r) refl (isConstant (not (deciding j)) l) refl (isConstant (not (deciding j)) r) refl
+  where
+    go : (a : Bool) → isConstant (deciding j) l ≡ a → (b : Bool) → isConstant (deciding j) r ≡ b → (c : Bool) → isConstant (not (deciding j)) l ≡ c
+        → (d : Bool) → isConstant (not (deciding j)) r ≡ d → P (pick (either a b) (constant (deciding j)) (pick c r (pick d l otherwise)))
+    go true p b q c s d t = dl (constant-is (deciding j) l p)
+    go false p true q c s d t = dr (constant-is (deciding j) r q)
+    go false p false q true s d t = nl (constant-is (not (deciding j)) l s)
+    go false p false q false s true t = nr (constant-is (not (deciding j)) r t)
+    go false p false q false s false t = h (λ v. two-ways (deciding j) v l p s) (λ v. two-ways (deciding j) v r q t)
+
+-- the same as equations
+module _ (j : Join) (l r otherwise : Formula) where
+  -- the left operand settles it
+  pub by-left : l ≡ constant (deciding j) → byConstants j l r otherwise ≡ constant (deciding j)
+  unfolding pick either
+  by-left e = rw (e, constant-self (deciding j))
+
+  -- the right one does
+  pub by-right : r ≡ constant (deciding j) → byConstants j l r otherwise ≡ constant (deciding j)
+  unfolding pick
+  by-right e = rw (e, constant-self (deciding j), either-right (isConstant (deciding j) l))
+
+  -- the left one says nothing
+  pub by-skip : l ≡ constant (not (deciding j)) → byConstants j l r otherwise ≡ r
+  unfolding pick either
+  by-skip e = rw (e, constant-other (deciding j), constant-self (not (deciding j))) (go (isConstant (deciding j) r) refl)
+    where
+      go : (x : Bool) → isConstant (deciding j) r ≡ x → pick x (constant (deciding j)) r ≡ r
+      go true q = sym (constant-is (deciding j) r q)
+      go false q = refl
+
+  module _ (p : (v : Bool) → isConstant v l ≡ false) where
+    -- the right one says nothing
+    pub by-keep : r ≡ constant (not (deciding j)) → byConstants j l r otherwise ≡ l
+    unfolding pick either
+    by-keep e = rw (p (deciding j), p (not (deciding j)), e, constant-other (deciding j), constant-self (not (deciding j)))
+
+    -- neither is a constant
+    pub by-none : ((v : Bool) → isConstant v r ≡ false) → byConstants j l r otherwise ≡ otherwise
+    unfolding pick either
+    by-none q = rw (p (deciding j), p (not (deciding j)), q (deciding j), q (not (deciding j)))
+
+-- ---- what `joined` gives, by cases, with what is known of the operands in each
 pub joined-cases : (P : Formula → Type 0) (j : Join) (l r : Formula)
     → (l ≡ constant (deciding j) → P (constant (deciding j)))
     → (r ≡ constant (deciding j) → P (constant (deciding j)))
@@ -64,22 +117,10 @@ pub joined-cases : (P : Formula → Type 0) (j : Join) (l r : Formula)
     → (member j l r ≡ true → verdictOf l ≡ Pending → verdictOf r ≡ Pending → P r)
     → (verdictOf l ≡ Pending → verdictOf r ≡ Pending → P (join j l r))
     → P (joined j l r)
-unfolding joined pick either
+unfolding joined
 joined-cases P j l r dl dr nl nr m h =
-    go (isConstant (deciding j) l) refl (isConstant (deciding j) r) refl (isConstant (not (deciding j)) l) refl (isConstant (not (deciding j)) r) refl (member j l r) refl
-  where
-    settled : (f : Formula) → isConstant (deciding j) f ≡ false → isConstant (not (deciding j)) f ≡ false → verdictOf f ≡ Pending
-    settled f a b = pending f (λ v. two-ways (deciding j) v f a b)
-
-    go : (a : Bool) → isConstant (deciding j) l ≡ a → (b : Bool) → isConstant (deciding j) r ≡ b → (c : Bool) → isConstant (not (deciding j)) l ≡ c
-        → (d : Bool) → isConstant (not (deciding j)) r ≡ d → (e : Bool) → member j l r ≡ e
-        → P (pick (either a b) (constant (deciding j)) (pick c r (pick d l (pick e r (join j l r)))))
-    go true p b q c s d t e u = dl (constant-is (deciding j) l p)
-    go false p true q c s d t e u = dr (constant-is (deciding j) r q)
-    go false p false q true s d t e u = nl (constant-is (not (deciding j)) l s)
-    go false p false q false s true t e u = nr (constant-is (not (deciding j)) r t)
-    go false p false q false s false t true u = m u (settled l p s) (settled r q t)
-    go false p false q false s false t false u = h (settled l p s) (settled r q t)
+    constants-cases P j l r (pick (member j l r) r (join j l r)) dl dr nl nr
+    (λ p q. pick-elim P (member j l r) r (join j l r) (λ u. m u (pending l p) (pending r q)) (λ u. h (pending l p) (pending r q)))
 
 -- the same without
 pub joined-elim : (P : Formula → Type 0) (j : Join) (l r : Formula)

@@ -130,6 +130,9 @@ double {s = s} {rest = rest} (isTwo {o = o} {f = g} {g = h} e y z) =
     }
 
 -- ---- a leaf, and no code
+pub zero-is : {s rest : List ℕ} {f : Formula} {a : Leaf} → Parts s rest f (Zero a) → f ≡ leaf a
+zero-is (isZero w e) = refl
+
 pub zero-size : {s rest : List ℕ} {f : Formula} {a : Leaf} → Parts s rest f (Zero a) → 1 ≡ size f
 zero-size (isZero w e) = refl
 

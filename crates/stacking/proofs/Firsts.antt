@@ -1,11 +1,10 @@
 -- A formula by its first byte: 0 and 1 are the constants, and nothing else begins so. `joined` and `negated` by the first bytes
 -- of their operands, as the code tells them apart. Assumes nothing.
-use mathlib.Core.Path.{_≡_, refl, sym}
+use mathlib.Core.Path.{_≡_, refl, ap, _∙_}
 use mathlib.Core.Bool.{Bool, true, false, not}
 use Prim.Native.Nat.{ℕ, zero, suc, _-_, _<_, _≤_}
 use native.Mathlib.Omega.{arith}
-use Rattle.lists.specs.Tests.{pick, either}
-use Rattle.lists.proofs.Tests.{either-right}
+use Rattle.lists.specs.Tests.{pick}
 use Rattle.kinds.specs.declared.Leaf.the-variants.{Const, Prop, Hold}
 use Rattle.kinds.specs.declared.Unary.{Unary}
 use Rattle.kinds.specs.declared.Unary.the-variants.{Not, Next, Ever}
@@ -17,7 +16,7 @@ use Rattle.kinds.specs.Kinds.{leafCode, unaryCode, binaryCode}
 use Rattle.ltl.specs.Formula.{Formula, leaf, one, two, constant, join}
 use Rattle.ltl.specs.Progression.{isConstant, negated, deciding, member, joined}
 use Rattle.ltl.proofs.Decoding.{first}
-use Rattle.ltl.proofs.Joining.{constant-is, constant-self, constant-other}
+use Rattle.ltl.proofs.Joining.{constant-self, constant-other, by-left, by-right, by-skip, by-keep, by-none}
 
 pub unary-high : (o : Unary) → 2 ≤ unaryCode o
 unary-high Not = omega arith
@@ -62,41 +61,41 @@ first-other Or f h n = first-constant false f (omega arith)
 
 -- ---- `joined` by its operands
 module _ (j : Join) (l r : Formula) where
+  -- what is left where neither operand is a constant
+  abbrev byMember : Formula
+  byMember = pick (member j l r) r (join j l r)
+
   -- the left operand settles it
   pub joined-left : l ≡ constant (deciding j) → joined j l r ≡ constant (deciding j)
-  unfolding joined pick either
-  joined-left e = rw (e, constant-self (deciding j))
+  unfolding joined
+  joined-left = by-left j l r byMember
 
   -- the right one does
   pub joined-right : r ≡ constant (deciding j) → joined j l r ≡ constant (deciding j)
-  unfolding joined pick
-  joined-right e = rw (e, constant-self (deciding j), either-right (isConstant (deciding j) l))
+  unfolding joined
+  joined-right = by-right j l r byMember
 
   -- the left operand says nothing
   pub joined-skip : l ≡ constant (not (deciding j)) → joined j l r ≡ r
-  unfolding joined pick either
-  joined-skip e = rw (e, constant-other (deciding j), constant-self (not (deciding j))) (go (isConstant (deciding j) r) refl)
-    where
-      go : (x : Bool) → isConstant (deciding j) r ≡ x → pick x (constant (deciding j)) r ≡ r
-      go true q = sym (constant-is (deciding j) r q)
-      go false q = refl
+  unfolding joined
+  joined-skip = by-skip j l r byMember
 
   -- the left operand is no constant
   module _ (p : (v : Bool) → isConstant v l ≡ false) where
     -- the right one says nothing
     pub joined-keep : r ≡ constant (not (deciding j)) → joined j l r ≡ l
-    unfolding joined pick either
-    joined-keep e = rw (p (deciding j), p (not (deciding j)), e, constant-other (deciding j), constant-self (not (deciding j)))
+    unfolding joined
+    joined-keep = by-keep j l r byMember p
 
     -- the right one is no constant either
     module _ (q : (v : Bool) → isConstant v r ≡ false) where
       pub joined-member : member j l r ≡ true → joined j l r ≡ r
-      unfolding joined pick either
-      joined-member m = rw (p (deciding j), p (not (deciding j)), q (deciding j), q (not (deciding j)), m)
+      unfolding joined pick
+      joined-member m = by-none j l r byMember p q ∙ ap (λ (x : Bool). pick x r (join j l r)) m
 
       pub joined-both : member j l r ≡ false → joined j l r ≡ join j l r
-      unfolding joined pick either
-      joined-both m = rw (p (deciding j), p (not (deciding j)), q (deciding j), q (not (deciding j)), m)
+      unfolding joined pick
+      joined-both m = by-none j l r byMember p q ∙ ap (λ (x : Bool). pick x r (join j l r)) m
 
 -- ---- `negated` by its operand
 negated-constant : (v : Bool) (f : Formula) → f ≡ constant v → negated f ≡ constant (not v)

@@ -18,9 +18,9 @@ use Rattle.kinds.specs.declared.Binary.the-variants.{Joined}
 use Rattle.kinds.specs.declared.Kind.{Kind}
 use Rattle.kinds.specs.declared.Kind.the-variants.{Zero, One, Two, NoCode}
 use Rattle.kinds.specs.Kinds.{kindOf, leafCode, joinCode, leafCoded}
-use Rattle.ltl.specs.Formula.{Formula, leaf, one, encode, Coded}
+use Rattle.ltl.specs.Formula.{Formula, leaf, encode, Coded}
 use Rattle.ltl.specs.Progression.{deciding}
-use Rattle.nodes.proofs.Fronts.{Parts, isZero, parts-as, single, Double, double, no-code}
+use Rattle.nodes.proofs.Fronts.{Parts, parts-as, zero-is, leaf-within, single, Double, double, no-code}
 use Rattle.peeling.specs.Peeled.{peel}
 use Rattle.outlining.specs.Outlined.{wholeKind}
 use Rattle.stacking.specs.Stacks.{Stack, Negatable, Negates}
@@ -41,9 +41,6 @@ leaf-plain (Prop i) And e = omega arith
 leaf-plain (Prop i) Or e = omega arith
 leaf-plain (Hold k) And e = omega arith
 leaf-plain (Hold k) Or e = omega arith
-
-zero-is : {s rest : List ℕ} {f : Formula} {a : Leaf} → Parts s rest f (Zero a) → (f ≡ leaf a) × leafCoded a
-zero-is (isZero w e) = (refl, w)
 
 -- ---- by the kind that the code found
 module _ {c : ℕ} {seen : Seen} {p notes : List ℕ} {w : ℕ} {k : Kind} (e : k ≡ kindOf c) where
@@ -66,13 +63,13 @@ module _ {c : ℕ} {seen : Seen} {p notes : List ℕ} {w : ℕ} {k : Kind} (e : 
       done : (g : Formula) (gs : List Formula) → NodeAt g gs c seen p notes w → Stack (settled seen g ∷ allSettled seen gs) (set p (w - 1) b) (set notes (w - 1) 1) (w - 1)
       done g gs x =
           let z = zero-is (at-kind x h) in
-          let q : settled seen g ≡ leaf (settledLeaf seen a) = ap (settled seen) (z .0) ∙ settled-leaf seen a in
+          let q : settled seen g ≡ leaf (settledLeaf seen a) = ap (settled seen) z ∙ settled-leaf seen a in
           subst (λ (y : Formula). Stack (y ∷ allSettled seen gs) (set p (w - 1) b) (set notes (w - 1) 1) (w - 1)) (sym q)
-          (push-done (stack-as x (z .0)) (ask .some) (leaf (settledLeaf seen a)) b (subst (λ (y : Formula). Coded y) q (settled-coded seen g (x .coded))) (ap (_∷ []) (sym eb)) refl
+          (push-done (stack-as x z) (ask .some) (leaf (settledLeaf seen a)) b (subst (λ (y : Formula). Coded y) q (settled-coded seen g (x .coded))) (ap (_∷ []) (sym eb)) refl
           (leaf-plain (settledLeaf seen a)))
 
   pub node-leaf-coded : {a : Leaf} → k ≡ Zero a → NodeAsk c seen p notes w → leafCoded a
-  node-leaf-coded h ask = zero-is (at-kind (ask .at) h) .1
+  node-leaf-coded h ask = leaf-within (at-kind (ask .at) h)
 
   -- ---- not
   module _ {o : Unary} (h : k ≡ One o) (i : o ≡ Not) where
