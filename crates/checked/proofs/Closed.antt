@@ -1,5 +1,5 @@
 -- Closing gives a state that passes the state check, for every state that passes and is done, whether it was reached from a rule or
--- not, where the new layout is within the limits: `closed-passes`. Assumes nothing.
+-- not, where the new layout is within the limits: `closed-passes`. Its slots are `SlotFitting` (`closed-fits`). Assumes nothing.
 use mathlib.Core.Path.{_≡_, ap, _∙_}
 use mathlib.Core.Bool.{true}
 use mathlib.Core.List.{List}
@@ -70,13 +70,16 @@ module _ (s : List ℕ) (ok : stateOk s ≡ true) (done : doneIn s ≡ true) whe
       let h : k < slotsIn s = omega (arith, network-length s) in
       rw (network-at s k h) (omega (arith, masks-length s, passing s ok .slots k h .board-there))
 
+  -- the slots that they are laid out to
+  pub closed-fits : (k : ℕ) → k < length (nextIn s) → SlotFitting p (masksIn s) (length (nextIn s)) k (slotAt (nextIn s) k)
+  closed-fits =
+      let c = passing s ok in
+      each-slot (SlotFitting p (masksIn s) (length (nextIn s))) (nextIn s) (close-fits p (masksIn s) (c .few-propositions) (c .masks-rule) (networkOf s) network-some network-standing network-there)
+
   pub closed-passes : length (nextIn s) ≤ slotsMost (formIn s) → nodesOf (nextIn s) ≤ nodesMost (formIn s) → stateOk (stateOf (formIn s) (masksIn s) (nextIn s) (ticksIn s + 1)) ≡ true
   closed-passes few-slots few-nodes =
       let c = passing s ok in
       let masks = masksIn s in
-      let slots = nextIn s in
       let h = c .header in
       written-passes (formIn s) p masks (c .masks-rule) (c .some-propositions) (c .few-propositions) (omega (arith, masks-length s, h .some-boards)) (omega (arith, masks-length s, h .few-boards))
-      slots (close-some masks (networkOf s)) few-slots few-nodes
-      (each-slot (SlotFitting p masks (length slots)) slots (close-fits p masks (c .few-propositions) (c .masks-rule) (networkOf s) network-some network-standing network-there))
-      (ticksIn s + 1) (close-once (chosen masks) (networkOf s) network-some network-standing)
+      (nextIn s) (close-some masks (networkOf s)) few-slots few-nodes closed-fits (ticksIn s + 1) (close-once (chosen masks) (networkOf s) network-some network-standing)

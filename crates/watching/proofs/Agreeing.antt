@@ -19,12 +19,12 @@ use Rattle.state.specs.Fields.{boardsIn, ticksIn, masksIn, sampleIn}
 use Rattle.state.specs.Bytes.{stateOf, networkOf}
 use Rattle.state.specs.Calls.{doneIn, nextIn, closeSays}
 use Rattle.checked.proofs.Passing.{passing}
+use Rattle.keeping.proofs.Finished.{done-unfinished}
 use Rattle.watching.specs.Watch.{Calls}
 use Rattle.watching.proofs.Networks.{marksOf}
 use Rattle.watching.proofs.InTick.{InTick, steps-partly, steps-by, board-there, boards-kept}
 use Rattle.watching.proofs.Started.{Started, started-laid}
 use Rattle.watching.proofs.Ticked.{started-in-tick, done-marked}
-use Rattle.watching.proofs.Telling.{done-unfinished}
 
 module _ (masks : List ℕ) (p : ℕ) (rule : Formula) (us : List Event) (s : List ℕ) (x : Started p masks rule us s) (q : ℕ) (other : Formula) (vs : List Event) (s₂ : List ℕ)
     (y : Started q masks other vs s₂) (alike : networkOf s ≡ networkOf s₂) (t u : List ℕ) (a : Calls s t) (b : Calls s₂ u)

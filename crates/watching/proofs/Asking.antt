@@ -24,11 +24,12 @@ use Rattle.state.specs.Bytes.{nodesOf, networkOf}
 use Rattle.state.specs.Calls.{finishedIn, verdictIn, askSays}
 use Rattle.state.proofs.Listed.{network-length, network-at}
 use Rattle.checked.proofs.Passing.{passing}
+use Rattle.keeping.proofs.Finished.{unfinished-pending}
 use Rattle.watching.specs.Watch.{Calls}
 use Rattle.watching.proofs.InTick.{slots-kept}
 use Rattle.watching.proofs.Started.{Started, started-laid}
 use Rattle.watching.proofs.Ticked.{started-in-tick}
-use Rattle.watching.proofs.Telling.{unfinished-pending, finished-over, started-verdict, calls-unfinished}
+use Rattle.watching.proofs.Telling.{finished-over, started-verdict, calls-unfinished}
 
 pub pending-unfinished : (s : List ℕ) → verdictIn s ≡ Pending → finishedIn s ≡ false
 unfolding verdictIn pick

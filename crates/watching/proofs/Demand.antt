@@ -16,8 +16,9 @@ use Rattle.state.specs.Fields.{boardsIn, sampleIn}
 use Rattle.state.specs.Clauses.{stateOk}
 use Rattle.state.specs.Bytes.{nodesOf, networkOf}
 use Rattle.state.specs.Calls.{finishedIn, verdictIn, askSays, doneIn, closeSays, closeLeaves}
+use Rattle.keeping.specs.Known.{known}
 use Rattle.watching.specs.Watch.{Calls, Tick, StateWatch}
-use Rattle.watching.specs.Claims.{known, StateGoesOn, StateReached, StateOver}
+use Rattle.watching.specs.Claims.{StateGoesOn, StateReached, StateOver}
 use Rattle.watching.proofs.Started.{Started}
 use Rattle.watching.proofs.Ticked.{close-passed, close-leaves, started-in-tick, tick-network, watch-started}
 use Rattle.watching.proofs.Telling.{finished-over, started-finished, started-verdict, calls-unfinished}

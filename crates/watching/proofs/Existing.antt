@@ -13,8 +13,7 @@ use native.Mathlib.Omega.{arith}
 use lib.ListN.{getD}
 use lib.Bits.{bitAnd}
 use borrow.Author.Tests.{eq-eqb}
-use Rattle.answers.specs.Said.{Said, accepted, left}
-use Rattle.answers.proofs.Answers.{left-accepted}
+use Rattle.answers.specs.Said.{accepted}
 use Rattle.ltl.specs.Formula.{Formula}
 use Rattle.ltl.specs.Meaning.{Event}
 use Rattle.network.specs.Scores.{sampleOf}
@@ -25,20 +24,17 @@ use Rattle.state.specs.Calls.{finishedIn, sampleSays, sampleLeaves, stepSays, s
 use Rattle.state.proofs.Listed.{masks-at}
 use Rattle.state.proofs.Sampled.{sample-slot, sample-other, sample-other-flag, sample-bits, sample-flag}
 use Rattle.checked.proofs.Passing.{passing, passing-sized, passing-stretched}
+use Rattle.keeping.specs.Closing.{StateClosing}
+use Rattle.keeping.proofs.Sampling.{bits-few}
+use Rattle.keeping.proofs.Stepping.{after, step-sample, step-flag, step-slot, step-mark}
+use Rattle.keeping.proofs.Calls.{accepted-leaves, done-of, above-ready, sample-accepted, step-accepted, close-left}
 use Rattle.watching.specs.Watch.{Calls, none, sample, step, Saw}
-use Rattle.watching.specs.Claims.{Accepted, StateClosing, StateReached}
+use Rattle.watching.specs.Claims.{Accepted, StateReached}
 use Rattle.watching.proofs.Bits.{and-twice}
-use Rattle.watching.proofs.Sampling.{bits-few}
-use Rattle.watching.proofs.Stepping.{after, step-sample, step-flag, step-slot, step-mark}
 use Rattle.watching.proofs.InTick.{InTick, slots-kept, boards-kept}
 use Rattle.watching.proofs.Started.{Started, started-laid}
 use Rattle.watching.proofs.Ticked.{started-in-tick}
 use Rattle.watching.proofs.Telling.{calls-unfinished}
-use Rattle.watching.proofs.GoingOn.{sample-accepted, step-accepted, close-left, done-of}
-
--- what an accepted call leaves
-accepted-leaves : (a : Said) (output before : List ℕ) → a ≡ accepted [] → left a output before ≡ output
-accepted-leaves a output before e = ap (λ (b : Said). left b output before) e ∙ left-accepted [] output before
 
 module _ (p : ℕ) (masks : List ℕ) (rule : Formula) (us : List Event) (s : List ℕ) (x : Started p masks rule us s) (unfinished : finishedIn s ≡ false) (e : Event) where
   -- a board's sample of the event
@@ -139,7 +135,7 @@ module _ (p : ℕ) (masks : List ℕ) (rule : Formula) (us : List Event) (s : Li
         let n = boards-kept s (x .passes) (started-laid p masks rule us s x) t (in-tick t c) in
         let b = passing t passes .slots k slot-there .board-there in
         step-accepted t passes (calls-unfinished p masks rule us s x t c unfinished) k slot-there (made .fresh k (omega arith) l)
-        (made .given (boardOfIn t k) (omega arith) (omega arith) .0) (λ m h i. made .stepped m (omega arith) (omega arith))
+        (above-ready t passes k slot-there (made .given (boardOfIn t k) (omega arith) (omega arith) .0) (λ m h i. made .stepped m (omega arith) (omega arith)))
 
     pub step-more : TickProgress (boardsIn s) k (stepLeaves t k)
     step-more =
@@ -187,7 +183,7 @@ module _ (p : ℕ) (masks : List ℕ) (rule : Formula) (us : List Event) (s : Li
     progress-done =
         let n = same-boards in
         let q = same-slots in
-        done-of t (in-tick t c .passes) still-unfinished (λ b h. made .given b (omega arith) (omega arith) .0) (λ k h. made .stepped k (omega arith) (omega arith))
+        done-of t (λ b h. made .given b (omega arith) (omega arith) .0) (λ k h. made .stepped k (omega arith) (omega arith))
 
     pub progress-closing : StateClosing t
     progress-closing = close-left t (in-tick t c .passes) still-unfinished progress-done

@@ -15,31 +15,33 @@ use Rattle.lists.proofs.Tests.{both-1, pick-elim}
 use Rattle.answers.specs.Said.{accepted, left, Check, inOrder}
 use Rattle.answers.proofs.Answers.{Passed, Refusing, order-passed}
 use Rattle.ltl.specs.Meaning.{Event}
+use Rattle.ltl.specs.Progression.{verdictOf}
 use Rattle.network.specs.Scores.{chosen}
 use Rattle.network.specs.Layout.{Slot, slotAt}
 use Rattle.network.specs.Tick.{holdsOnly, marked, stepped, Steps}
-use Rattle.network.proofs.Owned.{Plain}
+use Rattle.network.proofs.Owned.{Plain, stepped-headed}
 use Rattle.network.proofs.Holding.{holds-map, only-holds}
 use Rattle.network.proofs.Relaying.{AllOk}
 use Rattle.network.proofs.Settling.{slot-ok, Partly, partly-start, partly-steps}
 use Rattle.network.proofs.Choosing.{masks-choice}
 use Rattle.state.specs.Form.{formIn}
 use Rattle.state.specs.Fields.{boardsIn, slotsIn, nodesIn, ticksIn, maskIn, sampleIn, sampledIn, masksIn, boardOfIn, steppedIn}
-use Rattle.state.specs.Clauses.{inMask, stateOk}
+use Rattle.state.specs.Clauses.{inMask, loneOther, stateOk}
 use Rattle.state.specs.Bytes.{formulaAt, networkOf}
 use Rattle.state.specs.Writes.{sampleGiven}
-use Rattle.state.specs.Calls.{readyIn, sampleSays, stepSays}
-use Rattle.state.proofs.Listed.{masks-length, network-length, network-at}
+use Rattle.state.specs.Calls.{readyIn, sampleSays, stepSays, steppedTo}
+use Rattle.state.proofs.Listed.{masks-length, masks-at, network-length, network-at}
 use Rattle.state.proofs.Framed.{form-same, masks-same}
 use Rattle.state.proofs.Sampled.{sample-framed, sample-other}
 use Rattle.checked.proofs.Passing.{passing, passing-sized}
 use Rattle.checked.proofs.Held.{slot-holds}
 use Rattle.checked.proofs.Tidy.{tidy-only}
+use Rattle.keeping.proofs.Slots.{holds-both}
+use Rattle.keeping.proofs.Sampling.{sample-passes}
+use Rattle.keeping.proofs.Stepping.{after, step-framed, step-sample}
+use Rattle.keeping.proofs.StepPasses.{step-passes}
 use Rattle.watching.specs.Watch.{Calls, none, sample, step}
-use Rattle.watching.proofs.Slots.{holds-both}
-use Rattle.watching.proofs.Sampling.{sample-passes}
-use Rattle.watching.proofs.Stepping.{after, step-framed, step-sample}
-use Rattle.watching.proofs.StepPasses.{step-passes}
+use Rattle.watching.proofs.Formulas.{headed-own}
 use Rattle.watching.proofs.Resampled.{steps-more, steps-agreed}
 use Rattle.watching.proofs.Networks.{marksOf, mark-is, sample-network, sample-marks, step-network, step-marks}
 
@@ -136,6 +138,14 @@ module _ (s : List ℕ) (begins : stateOk s ≡ true) (laid : AllOk (chosen (mas
           let e = sym slot-kept ∙ network-at t k l in
           rw (in-tick .masks-kept) (subst (λ (c : Slot). Plain (chosen (masksIn s)) (c .board) (c .formula)) e o)
 
+      -- so that it does not become a lone proposition of another board
+      own : loneOther (maskIn t (boardOfIn t k)) (steppedTo t k) ≡ false
+      unfolding steppedTo
+      own =
+          let b = boardOfIn t k in
+          let headed = stepped-headed (chosen (masksIn t)) (sampleIn t b) (λ m. verdictOf (formulaAt t m)) b (formulaAt t k) plain in
+          ap (λ (m : ℕ). loneOther m (steppedTo t k)) (sym (masks-at t b (passing t (in-tick .passes) .slots k l .board-there))) ∙ headed-own (masksIn t) b (steppedTo t k) headed
+
       module _ (ready : readyIn t k ≡ true) where
         ready-now : holdsOnly (marked (marksOf t)) (slotAt (networkOf t) k .formula) ≡ true
         unfolding readyIn
@@ -154,9 +164,9 @@ module _ (s : List ℕ) (begins : stateOk s ≡ true) (laid : AllOk (chosen (mas
             let ok = in-tick .passes in
             let t′ = after t k in
             let f = step-framed t ok k l in
-            let p : StepsBy (sampleIn t) (networkOf t′) (marksOf t′) = rw (step-network t ok k l fresh ready plain, step-marks t ok k l fresh ready plain) steps-after in
+            let p : StepsBy (sampleIn t) (networkOf t′) (marksOf t′) = rw (step-network t ok k l fresh ready, step-marks t ok k l fresh ready) steps-after in
             record {
-              passes = step-passes t ok k l fresh ready plain;
+              passes = step-passes t ok k l fresh ready own;
               form-kept = form-same f ∙ in-tick .form-kept;
               masks-kept = masks-same f ∙ in-tick .masks-kept;
               nodes-kept = f .nodes ∙ in-tick .nodes-kept;

@@ -1,13 +1,6 @@
 -- What the calls of a watch keep, and the claims about a watch.
 pub mod Bits
-pub mod Parts
-pub mod Slots
-pub mod Once
-pub mod Sampling
 pub mod Formulas
-pub mod Stepping
-pub mod Constants
-pub mod StepPasses
 pub mod Networks
 pub mod Resampled
 pub mod InTick

@@ -10,16 +10,13 @@ use lib.ListN.{length, set, length-set}
 use lib.Seq.{getD-set-same, getD-set-other, ext-getD}
 use lib.Dec.{eqb}
 use borrow.Author.Tests.{eq-eqb}
-use Rattle.ltl.specs.Decode.{someFormula}
 use Rattle.ltl.specs.Formula.{Formula, constant}
 use Rattle.ltl.specs.Progression.{resolved, filled, verdictOf}
-use Rattle.network.specs.Scores.{chosen}
 use Rattle.network.specs.Layout.{Slot, slotAt}
 use Rattle.network.specs.Tick.{marked, verdictAt, stepped}
-use Rattle.network.proofs.Owned.{Plain}
 use Rattle.network.proofs.Holding.{holds-map}
 use Rattle.network.proofs.Settling.{filled-same}
-use Rattle.state.specs.Fields.{boardsIn, slotsIn, sampleIn, masksIn, boardOfIn, steppedIn}
+use Rattle.state.specs.Fields.{boardsIn, slotsIn, sampleIn, boardOfIn, steppedIn}
 use Rattle.state.specs.Clauses.{stateOk}
 use Rattle.state.specs.Bytes.{formulaAt, networkOf}
 use Rattle.state.specs.Writes.{sampleGiven}
@@ -32,9 +29,9 @@ use Rattle.checked.proofs.Passing.{passing, passing-sized, passing-stretched}
 use Rattle.checked.proofs.Held.{slot-holds}
 use Rattle.lists.specs.Listed.{listed}
 use Rattle.lists.proofs.Listed.{listed-length, listed-at}
-use Rattle.watching.proofs.Slots.{same-formula-at}
-use Rattle.watching.proofs.Stepping.{after, step-framed, step-slot, step-mark}
-use Rattle.watching.proofs.StepPasses.{step-reads}
+use Rattle.keeping.proofs.Slots.{same-formula-at}
+use Rattle.keeping.proofs.Stepping.{after, step-framed, step-slot, step-mark}
+use Rattle.keeping.proofs.StepPasses.{step-formula}
 
 -- the slot that is not there
 abbrev noSlot : Slot
@@ -88,8 +85,7 @@ module _ (s : List ℕ) (ok : stateOk s ≡ true) (b bits : ℕ) (there : b < bo
       (λ k l. (let i : k < slotsIn s = omega arith in mark-is s k i ∙ ap (λ (m : ℕ). eqb m 1) (sym (same k i .mark))))
 
 -- ---- after a step
-module _ (s : List ℕ) (ok : stateOk s ≡ true) (k : ℕ) (l : k < slotsIn s) (fresh : steppedIn s k ≡ 0) (ready : readyIn s k ≡ true)
-    (plain : Plain (chosen (masksIn s)) (boardOfIn s k) (formulaAt s k)) where
+module _ (s : List ℕ) (ok : stateOk s ≡ true) (k : ℕ) (l : k < slotsIn s) (fresh : steppedIn s k ≡ 0) (ready : readyIn s k ≡ true) where
   abbrev left : List ℕ
   left = after s k
 
@@ -116,7 +112,7 @@ module _ (s : List ℕ) (ok : stateOk s ≡ true) (k : ℕ) (l : k < slotsIn s) 
       slot : (j : ℕ) → j < slotsIn s → Dec (j ≡ k) → slotAt (set (networkOf s) k new) j ≡ record { board = boardOfIn left j; formula = formulaAt left j }
       slot j h (yes e) = subst (λ (i : ℕ). slotAt (set (networkOf s) k new) i ≡ record { board = boardOfIn left i; formula = formulaAt left i }) (sym e)
           (getD-set-same (networkOf s) k new noSlot (omega (arith, network-length s))
-          ∙ ap₂ (λ (c : ℕ) (g : Formula). record { board = c; formula = g }) (sym (step-framed s ok k l .board k l)) (sym (ap someFormula (step-reads s ok k l fresh ready plain))))
+          ∙ ap₂ (λ (c : ℕ) (g : Formula). record { board = c; formula = g }) (sym (step-framed s ok k l .board k l)) (sym (step-formula s ok k l fresh ready)))
       slot j h (no e) =
           getD-set-other (networkOf s) k j new noSlot e ∙ network-at s j h
           ∙ ap₂ (λ (c : ℕ) (g : Formula). record { board = c; formula = g }) (sym (step-framed s ok k l .board j h)) (sym (same-formula-at (step-slot s ok k l j h e)))

@@ -9,9 +9,9 @@ use Prim.Native.Nat.{ℕ, _<_}
 use native.Mathlib.Omega.{arith}
 use lib.ListN.{getD}
 use lib.Dec.{eqb}
-use borrow.Author.Tests.{eqb-true, eq-eqb}
+use borrow.Author.Tests.{eq-eqb}
 use Rattle.lists.specs.Tests.{pick}
-use Rattle.lists.proofs.Tests.{no-true, both-0, both-1, both-true}
+use Rattle.lists.proofs.Tests.{no-true}
 use Rattle.kinds.specs.declared.Leaf.the-variants.{Const, Prop, Hold}
 use Rattle.answers.specs.Said.{Said, refused, left}
 use Rattle.answers.specs.declared.Refusal.the-variants.{Finished}
@@ -22,47 +22,20 @@ use Rattle.ltl.specs.Meaning.{Event}
 use Rattle.ltl.specs.Progression.{verdictOf}
 use Rattle.network.specs.Layout.{Slot}
 use Rattle.state.specs.Form.{formIn, stateLength}
-use Rattle.state.specs.Fields.{slotsIn, steppedIn}
-use Rattle.state.specs.Clauses.{isConstantIn, stateOk}
+use Rattle.state.specs.Fields.{slotsIn}
+use Rattle.state.specs.Clauses.{stateOk}
 use Rattle.state.specs.Bytes.{formulaAt}
-use Rattle.state.specs.Calls.{finishedIn, verdictIn, doneIn, sampleSays, sampleLeaves, stepSays, stepLeaves, closeSays}
+use Rattle.state.specs.Calls.{finishedIn, verdictIn, sampleSays, sampleLeaves, stepSays, stepLeaves, closeSays}
 use Rattle.state.proofs.Listed.{network-at}
-use Rattle.records.proofs.Each.{each-at}
 use Rattle.checked.proofs.Passing.{SlotPassing, passing}
+use Rattle.keeping.specs.Known.{known}
+use Rattle.keeping.proofs.Constants.{constant-is}
+use Rattle.keeping.proofs.Finished.{finished-of, Ended, not-finished}
 use Rattle.watching.specs.Watch.{Calls, none, sample, step}
-use Rattle.watching.specs.Claims.{known, StateOver}
-use Rattle.watching.proofs.Constants.{constant-is}
+use Rattle.watching.specs.Claims.{StateOver}
 use Rattle.watching.proofs.InTick.{slots-kept, slot-kept}
 use Rattle.watching.proofs.Started.{Started, started-laid}
 use Rattle.watching.proofs.Ticked.{started-in-tick}
-
--- ---- finished or not
-pub unfinished-pending : (s : List ℕ) → finishedIn s ≡ false → verdictIn s ≡ Pending
-unfolding verdictIn pick
-unfinished-pending s e = rw e
-
-finished-of : (s : List ℕ) → slotsIn s ≡ 1 → steppedIn s 0 ≡ 0 → isConstantIn s 0 ≡ true → finishedIn s ≡ true
-unfolding finishedIn
-finished-of s a b c = both-true _ _ (eq-eqb _ _ a) (both-true _ _ (eq-eqb _ _ b) c)
-
--- what a finished state's root is
-record Ended (s : List ℕ) : Type 0 where
-  unstepped : steppedIn s 0 ≡ 0
-  constant : isConstantIn s 0 ≡ true
-
-ended : (s : List ℕ) → finishedIn s ≡ true → Ended s
-unfolding finishedIn
-ended s e = let a = both-1 _ _ e in record { unstepped = eqb-true _ _ (both-0 _ _ a); constant = both-1 _ _ a }
-
-not-finished : (s : List ℕ) (b : Bool) → finishedIn s ≡ b → (Ended s → ⊥) → finishedIn s ≡ false
-not-finished s true e h = absurd (h (ended s e))
-not-finished s false e h = e
-
--- all slots are stepped, so that it is not finished
-pub done-unfinished : (t : List ℕ) → 0 < slotsIn t → doneIn t ≡ true → finishedIn t ≡ false
-unfolding doneIn
-done-unfinished t l d =
-    not-finished t (finishedIn t) refl (λ x. (let e : steppedIn t 0 ≡ 1 = eqb-true _ _ (each-at (λ k. eqb (steppedIn t k) 1) (slotsIn t) 0 (both-1 _ _ d) l) in omega (arith, x .unstepped)))
 
 -- ---- calls on a finished state that passes
 refused-leaves : (a : Said) (output before : List ℕ) → a ≡ refused 10 → left a output before ≡ before
@@ -106,7 +79,7 @@ module _ (p : ℕ) (masks : List ℕ) (rule : Formula) (us : List Event) (s : Li
 
   pending-root : (f : Formula) → formulaAt s 0 ≡ f → known (verdictOf f) ≡ false → finishedIn s ≡ false
   pending-root f e q =
-      not-finished s (finishedIn s) refl
+      not-finished s
       (λ d. no-true (sym (constant-is s 0 root ∙ ap (λ (f : Formula). known (verdictOf f)) e ∙ q) ∙ d .constant))
 
   pub started-finished : finishedIn s ≡ known (verdictOf (formulaAt s 0))
@@ -135,7 +108,7 @@ module _ (p : ℕ) (masks : List ℕ) (rule : Formula) (us : List Event) (s : Li
 
   -- ---- between closes
   pub calls-unfinished : (t : List ℕ) → Calls s t → finishedIn s ≡ false → finishedIn t ≡ false
-  calls-unfinished t c unfinished = not-finished t (finishedIn t) refl (λ d. no-true (sym unfinished ∙ back d))
+  calls-unfinished t c unfinished = not-finished t (λ d. no-true (sym unfinished ∙ back d))
     where
       back : Ended t → finishedIn s ≡ true
       back d =

@@ -1,34 +1,21 @@
 -- The words in which a watch's claims are made: calls that were all accepted, a state that is not stuck, one where the close is all that
 -- is left, and one that is over. Assumes nothing: these are definitions.
 use mathlib.Core.Path.{_≡_}
-use mathlib.Core.Bool.{Bool, true, false}
+use mathlib.Core.Bool.{true}
 use mathlib.Core.List.{List, []}
-use mathlib.Core.Logic.{_⊎_}
 use Prim.Native.Nat.{ℕ}
 use Rattle.answers.specs.Said.{accepted, refused}
-use Rattle.answers.specs.declared.Verdict.{Verdict}
-use Rattle.answers.specs.declared.Verdict.the-variants.{False, True, Pending}
 use Rattle.ltl.specs.Meaning.{Event}
 use Rattle.state.specs.Form.{formIn, stateLength}
 use Rattle.state.specs.Calls.{sampleSays, stepSays, doneIn, closeSays}
+use Rattle.keeping.specs.Closing.{StateClosing}
 use Rattle.watching.specs.Watch.{Calls, none, sample, step, Saw}
-
--- the verdict is true or false
-abbrev pub known : Verdict → Bool
-known False = true
-known True = true
-known Pending = false
 
 -- every one of these calls was accepted
 abbrev pub Accepted : {s t : List ℕ} → Calls s t → Type 0
 Accepted none = Unit {0}
 Accepted (sample {t = t} c board bits) = Accepted c × (sampleSays t board bits ≡ accepted [])
 Accepted (step {t = t} c k) = Accepted c × (stepSays t k ≡ accepted [])
-
--- the close, into a second buffer of the state's length, is accepted, or gets 7, 8 or 15
-pub data StateClosing (t : List ℕ) : Type 0 where
-  accepts : closeSays t (stateLength (formIn t)) ≡ accepted [] → StateClosing t
-  refuses : (n : ℕ) → (n ≡ 7) ⊎ ((n ≡ 8) ⊎ (n ≡ 15)) → closeSays t (stateLength (formIn t)) ≡ refused n → StateClosing t
 
 -- some sample or some step is accepted; or the close is all that is left, every board having sampled and every slot being stepped
 pub data StateGoesOn (t : List ℕ) : Type 0 where

@@ -27,8 +27,8 @@ use Rattle.records.proofs.Each.{each-at}
 use Rattle.checked.proofs.Checked.{checked, checked-of, each-of}
 use Rattle.checked.proofs.Passing.{passing, passing-sized, passing-stretched}
 use Rattle.checked.proofs.Holders.{times}
-use Rattle.watching.proofs.Once.{held-once}
-use Rattle.watching.proofs.Slots.{same-reads, same-record, same-formula}
+use Rattle.keeping.proofs.Once.{held-once}
+use Rattle.keeping.proofs.Slots.{same-reads, same-record, same-formula}
 
 -- bits within a board's mask
 pub bits-few : (s : List ℕ) → stateOk s ≡ true → (b bits : ℕ) → b < boardsIn s → inMask bits (maskIn s b) ≡ true → bits < 2 ^ 64

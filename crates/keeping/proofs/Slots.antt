@@ -23,7 +23,7 @@ use Rattle.state.proofs.Framed.{Framed, masks-same, mask-of-same, end-same}
 use Rattle.state.proofs.SameSlots.{SameSlot}
 use Rattle.checked.proofs.Passing.{SlotPassing}
 use Rattle.checked.proofs.Held.{slot-holds, slot-held}
-use Rattle.watching.proofs.Parts.{record-of, formula-of}
+use Rattle.keeping.proofs.Parts.{record-of, formula-of}
 
 -- a flag that is not 1 is 0
 pub zero-flag : (n : ℕ) → n ≤ 1 → (n ≡ 1 → ⊥) → n ≡ 0

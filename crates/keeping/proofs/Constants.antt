@@ -16,7 +16,7 @@ use Rattle.ltl.proofs.Decoding.{size-some}
 use Rattle.state.specs.Clauses.{isConstantIn}
 use Rattle.state.specs.Bytes.{formulaAt}
 use Rattle.checked.proofs.Passing.{SlotPassing}
-use Rattle.watching.specs.Claims.{known}
+use Rattle.keeping.specs.Known.{known}
 
 test-is : (f : Formula) → both (eqb (size f) 1) (leb (getD (encode f) 0 0) 1) ≡ known (verdictOf f)
 unfolding both
