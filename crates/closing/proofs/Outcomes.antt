@@ -1,19 +1,16 @@
 -- What `close` answers and leaves, one law for each outcome, over plain lists. Assumes nothing.
-use mathlib.Core.Path.{_≡_, sym, ap, _∙_}
-use mathlib.Core.Bool.{Bool, true, false, not}
-use mathlib.Core.List.{List, _∷_}
-use Prim.Native.Nat.{ℕ, _+_, _<_, _≤_, _^_}
-use native.Mathlib.Omega.{arith}
+use mathlib.Core.Path.{_≡_, sym, ap, subst, _∙_}
+use mathlib.Core.Bool.{true, false, not}
+use mathlib.Core.List.{List, [], _∷_}
+use Prim.Native.Nat.{ℕ, _+_, _^_}
 use lib.ListN.{length}
-use lib.Dec.{eqb}
-use borrow.Author.Tests.{lt-ltb, le-ltb, eq-eqb, ne-eqb}
-use Rattle.lists.specs.Tests.{both}
-use Rattle.lists.proofs.Tests.{both-true}
+use lib.Dec.{ltb, eqb}
+use borrow.Author.Tests.{lt-ltb, eq-eqb, ne-eqb}
 use Rattle.answers.specs.declared.Refusal.{Refusal}
-use Rattle.answers.specs.declared.Refusal.the-variants.{Length, State, Finished, Unready, Ticks}
+use Rattle.answers.specs.declared.Refusal.the-variants.{Length, State, Finished}
 use Rattle.answers.specs.declared.Outcome.{Outcome}
 use Rattle.answers.specs.declared.Outcome.the-variants.{Refused}
-use Rattle.answers.specs.Said.{Said, refused, left, numberOf, Check, check, inOrder}
+use Rattle.answers.specs.Said.{Said, accepted, refused, left, numberOf, Check, check, inOrder, saidOutcome}
 use Rattle.answers.proofs.Answers.{left-refused, order-ok, order-refused}
 use Rattle.state.specs.Fields.{ticksIn}
 use Rattle.state.specs.Clauses.{stateOk}
@@ -21,16 +18,8 @@ use Rattle.state.specs.Calls.{finishedIn, doneIn, closeSays}
 use Rattle.state.specs.Form.{formIn, stateLength}
 use Rattle.renewing.specs.Renew.{nextState}
 use Rattle.advancing.specs.Advance.{advanceSays, Advances}
-use Rattle.closing.specs.Close.{Closes}
-use Rattle.done.specs.Done.{allSampled, allStepped}
-
-first-false : (a b : Bool) → a ≡ false → both a b ≡ false
-unfolding both
-first-false a b e = rw e
-
-second-false : (a b : Bool) → a ≡ true → b ≡ false → both a b ≡ false
-unfolding both
-second-false a b e h = rw (e, h)
+use Rattle.closing.specs.Close.{overSays, Closes}
+use Rattle.closing.proofs.Ready.{over-refused, over-passed}
 
 module _ (s second : List ℕ) where
   -- a refusal leaves the second buffer as it was
@@ -64,30 +53,17 @@ module _ {s second : List ℕ} (g : CloseGoing s second) where
   going-says : (cs : List Check) (t : Said) → inOrder (check 1 (eqb (length second) (stateLength (formIn s))) ∷ check 9 (stateOk s) ∷ check 10 (not (finishedIn s)) ∷ cs) t ≡ inOrder cs t
   going-says cs t = order-ok 1 _ _ _ (long-ok s second (g .long)) ∙ order-ok 9 _ _ _ (g .passes) ∙ order-ok 10 _ _ _ (ap not (g .going))
 
-  unready : doneIn s ≡ false → Closes s second second (Refused Unready)
+  -- a tick that cannot be closed
+  pub refused-over : (x : Outcome) (why : Refusal) → x ≡ Refused why → saidOutcome x ≡ overSays s → Closes s second second x
+  unfolding closeSays overSays
+  refused-over x why e h =
+      subst (Closes s second second) (sym e)
+      (refusal s second why (going-says _ _ ∙ over-refused (doneIn s) (ltb (ticksIn s + 1) (2 ^ 32)) why _ _ (sym h ∙ ap saidOutcome e)))
+
+  -- one that can
+  pub advanced : accepted [] ≡ overSays s → {second′ : List ℕ} {answer : Outcome} → Advances s second second′ answer → Closes s second second′ answer
   unfolding closeSays
-  unready e = refusal s second Unready (going-says _ _ ∙ order-refused 14 _ _ _ e)
-
-  pub refused-boards : allSampled s ≡ false → Closes s second second (Refused Unready)
-  unfolding doneIn
-  refused-boards e = unready (first-false (allSampled s) (allStepped s) e)
-
-  module _ (sampled : allSampled s ≡ true) where
-    pub refused-slots : allStepped s ≡ false → Closes s second second (Refused Unready)
-    unfolding doneIn
-    refused-slots e = unready (second-false (allSampled s) (allStepped s) sampled e)
-
-    module _ (stepped : allStepped s ≡ true) where
-      done-ok : doneIn s ≡ true
-      unfolding doneIn
-      done-ok = both-true (allSampled s) (allStepped s) sampled stepped
-
-      pub refused-ticks : 4294967295 ≤ ticksIn s → Closes s second second (Refused Ticks)
-      unfolding closeSays
-      refused-ticks l = refusal s second Ticks (going-says _ _ ∙ order-ok 14 _ _ _ done-ok ∙ order-refused 15 _ _ _ (le-ltb (ticksIn s + 1) (2 ^ 32) (omega arith)))
-
-      pub advanced : ticksIn s + 1 < 2 ^ 32 → {second′ : List ℕ} {answer : Outcome} → Advances s second second′ answer → Closes s second second′ answer
-      unfolding closeSays
-      advanced l x =
-          let says : closeSays s (length second) ≡ advanceSays s = going-says _ _ ∙ order-ok 14 _ _ _ done-ok ∙ order-ok 15 _ _ _ (lt-ltb (ticksIn s + 1) (2 ^ 32) l) in
-          record { says = x .says ∙ sym says; leaves = x .leaves ∙ sym (ap (λ (y : Said). left y (nextState s) second) says) }
+  advanced e x =
+      let o = over-passed s e in
+      let says : closeSays s (length second) ≡ advanceSays s = going-says _ _ ∙ order-ok 14 _ _ _ (o .0) ∙ order-ok 15 _ _ _ (lt-ltb (ticksIn s + 1) (2 ^ 32) (o .1)) in
+      record { says = x .says ∙ sym says; leaves = x .leaves ∙ sym (ap (λ (y : Said). left y (nextState s) second) says) }

@@ -13,7 +13,7 @@ pub enum Opening {
 }
 
 // One slot, not stepped, that is 0 or 1.
-fn finished(s: &[u8], c: Counts) -> bool
+pub fn finished(s: &[u8], c: Counts) -> bool
     requires { ⌜ Opened (now s) c ⌝ }
     ensures { λ r. ⌜ r ≡ finishedIn (now (s .entry)) ⌝ }
 {

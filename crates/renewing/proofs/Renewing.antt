@@ -17,8 +17,8 @@ use Rattle.checked.proofs.Passing.{passing}
 use Rattle.spreading.specs.Spreads.{SpreadAsk, Spreads}
 use Rattle.renewing.specs.Renew.{nextState, NextAsk}
 
-module _ {s second masks owner u tags : List ℕ} {c : Counts} {next-slots next-nodes : ℕ}
-    (ask : NextAsk s second c masks owner next-slots next-nodes u tags) where
+module _ {s second masks owner u tags : List ℕ} {used : ℕ} {c : Counts} {next-slots next-nodes : ℕ}
+    (ask : NextAsk s second used c masks owner next-slots next-nodes u tags) where
   pub spread-ask : SpreadAsk s c owner u tags
   spread-ask =
       let n = ask .counts .few-nodes in
@@ -30,9 +30,10 @@ module _ {s second masks owner u tags : List ℕ} {c : Counts} {next-slots next-
   form-same = form-at (formIn s) second (ask .long)
 
   module _ {u′ tags′ : List ℕ} {n : ℕ} (h : Spreads s u′ tags′ n) where
-    pub state-ask : StateAsk second masks next-slots next-nodes (take n u′) tags′
+    pub state-ask : StateAsk second used masks next-slots next-nodes (take n u′) tags′
     state-ask =
         record {
+          clean = ask .clean;
           network = nextIn s;
           laid-out = h .laid-out;
           counts = ask .counts;

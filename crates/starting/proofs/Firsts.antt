@@ -17,6 +17,7 @@ use Rattle.unfolding.specs.Unfolds.{UnfoldAsk, Unfolds, UnfoldedTo}
 use Rattle.unfolding.proofs.Fronts.{written-bytes, written-front}
 use Rattle.tagging.specs.declared.TaggedPart.{TaggedPart}
 use Rattle.tagging.specs.Tags.{TaggedAs, Tagging}
+use Rattle.storing.proofs.Zeros.{zero-none}
 use Rattle.storing.specs.Stores.{LaidOut, LaidCounts, StateAsk, Stores}
 use Rattle.starting.specs.Starting.{FirstAsk, Firsts}
 use Rattle.starting.proofs.Rules.{first-large, first-laid}
@@ -57,8 +58,8 @@ module _ {state masks bytes owner : List ℕ} {board slots nodes : ℕ} {u tags 
       counts-are : LaidCounts (firstOf masks (ask .rule)) slots nodes
       counts-are = record { slots-are = ask .slots-are; nodes-are = ask .nodes-are; few-slots = (let a = ask .few-slots in let f = slots-few (formIn state) in omega arith); few-nodes = (let a = ask .few-nodes in let f = nodes-few (formIn state) in omega arith) }
 
-      pub state-ask : StateAsk state masks slots nodes (take n u′) tags′
-      state-ask = record { network = firstOf masks (ask .rule); laid-out = laid-is; counts = counts-are; long = ask .long; few-boards = ask .ruled .few-boards; form-slots = ask .few-slots; form-nodes = ask .few-nodes }
+      pub state-ask : StateAsk state (length state) masks slots nodes (take n u′) tags′
+      state-ask = record { clean = zero-none state; network = firstOf masks (ask .rule); laid-out = laid-is; counts = counts-are; long = ask .long; few-boards = ask .ruled .few-boards; form-slots = ask .few-slots; form-nodes = ask .few-nodes }
 
       pub first-put : {state′ : List ℕ} → Stores (formIn state) masks slots nodes 0 (take n u′) tags′ state′ → Firsts (formIn state) masks bytes state′
       first-put {state′} h rule r =

@@ -19,5 +19,6 @@ pub fn put_first(
 {
     let n = unfolding::unfold_into(u, rule);
     tagging::tag(&u[..n], tags, owner, board);
-    storing::put_state(state, masks, slots, nodes, 0, &u[..n], tags);
+    let all = state.len();
+    storing::put_state(state, all, masks, slots, nodes, 0, &u[..n], tags);
 }

@@ -4,7 +4,8 @@ use mathlib.Core.Path.{_≡_, sym, ap, subst, _∙_}
 use mathlib.Core.List.{List, _++_}
 use Prim.Native.Nat.{ℕ, _+_, _-_, _*_, _≤_}
 use native.Mathlib.Omega.{arith}
-use lib.ListN.{length, take, drop, replicate}
+use lib.ListN.{length, take, drop, replicate, length-drop}
+use lib.Seq.{length-take-le}
 use Rattle.lists.specs.Runs.{tail, tailAs}
 use Rattle.lists.proofs.Parts.{tail-length}
 use Rattle.network.specs.Layout.{rooted, laid}
@@ -13,6 +14,7 @@ use Rattle.state.specs.Bytes.{nodesOf, stateHeader, boardRecords, slotRecords, 
 use Rattle.state.proofs.Forms.{form-room}
 use Rattle.laying.specs.Lays.{RootAsk, LaysRoot}
 use Rattle.storing.specs.Stores.{NetworkAsk, StoresNetwork, StateAsk, Stores}
+use Rattle.storing.proofs.Zeros.{zero-later}
 use Rattle.storing.proofs.Written.{network-put, state-put}
 
 -- ---- the network
@@ -65,7 +67,7 @@ module _ {out rows : List ℕ} {slots nodes : ℕ} {u tags : List ℕ} (ask : Ne
       network-stored
 
 -- ---- the state
-module _ {state masks : List ℕ} {slots nodes : ℕ} {u tags : List ℕ} (ask : StateAsk state masks slots nodes u tags) where
+module _ {state : List ℕ} {used : ℕ} {masks : List ℕ} {slots nodes : ℕ} {u tags : List ℕ} (ask : StateAsk state used masks slots nodes u tags) where
   pub network-ask : (out rows : List ℕ) → slotRows slots + nodes ≤ length out → slotRows slots ≤ length rows → NetworkAsk out rows slots nodes u tags
   network-ask out rows l m = record { network = ask .network; laid-out = ask .laid-out; counts = ask .counts; room = l; rows-room = m }
 
@@ -76,14 +78,15 @@ module _ {state masks : List ℕ} {slots nodes : ℕ} {u tags : List ℕ} (ask :
       let l = ask .long in
       omega arith
 
-  pub state-stored : (ticks : ℕ) {s y : List ℕ} {at : ℕ} → at ≡ slotsAt (formIn state) (length masks)
+  pub state-stored : (ticks : ℕ) {s y : List ℕ} {at end : ℕ} → at ≡ slotsAt (formIn state) (length masks) → at + (slotRows slots + nodes) ≤ end → used ≤ end → end ≤ length state
       → s ≡ (stateHeader (formIn state) (length masks) slots nodes ticks ++ boardRecords (formIn state) masks) ++ drop (slotsAt (formIn state) (length masks)) state
-      → StoresNetwork slots nodes u tags (tail at s) y
-      → Stores (formIn state) masks slots nodes ticks u tags (tailAs at s y)
-  state-stored ticks {s} {y} {at} p e g network l c =
-      let w = front-within in
+      → length s ≡ length state
+      → StoresNetwork slots nodes u tags (take (end - at) (drop at s)) y
+      → Stores (formIn state) masks slots nodes ticks u tags (take at s ++ (y ++ drop (end - at) (drop at s)))
+  state-stored ticks {s} {y} {at} {end} p room l m e k g network x c =
       let long = ask .long in
-      let h = g network l c in
-      ap (λ (i : ℕ). tailAs i s y) p
-      ∙ state-put (formIn state) masks network ticks state s y long (omega arith) (rw (c .slots-are, c .nodes-are) at e)
-      (rw (c .slots-are, c .nodes-are) at (h ∙ ap (λ (i : ℕ). slotRecords 0 network ++ (nodeBytes network ++ replicate {A = ℕ} (length (tail i s) - (slotRows slots + nodes)) 0)) p))
+      let part : length (take (end - at) (drop at s)) ≡ end - at = length-take-le (end - at) (drop at s) (omega (arith, length-drop at s)) in
+      let h = g network x c ∙ ap (λ (i : ℕ). slotRecords 0 network ++ (nodeBytes network ++ replicate {A = ℕ} (i - (slotRows slots + nodes)) 0)) part in
+      ap (λ (i : ℕ). take i s ++ (y ++ drop (end - i) (drop i s))) p
+      ∙ state-put (formIn state) masks network ticks state s y end long (rw (p, c .slots-are, c .nodes-are) at room) (omega arith) (zero-later (ask .clean) end l m .zeros ∙ ap (λ (i : ℕ). replicate {A = ℕ} (i - end) 0) long)
+      (rw (c .slots-are, c .nodes-are) at e) (rw (p, c .slots-are, c .nodes-are) at h)

@@ -3,10 +3,10 @@ use mathlib.Core.Path.{_≡_, sym, ap, ap₂, _∙_}
 use mathlib.Core.List.{List, _++_, append-assoc}
 use Prim.Native.Nat.{ℕ, _+_, _-_, _*_, _≤_}
 use native.Mathlib.Omega.{arith}
-use lib.ListN.{length, take, drop, replicate, length-append, length-drop, take-append-drop}
-use lib.Seq.{take-at, drop-at, length-take-le}
+use lib.ListN.{length, take, drop, replicate, length-append, length-drop, take-append-drop, replicate-append-replicate}
+use lib.Seq.{take-at, drop-at, length-take-le, drop-drop}
 use Rattle.lists.specs.Runs.{tail, tailAs}
-use Rattle.lists.proofs.Parts.{tail-is, tail-length, lent-tail, handed-tail}
+use Rattle.lists.proofs.Parts.{tail-is, tail-length, handed, handed-tail}
 use Rattle.lists.proofs.Stretches.{tail-clear}
 use Rattle.network.specs.Layout.{Slot}
 use Rattle.state.specs.declared.Form.{Form}
@@ -42,27 +42,42 @@ network-put network slots nodes i j out records q r o z room e k f g =
     let left : length D ≡ length out - (slotRows slots + nodes) = let a = length-drop (nodesOf network) (tail (slotRows slots) out) in let b = tail-length (slotRows slots) out in omega arith in
     tail-clear o (S ++ N) D (slotRows slots + nodes) second long z g ∙ append-assoc S N (replicate (length D) 0) ∙ ap (λ (i : ℕ). S ++ (N ++ replicate {A = ℕ} i 0)) left
 
--- ---- the whole state: its front, and the network behind it
-pub state-put : (φ : Form) (masks : List ℕ) (network : List Slot) (ticks : ℕ) (state s y : List ℕ) → length state ≡ stateLength φ → slotsAt φ (length masks) ≤ stateLength φ
+-- ---- the whole state: its front, the network behind it up to a place, and from there on what was zero already
+pub state-put : (φ : Form) (masks : List ℕ) (network : List Slot) (ticks : ℕ) (state s y : List ℕ) (end : ℕ) → length state ≡ stateLength φ
+    → slotsAt φ (length masks) + (slotRows (length network) + nodesOf network) ≤ end → end ≤ stateLength φ
+    → drop end state ≡ replicate (stateLength φ - end) 0
     → s ≡ (stateHeader φ (length masks) (length network) (nodesOf network) ticks ++ boardRecords φ masks) ++ drop (slotsAt φ (length masks)) state
-    → y ≡ slotRecords 0 network ++ (nodeBytes network ++ replicate (length (tail (slotsAt φ (length masks)) s) - (slotRows (length network) + nodesOf network)) 0)
-    → tailAs (slotsAt φ (length masks)) s y ≡ stateOf φ masks network ticks
+    → y ≡ slotRecords 0 network ++ (nodeBytes network ++ replicate (end - slotsAt φ (length masks) - (slotRows (length network) + nodesOf network)) 0)
+    → take (slotsAt φ (length masks)) s ++ (y ++ drop (end - slotsAt φ (length masks)) (drop (slotsAt φ (length masks)) s)) ≡ stateOf φ masks network ticks
 unfolding stateOf
-state-put φ masks network ticks state s y long room e g =
+state-put φ masks network ticks state s y end long room inside zeros e g =
     let H = stateHeader φ (length masks) (length network) (nodesOf network) ticks in
     let B = boardRecords φ masks in
+    let S = slotRecords 0 network in
+    let N = nodeBytes network in
     let at = slotsAt φ (length masks) in
+    let m = end - at - (slotRows (length network) + nodesOf network) in
+    let M = take (end - at) (drop at state) in
+    let Z = drop (end - at) (drop at state) in
     let front : length (H ++ B) ≡ at = length-append H B ∙ ap₂ _+_ (header-length φ (length masks) (length network) (nodesOf network) ticks) (boards-length φ masks) ∙ sym (boards-after φ (length masks)) in
-    let behind : length (tail at s) ≡ stateLength φ - at = ap length (lent-tail s (H ++ B) (drop at state) at e front) ∙ length-drop at state ∙ ap (_- at) long in
-    let all : length (H ++ (B ++ (slotRecords 0 network ++ nodeBytes network))) ≡ at + (slotRows (length network) + nodesOf network) =
-    (let a = length-append H (B ++ (slotRecords 0 network ++ nodeBytes network)) in
-    let b = length-append B (slotRecords 0 network ++ nodeBytes network) in
-    let c = length-append (slotRecords 0 network) (nodeBytes network) in
+    let parts : s ≡ (H ++ B) ++ (M ++ Z) = e ∙ ap ((H ++ B) ++_) (sym (take-append-drop (end - at) (drop at state))) in
+    let between : length M ≡ end - at = length-take-le (end - at) (drop at state) (omega (arith, length-drop at state)) in
+    let behind : Z ≡ replicate (stateLength φ - end) 0 = drop-drop (end - at) at state ∙ (let q : at + (end - at) ≡ end = omega arith in rw q zeros) in
+    let all : length (H ++ (B ++ (S ++ N))) ≡ at + (slotRows (length network) + nodesOf network) =
+    (let a = length-append H (B ++ (S ++ N)) in
+    let b = length-append B (S ++ N) in
+    let c = length-append S N in
     let d = length-append H B in
     let i = records-length 0 network in
     let j = nodes-length network in
     omega arith) in
-    let left : length (tail at s) - (slotRows (length network) + nodesOf network) ≡ stateLength φ - length (H ++ (B ++ (slotRecords 0 network ++ nodeBytes network))) = omega arith in
-    handed-tail s (H ++ B) (drop at state) at e front y
-    ∙ ap ((H ++ B) ++_) (g ∙ ap (λ (i : ℕ). slotRecords 0 network ++ (nodeBytes network ++ replicate {A = ℕ} i 0)) left)
-    ∙ simp append-assoc
+    let rest : replicate {A = ℕ} m 0 ++ replicate (stateLength φ - end) 0 ≡ replicate (stateLength φ - length (H ++ (B ++ (S ++ N)))) 0 =
+    replicate-append-replicate m (stateLength φ - end) 0
+    ∙ ap (λ (i : ℕ). replicate {A = ℕ} i 0) {x = m + (stateLength φ - end)} {y = stateLength φ - length (H ++ (B ++ (S ++ N)))} (omega arith) in
+    let zeros-one = replicate {A = ℕ} m 0 in
+    let zeros-two = replicate {A = ℕ} (stateLength φ - end) 0 in
+    let apart : (H ++ B) ++ ((S ++ (N ++ zeros-one)) ++ zeros-two) ≡ (H ++ (B ++ (S ++ N))) ++ (zeros-one ++ zeros-two) = simp append-assoc in
+    handed s (H ++ B) M Z at (end - at) parts front between y
+    ∙ ap₂ (λ (x z : List ℕ). (H ++ B) ++ (x ++ z)) g behind
+    ∙ apart
+    ∙ ap ((H ++ (B ++ (S ++ N))) ++_) rest

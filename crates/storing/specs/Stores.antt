@@ -3,7 +3,7 @@ use mathlib.Core.Path.{_≡_}
 use Prim.Native.Nat.{ℕ, _+_, _-_, _*_, _≤_}
 use mathlib.Core.List.{List, _++_}
 use mathlib.Core.Option.{Option}
-use lib.ListN.{length, replicate}
+use lib.ListN.{length, drop, replicate}
 use Rattle.limits.specs.Limits.{boardsMost, slotsRoom, nodesRoom}
 use Rattle.ltl.specs.Formula.{Formula}
 use Rattle.network.specs.Layout.{Slot, Laid, rooted, laid}
@@ -42,7 +42,13 @@ StoresNetwork slots nodes u tags out out′ =
     (network : List Slot) → LaidOut u tags network → LaidCounts network slots nodes
     → out′ ≡ slotRecords 0 network ++ (nodeBytes network ++ replicate (length out - (slotRows slots + nodes)) 0)
 
-pub record StateAsk (state masks : List ℕ) (slots nodes : ℕ) (u tags : List ℕ) : Type 0 where
+-- the bytes from a place on are zero
+pub record ZeroFrom (used : ℕ) (s : List ℕ) : Type 0 where
+  pub inside : used ≤ length s
+  pub zeros : drop used s ≡ replicate (length s - used) 0
+
+pub record StateAsk (state : List ℕ) (used : ℕ) (masks : List ℕ) (slots nodes : ℕ) (u tags : List ℕ) : Type 0 where
+  pub clean : ZeroFrom used state
   pub network : List Slot
   pub laid-out : LaidOut u tags network
   pub counts : LaidCounts network slots nodes

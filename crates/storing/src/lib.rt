@@ -1,4 +1,7 @@
 // Writing a whole state: the header, the boards with nothing sampled, and the network that a tagged formula is laid out to.
+ghost use mathlib.Core.Path.{_≡_};
+ghost use mathlib.Core.Logic.{_⊎_};
+ghost use Prim.Native.Nat.{_≤_};
 ghost use Rattle.state.specs.Form.{formIn};
 ghost use Rattle.storing.specs.Stores.{NetworkAsk, StoresNetwork, StateAsk, Stores};
 use state::ROWS_ROOM;
@@ -16,9 +19,21 @@ fn put_network(out: &mut [u8], rows: &mut [u8], slots: usize, nodes: usize, u: &
     buffers::clear(&mut out[end..]);
 }
 
-// The state of the network that u and its tags are laid out to, which has so many slots and nodes.
+// The farther one of two places in a state.
+pub fn farther(a: usize, b: usize) -> usize
+    ensures { λ r. ⌜ (a ≤ r) × (b ≤ r) × ((r ≡ a) ⊎ (r ≡ b)) ⌝ }
+{
+    if a < b {
+        return b;
+    }
+    a
+}
+
+// The state of the network that u and its tags are laid out to, which has so many slots and nodes. The bytes from `used` on are zero
+// already, so that no more than those before are cleared.
 pub fn put_state(
     state: &mut [u8],
+    used: usize,
     masks: &[u64],
     slots: usize,
     nodes: usize,
@@ -26,10 +41,11 @@ pub fn put_state(
     u: &[u8],
     tags: &[u32],
 )
-    requires { ⌜ StateAsk (now state) (now masks) slots nodes (now u) (now tags) ⌝ }
+    requires { ⌜ StateAsk (now state) used (now masks) slots nodes (now u) (now tags) ⌝ }
     ensures { λ _. ⌜ Stores (formIn (now (state .entry))) (now (masks .entry)) slots nodes ticks (now (u .entry)) (now (tags .entry)) (now (state .exit)) ⌝ }
 {
     let mut rows = [0u8; ROWS_ROOM];
     let at = state::put_front(state, masks, slots, nodes, ticks);
-    put_network(&mut state[at..], &mut rows, slots, nodes, u, tags);
+    let end = farther(at + state::rows(slots) + nodes, used);
+    put_network(&mut state[at..end], &mut rows, slots, nodes, u, tags);
 }

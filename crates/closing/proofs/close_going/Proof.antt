@@ -1,58 +1,35 @@
--- Each check has its way out, a law of proofs/Outcomes.antt; what a check that passed tells is said at the place behind it.
--- Assumes nothing.
-use mathlib.Core.Path.{_≡_, sym, _∙_}
-use mathlib.Core.Bool.{true}
-use Prim.Native.Nat.{_+_, _<_, _^_}
-use borrow.Author.Tests.{not-true, not-false}
-use Rattle.state.specs.Fields.{ticksIn}
-use Rattle.records.proofs.Opened.{opened-sized}
-use Rattle.done.specs.Done.{allSampled, allStepped}
-use Rattle.closing.proofs.Outcomes.{CloseGoing, refused-boards, refused-slots, refused-ticks, advanced}
-use native.Mathlib.Omega.{arith}
+-- Whether the tick can be closed decides, then the new layout: laws of proofs/Outcomes.antt. Assumes nothing.
+use mathlib.Core.Path.{_≡_, sym, ap, _∙_}
+use mathlib.Core.List.{[]}
+use Rattle.answers.specs.Said.{accepted, saidOutcome}
+use Rattle.closing.specs.Close.{overSays}
+use Rattle.closing.proofs.Ready.{over-passed}
+use Rattle.closing.proofs.Outcomes.{CloseGoing, refused-over, advanced}
 use borrow.Author.Needs.{needs}
 use Rattle.closing.proofs.close_going.Statement.{statement}
 use Rattle.closing.proofs.close_going.Tie as tie
 
--- ---- from behind a check back to the one before it
-abbrev entry : tie.After-all-sampled → tie.Start
+-- the places: whether it can be closed is known, it can
+abbrev entry : tie.After-over → tie.Start
 entry c = c .before .before .before
 
-abbrev looked : tie.Else2 → tie.Else1
-looked c = c .before .before
+abbrev asked : tie.After-enum-told → tie.After-over
+asked c = c .before .before
 
-abbrev ready : tie.Else3 → tie.Else2
-ready c = c .before .before
-
-abbrev first : tie.Else2 → tie.After-all-sampled
-first c = looked c .before
-
--- ---- what is known there
-going : (c : tie.After-all-sampled) → CloseGoing (entry c .args .state .now) (entry c .args .second .now)
+going : (c : tie.After-over) → CloseGoing (entry c .args .state .now) (entry c .args .second .now)
 going c = let p = entry c .pre in record { long = p .2; passes = p .0 .passes; going = p .1 }
 
-sampled : (c : tie.Else1) → allSampled (entry (c .before) .args .state .now) ≡ true
-sampled c = sym (c .before .all-sampled .ensures) ∙ not-false _ (c .if1 .left)
-
-stepped : (c : tie.Else2) → allStepped (entry (first c) .args .state .now) ≡ true
-stepped c = sym (c .before .all-stepped .ensures) ∙ not-false _ (c .if2 .left)
-
-counted : (c : tie.Else3) → ticksIn (entry (first (ready c)) .args .state .now) + 1 < 2 ^ 32
-counted c = let e = c .before .ticks-of .ensures in let l = c .if3 .left in omega arith
+ready : (c : tie.After-enum-told) → accepted [] ≡ overSays (entry (asked c) .args .state .now)
+ready c = sym (ap saidOutcome (c .enum-told .given .1)) ∙ asked c .over .ensures
 
 pub close-going-spec : {M : Type 1} → statement M
 close-going-spec =
     tie.close
     (tie.spec
-    (λ c κs. opened-sized (c .before .before .pre .0))
-    (λ c. refused-boards (going (c .before)) (sym (c .before .all-sampled .ensures) ∙ not-true _ (c .if1 .taken)))
-    (λ c κs. opened-sized (entry (c .before) .pre .0))
-    (λ c. let d = c .before .before in
-    refused-slots (going (d .before)) (sampled d) (sym (c .before .all-stepped .ensures) ∙ not-true _ (c .if2 .taken)))
-    (λ c κs. opened-sized (entry (first c) .pre .0) .long)
-    (λ c. let d = c .before .before in
-    refused-ticks (going (first d)) (sampled (looked d)) (stepped d)
-    (let e = c .before .ticks-of .ensures in let l = c .if3 .taken in omega arith))
-    (λ c κs. let p = entry (first (ready (c .before))) .pre in record { opened = p .0; counted = counted (c .before); long = p .2 })
+    (λ c κs. search needs)
     (λ c. search needs)
-    (λ c. let a = c .before .before in let e = a .before .before in let d = ready e in
-    advanced (going (first d)) (sampled (looked d)) (stepped d) (counted e) (a .advance .ensures)))
+    (λ c. search needs)
+    (λ c. let d = c .before .before in refused-over (going d) _ _ (c .enum-told2 .given .1) (d .over .ensures))
+    (λ c κs. let d = c .before in let p = entry (asked d) .pre in record { opened = p .0; counted = over-passed _ (ready d) .1; long = p .2 })
+    (λ c. search needs)
+    (λ c. let a = c .before .before in let d = a .before .before in advanced (going (asked d)) (ready d) (a .advance .ensures)))
