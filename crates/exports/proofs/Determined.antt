@@ -2,7 +2,7 @@
 use mathlib.Core.Path.{_≡_, sym, _∙_}
 use mathlib.Core.List.{List}
 use Prim.Native.Nat.{ℕ}
-use Rattle.exports.specs.Exported.{ReadExported, WriteExported, CentralExported, LoadExported, SampleExported, StepExported, CloseExported, AskExported}
+use Rattle.exports.specs.Exported.{ReadExported, WriteExported, CentralExported, LoadExported, SampleExported, StepExported, CloseExported, AskExported, CaptureExported}
 
 pub read-determined : {file masks formula m m₂ f f₂ : List ℕ} {boards propositions nodes b b₂ p p₂ n n₂ a a₂ : ℕ}
     → ReadExported file masks formula m f boards propositions nodes b p n a → ReadExported file masks formula m₂ f₂ boards propositions nodes b₂ p₂ n₂ a₂
@@ -46,4 +46,16 @@ ask-determined x y = (
   x .gives-ticks ∙ sym (y .gives-ticks),
   x .gives-slots ∙ sym (y .gives-slots),
   x .gives-nodes ∙ sym (y .gives-nodes),
+)
+
+pub capture-determined : {state second events s s₂ t t₂ : List ℕ} {closed verdict stop c c₂ v v₂ k k₂ a a₂ : ℕ}
+    → CaptureExported state second events s t closed verdict stop c v k a → CaptureExported state second events s₂ t₂ closed verdict stop c₂ v₂ k₂ a₂
+    → (a ≡ a₂) × (s ≡ s₂) × (t ≡ t₂) × (c ≡ c₂) × (v ≡ v₂) × (k ≡ k₂)
+capture-determined x y = (
+  x .says ∙ sym (y .says),
+  x .leaves ∙ sym (y .leaves),
+  x .leaves-second ∙ sym (y .leaves-second),
+  x .gives-closed ∙ sym (y .gives-closed),
+  x .gives-verdict ∙ sym (y .gives-verdict),
+  x .gives-stop ∙ sym (y .gives-stop),
 )

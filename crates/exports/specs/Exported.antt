@@ -18,6 +18,7 @@ use Rattle.central.specs.Central.{startOf, centralSays}
 use Rattle.state.specs.Form.{formIn}
 use Rattle.state.specs.Calls.{loadedState, askSays, sampleSays, sampleLeaves, stepSays, stepLeaves, closeSays, closeLeaves}
 use Rattle.loading.specs.Load.{startIn, loadSays}
+use Rattle.capturing.specs.Capture.{captureSays, captureLeaves, captureSecond}
 
 -- what stands behind a reference afterwards: an accepted call's value, and what stood there before a refusal
 unfoldable pub valueAt : Said → ℕ → ℕ → ℕ
@@ -64,3 +65,11 @@ pub record AskExported (state : List ℕ) (verdict ticks slots nodes verdict′ 
   pub gives-ticks : ticks′ ≡ valueAt (askSays state) 1 ticks
   pub gives-slots : slots′ ≡ valueAt (askSays state) 2 slots
   pub gives-nodes : nodes′ ≡ valueAt (askSays state) 3 nodes
+
+pub record CaptureExported (state second events state′ second′ : List ℕ) (closed verdict stop closed′ verdict′ stop′ answer : ℕ) : Type 0 where
+  pub says : answer ≡ captureSays state (length second) events .number
+  pub leaves : state′ ≡ captureLeaves state (length second) events
+  pub leaves-second : second′ ≡ captureSecond state second events
+  pub gives-closed : closed′ ≡ valueAt (captureSays state (length second) events) 0 closed
+  pub gives-verdict : verdict′ ≡ valueAt (captureSays state (length second) events) 1 verdict
+  pub gives-stop : stop′ ≡ valueAt (captureSays state (length second) events) 2 stop

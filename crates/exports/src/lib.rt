@@ -2,8 +2,9 @@
 // the values behind the references only where it answers 0.
 ghost use mathlib.Core.Path.{_≡_};
 ghost use Rattle.answers.specs.Said.{saidOutcome};
-ghost use Rattle.exports.specs.Exported.{ReadExported, WriteExported, CentralExported, LoadExported, SampleExported, StepExported, CloseExported, AskExported};
+ghost use Rattle.exports.specs.Exported.{ReadExported, WriteExported, CentralExported, LoadExported, SampleExported, StepExported, CloseExported, AskExported, CaptureExported};
 use answers::Outcome;
+use capturing::CaptureAnswer;
 use central::CentralAnswer;
 use rules::ReadAnswer;
 use rules::WriteAnswer;
@@ -131,6 +132,31 @@ pub extern "C" fn vydrulka_ask(
             *ticks = t.ticks;
             *slots = t.slots as u64;
             *nodes = t.nodes as u64;
+            0
+        }
+    }
+}
+
+#[no_mangle]
+pub extern "C" fn vydrulka_capture(
+    state: &mut [u8],
+    second: &mut [u8],
+    events: &[u64],
+    closed: &mut u64,
+    verdict: &mut u32,
+    stop: &mut u32,
+) -> u32
+    ensures { λ r. ⌜ CaptureExported (now (state .entry)) (now (second .entry)) (now (events .entry)) (now (state .exit)) (now (second .exit)) (now (closed .entry)) (now (verdict .entry)) (now (stop .entry)) (now (closed .exit)) (now (verdict .exit)) (now (stop .exit)) r ⌝ }
+{
+    let answer = capturing::capture(state, second, events);
+    match answer {
+        CaptureAnswer::Refused(why) => why.number(),
+        CaptureAnswer::Captured(c) => {
+            let v = c.verdict;
+            let o = c.stop;
+            *closed = c.closed as u64;
+            *verdict = v.number();
+            *stop = number_of(o);
             0
         }
     }

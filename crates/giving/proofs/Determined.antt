@@ -5,7 +5,8 @@ use mathlib.Core.List.{List}
 use Prim.Native.Nat.{ℕ}
 use Rattle.answers.specs.declared.Outcome.{Outcome}
 use Rattle.answers.proofs.Answers.{saidOutcome-injective}
-use Rattle.giving.specs.Give.{After, Comes}
+use Rattle.course.specs.Given.{After}
+use Rattle.giving.specs.Give.{Comes}
 
 pub comes-determined : (a : After) (s t : List ℕ) (x y : Outcome) → Comes a s x → Comes a t y → (x ≡ y) × (s ≡ t)
 comes-determined a s t x y p q = (saidOutcome-injective x y (p .says ∙ sym (q .says)), p .leaves ∙ sym (q .leaves))

@@ -1,9 +1,9 @@
 -- Calls made one after the other: an accepted one is followed by the rest, a refused one is the last. From that, one turn and the end
 -- of each loop, and each way out of `give`. Assumes nothing.
-use mathlib.Core.Path.{_≡_, refl, sym, ap, ap₂, subst, _∙_}
+use mathlib.Core.Path.{_≡_, refl, sym, ap, ap₂, _∙_}
 use mathlib.Core.Bool.{true, false}
 use mathlib.Core.List.{List, []}
-use Prim.Native.Nat.{ℕ, suc, _+_, _-_, _<_, _≤_}
+use Prim.Native.Nat.{ℕ, zero, suc, _+_, _-_, _<_, _≤_}
 use native.Mathlib.Omega.{arith}
 use native.Mathlib.Numerals.{add-one}
 use lib.Bits.{bitAnd, bitOr}
@@ -19,13 +19,14 @@ use Rattle.answers.specs.declared.Refusal.the-variants.{State, Outside}
 use Rattle.answers.specs.Said.{accepted, refused, numberOf, saidOutcome}
 use Rattle.answers.proofs.Answers.{number-some, order-ok, order-refused, order-done}
 use Rattle.masks.specs.Masks.{unionWith}
-use Rattle.state.specs.Form.{formOf, stateLength, Formed}
 use Rattle.state.specs.Fields.{boardsIn, slotsIn, maskIn, masksIn}
 use Rattle.state.specs.Clauses.{inMask, stateOk}
 use Rattle.state.specs.Calls.{sampleSays, sampleLeaves, stepSays, stepLeaves}
 use Rattle.taking.specs.Sample.{Samples}
 use Rattle.settling.specs.Step.{StepsSlot}
-use Rattle.giving.specs.Give.{After, after, follow, sampledFrom, steppedBelow, takenBy, givenUnder, Comes}
+use Rattle.course.specs.Given.{After, after, follow, sampledFrom, steppedBelow, takenBy, givenUnder}
+use Rattle.giving.specs.Give.{passing, givenPassing, Comes}
+use Rattle.giving.proofs.Kept.{refused-left}
 
 -- ---- what follows a call
 follow-done : (s : List ℕ) (next : List ℕ → After) → follow (after (accepted []) s) next ≡ next s
@@ -54,10 +55,6 @@ pub comes-by : (a b : After) (s : List ℕ) (x : Outcome) → a ≡ b → Comes 
 comes-by a b s x e c = record { says = c .says ∙ ap (λ (y : After). y .says) e; leaves = c .leaves ∙ ap (λ (y : After). y .leaves) e }
 
 -- ---- the boards
--- a call keeps the state's length, and so its form
-pub formed-kept : (s t : List ℕ) → length t ≡ length s → Formed s → Formed t
-formed-kept s t e f = subst (λ (n : ℕ). n ≡ stateLength (formOf n)) (sym e) f
-
 -- one turn: board i of n, with bits that are its part of the event
 module _ (s t : List ℕ) (n i event bits : ℕ) (l : i < n) (is : bits ≡ bitAnd event (maskIn s i)) where
   sampled-here : (x : Outcome) → Samples s i bits t x
@@ -106,57 +103,71 @@ pub union-all : (masks : List ℕ) (i all : ℕ) → length masks ≤ i → unio
 unfolding unionWith
 union-all masks i all h = rw (drop-of-length-le masks {i = i} h)
 
+-- ---- the slots and what the last step has left
+-- a state that fails its check: the next call says so, a step or what follows all of them
+pub broken : (n : ℕ) (s : List ℕ) → stateOk s ≡ false → Comes (follow (steppedBelow n s) passing) s (Refused State)
+unfolding steppedBelow stepSays
+broken zero s e =
+    comes-by _ _ s (Refused State) (sym (follow-done s passing)) (record { says = sym (order-refused 9 (stateOk s) _ _ e); leaves = refl })
+broken (suc k) s e =
+    let says : stepSays s k ≡ refused 9 = order-refused 9 (stateOk s) _ _ e in
+    let first : Comes (after (stepSays s k) (stepLeaves s k)) s (Refused State) = record { says = sym says; leaves = sym (refused-left (stepSays s k) _ s State says) } in
+    comes-ends _ s passing (Refused State) State refl (comes-ends _ s (steppedBelow k) (Refused State) State refl first)
+
+-- one that passes
+pub passes-on : (n : ℕ) (s : List ℕ) → n ≡ 0 → stateOk s ≡ true → Comes (follow (steppedBelow n s) passing) s Done
+unfolding steppedBelow
+passes-on n s e ok =
+    rw e
+    (comes-by _ _ s Done (sym (follow-done s passing)) (record { says = sym (order-ok 9 (stateOk s) _ _ ok ∙ order-done _); leaves = refl }))
+
 -- ---- the ways out
-module _ (s : List ℕ) (event : ℕ) where
-  pub given-state : stateOk s ≡ false → Comes (givenUnder s event) s (Refused State)
-  unfolding givenUnder takenBy
-  given-state e =
-      comes-ends _ s (steppedBelow (slotsIn s)) (Refused State) State refl
-      (comes-ends _ s (sampledFrom (boardsIn s) event 0) (Refused State) State refl (record { says = sym (order-refused 9 (stateOk s) _ _ e); leaves = refl }))
+module _ (s : List ℕ) (event : ℕ) (ok : stateOk s ≡ true) (b : ℕ) (boards : b ≡ boardsIn s) (u : ℕ) (q : u ≡ unionWith 0 (listed (maskIn s) b)) where
+  -- the event's check, by the union that was found
+  union-is : u ≡ unionWith 0 (masksIn s)
+  union-is = q ∙ ap (λ (x : ℕ). unionWith 0 (listed (maskIn s) x)) boards
 
-  module _ (ok : stateOk s ≡ true) (b : ℕ) (boards : b ≡ boardsIn s) where
-    -- the event's check, by the union that was found
-    union-is : (u : ℕ) → u ≡ unionWith 0 (listed (maskIn s) b) → u ≡ unionWith 0 (masksIn s)
-    union-is u q = q ∙ ap (λ (x : ℕ). unionWith 0 (listed (maskIn s) x)) boards
+  pub given-outside : (bitAnd event u ≡ event → ⊥) → Comes (givenPassing s event) s (Refused Outside)
+  unfolding givenPassing givenUnder takenBy
+  given-outside n =
+      comes-ends _ s passing (Refused Outside) Outside refl
+      (comes-ends _ s (steppedBelow (slotsIn s)) (Refused Outside) Outside refl
+      (comes-ends _ s (sampledFrom (boardsIn s) event 0) (Refused Outside) Outside refl
+      (record {
+        says =
+            sym (order-ok 9 (stateOk s) _ _ ok
+            ∙ order-refused 12 (inMask event (unionWith 0 (masksIn s))) _ _ (ne-eqb _ _ (λ e. n (ap (bitAnd event) union-is ∙ e))));
+        leaves = refl;
+      })))
 
-    pub given-outside : (u : ℕ) → u ≡ unionWith 0 (listed (maskIn s) b) → (bitAnd event u ≡ event → ⊥) → Comes (givenUnder s event) s (Refused Outside)
-    unfolding givenUnder takenBy
-    given-outside u q n =
-        comes-ends _ s (steppedBelow (slotsIn s)) (Refused Outside) Outside refl
-        (comes-ends _ s (sampledFrom (boardsIn s) event 0) (Refused Outside) Outside refl
-        (record {
+  module _ (e : bitAnd event u ≡ event) where
+    taken : Comes (after (takenBy s event) s) s Done
+    unfolding takenBy
+    taken =
+        record {
           says =
               sym (order-ok 9 (stateOk s) _ _ ok
-              ∙ order-refused 12 (inMask event (unionWith 0 (masksIn s))) _ _ (ne-eqb _ _ (λ e. n (ap (bitAnd event) (union-is u q) ∙ e))));
+              ∙ order-ok 12 (inMask event (unionWith 0 (masksIn s))) _ _ (eq-eqb _ _ (sym (ap (bitAnd event) union-is) ∙ e))
+              ∙ order-done _);
           leaves = refl;
-        }))
+        }
 
-    module _ (u : ℕ) (q : u ≡ unionWith 0 (listed (maskIn s) b)) (e : bitAnd event u ≡ event) where
-      taken : Comes (after (takenBy s event) s) s Done
-      unfolding takenBy
-      taken =
-          record {
-            says =
-                sym (order-ok 9 (stateOk s) _ _ ok
-                ∙ order-ok 12 (inMask event (unionWith 0 (masksIn s))) _ _ (eq-eqb _ _ (sym (ap (bitAnd event) (union-is u q)) ∙ e))
-                ∙ order-done _);
-            leaves = refl;
-          }
+    -- the boards come next
+    boards-next : follow (after (takenBy s event) s) (sampledFrom (boardsIn s) event 0) ≡ sampledFrom b event 0 s
+    boards-next = comes-on _ s (sampledFrom (boardsIn s) event 0) Done refl taken ∙ ap (λ (x : ℕ). sampledFrom x event 0 s) (sym boards)
 
-      -- the boards come next
-      boards-next : follow (after (takenBy s event) s) (sampledFrom (boardsIn s) event 0) ≡ sampledFrom b event 0 s
-      boards-next = comes-on _ s (sampledFrom (boardsIn s) event 0) Done refl taken ∙ ap (λ (x : ℕ). sampledFrom x event 0 s) (sym boards)
+    -- the boards' calls end with a refusal
+    pub given-sampled : (t : List ℕ) (x : Outcome) (why : Refusal) → x ≡ Refused why → Comes (sampledFrom b event 0 s) t x → Comes (givenPassing s event) t x
+    unfolding givenPassing givenUnder
+    given-sampled t x why f c =
+        comes-ends _ t passing x why f (comes-ends _ t (steppedBelow (slotsIn s)) x why f (comes-by _ _ t x (sym boards-next) c))
 
-      -- the boards' calls end with a refusal
-      pub given-sampled : (t : List ℕ) (x : Outcome) (why : Refusal) → x ≡ Refused why → Comes (sampledFrom b event 0 s) t x → Comes (givenUnder s event) t x
-      unfolding givenUnder
-      given-sampled t x why f c = comes-ends _ t (steppedBelow (slotsIn s)) x why f (comes-by _ _ t x (sym boards-next) c)
-
-      -- or the slots' calls follow
-      pub given-stepped : (t v : List ℕ) (n : ℕ) (x y : Outcome) → n ≡ slotsIn s → x ≡ Done → Comes (sampledFrom b event 0 s) t x → Comes (steppedBelow n t) v y
-          → Comes (givenUnder s event) v y
-      unfolding givenUnder
-      given-stepped t v n x y slots f c d =
-          comes-by _ _ v y
-          (ap (λ (k : ℕ). steppedBelow k t) slots ∙ sym (comes-on _ t (steppedBelow (slotsIn s)) x f (comes-by _ _ t x (sym boards-next) c)))
-          d
+    -- or the slots' calls follow
+    pub given-stepped : (t v : List ℕ) (n : ℕ) (x y : Outcome) → n ≡ slotsIn s → x ≡ Done → Comes (sampledFrom b event 0 s) t x
+        → Comes (follow (steppedBelow n t) passing) v y → Comes (givenPassing s event) v y
+    unfolding givenPassing givenUnder
+    given-stepped t v n x y slots f c d =
+        comes-by _ _ v y
+        (ap (λ (a : After). follow a passing)
+        (ap (λ (k : ℕ). steppedBelow k t) slots ∙ sym (comes-on _ t (steppedBelow (slotsIn s)) x f (comes-by _ _ t x (sym boards-next) c))))
+        d

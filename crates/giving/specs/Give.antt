@@ -1,50 +1,39 @@
--- A tick up to its close: the event's checks, a sample from each board, a step of each slot, one after the other up to the first that
--- is refused. Assumes nothing: these are definitions.
+-- What giving an event to a watch that goes on answers and leaves. Assumes nothing: these are definitions.
 use mathlib.Core.Path.{_≡_}
+use mathlib.Core.Bool.{true, false}
 use mathlib.Core.List.{List, [], _∷_}
-use Prim.Native.Nat.{ℕ, zero, suc, _+_}
-use lib.Bits.{bitAnd}
-use lib.Dec.{eqb}
-use Rattle.lists.specs.Tests.{pick}
+use Prim.Native.Nat.{ℕ}
 use Rattle.answers.specs.declared.Outcome.{Outcome}
-use Rattle.answers.specs.Said.{Said, accepted, saidOutcome, check, inOrder}
-use Rattle.masks.specs.Masks.{unionWith}
-use Rattle.state.specs.Fields.{boardsIn, slotsIn, maskIn, masksIn}
-use Rattle.state.specs.Clauses.{inMask, stateOk}
-use Rattle.state.specs.Calls.{sampleSays, sampleLeaves, stepSays, stepLeaves}
+use Rattle.answers.specs.declared.Outcome.the-variants.{Done}
+use Rattle.answers.specs.Said.{accepted, saidOutcome, check, inOrder}
+use Rattle.state.specs.declared.Counts.{Counts}
+use Rattle.state.specs.Clauses.{restOk, stateOk}
+use Rattle.state.specs.Calls.{finishedIn}
+use Rattle.state.specs.Counted.{Header}
+use Rattle.state.specs.Opened.{Opened}
+use Rattle.course.specs.Given.{After, after, follow, givenUnder}
 
--- what calls made one after the other have come to: the answer of the last one, and the state that it has left
-pub record After : Type 0 where
-  pub says : Said
-  pub leaves : List ℕ
+-- that the state passes which the last step has left: the next call would refuse it
+abbrev pub passing : List ℕ → After
+passing s = after (inOrder (check 9 (stateOk s) ∷ []) (accepted [])) s
 
-abbrev pub after : Said → List ℕ → After
-after said s = record { says = said; leaves = s }
+-- the calls of a tick up to its close, and that
+unfoldable pub givenPassing : List ℕ → ℕ → After
+givenPassing s event = follow (givenUnder s event) passing
 
--- where the last call was accepted, the calls that follow; a refusal ends them
-unfoldable pub follow : After → (List ℕ → After) → After
-follow a next = pick (eqb (a .says .number) 0) (next (a .leaves)) a
-
--- boards i, i + 1, .. , n of them, are given their parts of the event
-unfoldable pub sampledFrom : ℕ → ℕ → ℕ → List ℕ → After
-sampledFrom zero event i s = after (accepted []) s
-sampledFrom (suc n) event i s =
-    follow (after (sampleSays s i (bitAnd event (maskIn s i))) (sampleLeaves s i (bitAnd event (maskIn s i)))) (sampledFrom n event (i + 1))
-
--- the slots below n are stepped, the highest number first
-unfoldable pub steppedBelow : ℕ → List ℕ → After
-steppedBelow zero s = after (accepted []) s
-steppedBelow (suc k) s = follow (after (stepSays s k) (stepLeaves s k)) (steppedBelow k)
-
--- the event may be taken: some board has each of its bits
-unfoldable pub takenBy : List ℕ → ℕ → Said
-takenBy s event = inOrder (check 9 (stateOk s) ∷ check 12 (inMask event (unionWith 0 (masksIn s))) ∷ []) (accepted [])
-
--- the whole
-unfoldable pub givenUnder : List ℕ → ℕ → After
-givenUnder s event = follow (follow (after (takenBy s event) s) (sampledFrom (boardsIn s) event 0)) (steppedBelow (slotsIn s))
-
--- the promise: the answer, and the state as the last call has left it
+-- the answer, and the state as the last call has left it
 pub record Comes (a : After) (s′ : List ℕ) (answer : Outcome) : Type 0 where
   pub says : saidOutcome answer ≡ a .says
   pub leaves : s′ ≡ a .leaves
+
+-- a state that was opened and goes on
+pub record GoingOn (s : List ℕ) (c : Counts) : Type 0 where
+  pub opened : Opened s c
+  pub unfinished : finishedIn s ≡ false
+
+-- the promise: that; the counts stay, and the zeros behind the nodes; and where no call is refused the watch still goes on
+pub record GivesEvent (a : After) (c : Counts) (s′ : List ℕ) (answer : Outcome) : Type 0 where
+  pub comes : Comes a s′ answer
+  pub header : Header s′ c
+  pub rest : restOk s′ ≡ true
+  pub going : answer ≡ Done → GoingOn s′ c

@@ -1,2 +1,3 @@
 -- What the contracts of `giving` cite.
 pub mod Give
+pub mod Stray

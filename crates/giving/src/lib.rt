@@ -1,5 +1,8 @@
-// A tick up to its close, as the run program makes it: an event is split by the boards' masks, each board samples its part, and the
-// slots are stepped from the highest number down, so that each is ready when its turn comes.
+// A tick up to its close: an event is split by the boards' masks, each board samples its part, and the slots are stepped from the
+// highest number down, so that each is ready when its turn comes. The state was opened, and is not checked again: a sample keeps it
+// passing, and so does a step, unless it leaves a lone proposition of another board.
+mod straying;
+
 ghost use mathlib.Core.Path.{_≡_};
 ghost use Prim.Native.Nat.{_≤_};
 ghost use Rattle.limits.specs.Limits.{boardsMost};
@@ -7,12 +10,12 @@ ghost use Rattle.lists.specs.Listed.{listed};
 ghost use Rattle.masks.specs.Masks.{unionWith};
 ghost use Rattle.state.specs.Form.{Formed};
 ghost use Rattle.state.specs.Fields.{maskIn};
-ghost use Rattle.state.specs.Opened.{Opened};
-ghost use Rattle.giving.specs.Give.{sampledFrom, steppedBelow, givenUnder, Comes};
+ghost use Rattle.course.specs.Given.{follow, sampledFrom, steppedBelow};
+ghost use Rattle.giving.specs.Give.{passing, givenPassing, GoingOn, GivesEvent};
 use answers::Outcome;
 use answers::Refusal;
-use opening::Opening;
 use state::Counts;
+use straying::strays;
 
 // The union of the boards' masks.
 fn union(state: &[u8], boards: usize) -> u64
@@ -29,13 +32,14 @@ fn union(state: &[u8], boards: usize) -> u64
 }
 
 // Each board samples its part of the event.
-fn sample_all(state: &mut [u8], boards: usize, event: u64) -> Outcome
-    requires { ⌜ Formed (now state) × (boards ≤ boardsMost) ⌝ }
-    ensures { λ r. ⌜ Comes (sampledFrom boards event 0 (now (state .entry))) (now (state .exit)) r ⌝ }
+fn sample_all(state: &mut [u8], c: Counts, event: u64) -> Outcome
+    requires { ⌜ GoingOn (now state) c ⌝ }
+    ensures { λ r. ⌜ GivesEvent (sampledFrom (c .boards) event 0 (now (state .entry))) c (now (state .exit)) r ⌝ }
 {
+    let n = c.boards;
     let mut i: usize = 0;
-    while i < boards {
-        let outcome = sampling::sample(state, i as u64, event & state::mask_of(state, i));
+    while i < n {
+        let outcome = taking::sample_going(state, c, i as u64, event & state::mask_of(state, i));
         let Outcome::Done = outcome else {
             return outcome;
         };
@@ -45,43 +49,35 @@ fn sample_all(state: &mut [u8], boards: usize, event: u64) -> Outcome
 }
 
 // Each slot is stepped, the highest number first.
-fn step_all(state: &mut [u8], slots: usize) -> Outcome
-    ensures { λ r. ⌜ Comes (steppedBelow slots (now (state .entry))) (now (state .exit)) r ⌝ }
+fn step_all(state: &mut [u8], c: Counts) -> Outcome
+    requires { ⌜ GoingOn (now state) c ⌝ }
+    ensures { λ r. ⌜ GivesEvent (follow (steppedBelow (c .slots) (now (state .entry))) passing) c (now (state .exit)) r ⌝ }
 {
-    let mut left = slots;
+    let mut left = c.slots;
     while 0 < left {
         left -= 1;
-        let outcome = stepping::step(state, left as u64);
+        let outcome = settling::step_going(state, c, left as u64);
         let Outcome::Done = outcome else {
             return outcome;
         };
+        if strays(state, c, left) {
+            return Outcome::Refused(Refusal::State);
+        }
     }
     Outcome::Done
 }
 
-// Gives the event to the network of a state that was opened.
-fn give_opened(state: &mut [u8], c: Counts, event: u64) -> Outcome
-    requires { ⌜ Opened (now state) c ⌝ }
-    ensures { λ r. ⌜ Comes (givenUnder (now (state .entry)) event) (now (state .exit)) r ⌝ }
+// Gives the event to the network of a watch that goes on. A refusal on the way leaves the calls before it done.
+pub fn give(state: &mut [u8], c: Counts, event: u64) -> Outcome
+    requires { ⌜ GoingOn (now state) c ⌝ }
+    ensures { λ r. ⌜ GivesEvent (givenPassing (now (state .entry)) event) c (now (state .exit)) r ⌝ }
 {
     if event & union(state, c.boards) != event {
         return Outcome::Refused(Refusal::Outside);
     }
-    let sampled = sample_all(state, c.boards, event);
+    let sampled = sample_all(state, c, event);
     let Outcome::Done = sampled else {
         return sampled;
     };
-    step_all(state, c.slots)
-}
-
-// Gives the event to the whole network. A refusal on the way leaves the calls before it done.
-pub fn give(state: &mut [u8], event: u64) -> Outcome
-    ensures { λ r. ⌜ Comes (givenUnder (now (state .entry)) event) (now (state .exit)) r ⌝ }
-{
-    let opened = opening::open(state);
-    match opened {
-        Opening::Broken => Outcome::Refused(Refusal::State),
-        Opening::Finished(c) => give_opened(state, c, event),
-        Opening::Going(c) => give_opened(state, c, event),
-    }
+    step_all(state, c)
 }

@@ -6,6 +6,7 @@ ghost use Prim.Native.Nat.{_≤_};
 ghost use lib.ListN.{length};
 ghost use Rattle.programs.specs.Hand.{InHand};
 use answers::Outcome;
+use capturing::CaptureAnswer;
 use programs::input::Came;
 use programs::input::Hand;
 use programs::input::PIECE;
@@ -16,8 +17,8 @@ use programs::turns::Turned;
 use state::STATE_ROOM;
 use telling::AskAnswer;
 
-// Two ticks a turn. The state counts ticks in 32 bits, so the last of these ticks is refused at the latest.
-const TURNS: u64 = 2147483648;
+// A tick a turn. The state counts ticks in 32 bits, so the last of these ticks is refused at the latest.
+const TURNS: u64 = 4294967296;
 
 // Writes the line for a state that was just loaded or closed. Answers how many nodes wait for the next event: none where the watch
 // is over.
@@ -52,7 +53,21 @@ fn report_after(outcome: Outcome, state: &[u8]) -> usize {
     }
 }
 
-// Takes an event and ticks, from one buffer to the other.
+// Reports what a capture of one event has come to.
+fn report_captured(answer: CaptureAnswer, state: &[u8]) -> usize {
+    match answer {
+        CaptureAnswer::Refused(refusal) => {
+            output::refused(refusal);
+            0
+        }
+        CaptureAnswer::Captured(captured) => {
+            let stop = captured.stop;
+            report_after(stop, state)
+        }
+    }
+}
+
+// Takes an event and captures it: each close has its line, so one event at a time.
 fn turn(piece: &mut [u8], hand: Hand, state: &mut [u8], second: &mut [u8]) -> Turned
     requires { ⌜ InHand (length (now piece)) hand × (8 ≤ length (now piece)) ⌝ }
     ensures { λ r. ⌜ InHand (length (now (piece .entry))) (r .hand) ⌝ }
@@ -62,14 +77,14 @@ fn turn(piece: &mut [u8], hand: Hand, state: &mut [u8], second: &mut [u8]) -> Tu
         return Turned::over();
     };
     let rest = taking.rest;
-    let outcome = ticking::tick(state, taking.event, second);
+    let events = [taking.event; 1];
+    let answer = capturing::capture(state, second, &events);
     Turned {
-        waiting: report_after(outcome, second),
+        waiting: report_captured(answer, state),
         hand: rest,
     }
 }
 
-// The buffers change places from tick to tick, so that no state is copied.
 fn run(piece: &mut [u8], behind: Hand, state: &mut [u8], nodes: usize, second: &mut [u8])
     requires { ⌜ InHand (length (now piece)) behind × (8 ≤ length (now piece)) ⌝ }
 {
@@ -80,15 +95,10 @@ fn run(piece: &mut [u8], behind: Hand, state: &mut [u8], nodes: usize, second: &
         if waiting == 0 {
             return;
         }
-        let first = turn(piece, hand, state, second);
-        if first.waiting == 0 {
-            return;
-        }
-        let between = first.hand;
-        let then = turn(piece, between, second, state);
-        let rest = then.hand;
+        let turned = turn(piece, hand, state, second);
+        let rest = turned.hand;
         hand = rest;
-        waiting = then.waiting;
+        waiting = turned.waiting;
         left -= 1;
     }
 }

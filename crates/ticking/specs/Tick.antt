@@ -1,29 +1,31 @@
--- A whole tick: an event given to the network and, where that is accepted, closed. Assumes nothing: these are definitions.
+-- One tick of a capture: what it asks, and what it answers and leaves. Assumes nothing: these are definitions.
 use mathlib.Core.Path.{_≡_}
 use mathlib.Core.List.{List}
-use Prim.Native.Nat.{ℕ}
+use Prim.Native.Nat.{ℕ, _+_}
 use lib.ListN.{length}
-use lib.Dec.{eqb}
-use Rattle.lists.specs.Tests.{pick}
+use Rattle.limits.specs.Limits.{nodesRoom}
 use Rattle.answers.specs.declared.Outcome.{Outcome}
-use Rattle.answers.specs.Said.{Said, saidOutcome, left}
-use Rattle.state.specs.Calls.{closeSays, closeLeaves}
-use Rattle.giving.specs.Give.{givenUnder}
+use Rattle.answers.specs.Said.{saidOutcome, left}
+use Rattle.masks.specs.Masks.{sumOnes}
+use Rattle.scores.specs.Owned.{Table, Owned}
+use Rattle.state.specs.declared.Counts.{Counts}
+use Rattle.state.specs.Fields.{masksIn}
+use Rattle.storing.specs.Stores.{ZeroFrom}
+use Rattle.course.specs.Ticked.{tickSays, closedTo}
+use Rattle.giving.specs.Give.{GoingOn}
 
--- the first buffer afterwards: close only reads it, so it is as giving leaves it
-abbrev pub tickLeaves : List ℕ → ℕ → List ℕ
-tickLeaves s event = givenUnder s event .leaves
+-- a watch that goes on, a copy of it, and what each tick is lent
+pub record TickAsk (s : List ℕ) (c : Counts) (second masks owner u tags : List ℕ) : Type 0 where
+  pub going : GoingOn s c
+  pub copied : second ≡ s
+  pub masks-are : masks ≡ masksIn s
+  pub table : Table owner
+  pub owned : Owned (sumOnes (masksIn s)) (masksIn s) owner
+  pub u-long : length u ≡ nodesRoom
+  pub tags-long : length tags ≡ nodesRoom
 
--- what the tick answers with room for so many bytes in the second buffer: a refusal of giving, else what close answers
-unfoldable pub tickSays : List ℕ → ℕ → ℕ → Said
-tickSays s event room = pick (eqb (givenUnder s event .says .number) 0) (closeSays (tickLeaves s event) room) (givenUnder s event .says)
-
--- the second buffer afterwards: as close leaves it, and as it was where giving is refused
-abbrev pub tickSecond : List ℕ → ℕ → List ℕ → List ℕ
-tickSecond s event second = left (givenUnder s event .says) (closeLeaves (tickLeaves s event) second) second
-
--- the promise: the answer, and both buffers
-pub record TicksState (s : List ℕ) (event : ℕ) (second s′ second′ : List ℕ) (answer : Outcome) : Type 0 where
-  pub says : saidOutcome answer ≡ tickSays s event (length second)
-  pub leaves : s′ ≡ tickLeaves s event
-  pub leaves-second : second′ ≡ tickSecond s event second
+-- the promise: the answer; the state as it is closed, as it was where the tick is refused; and zeros behind what stands in the copy
+pub record TicksOnce (s : List ℕ) (c : Counts) (event : ℕ) (s′ second′ : List ℕ) (answer : Outcome) : Type 0 where
+  pub says : saidOutcome answer ≡ tickSays s event
+  pub leaves : s′ ≡ left (tickSays s event) (closedTo s event) s
+  pub zeros : ZeroFrom (c .stretches + c .nodes) second′

@@ -1,4 +1,4 @@
--- The buffers keep their lengths as they change places, what is in hand stays within the piece, and the turns that are left fall. Assumes nothing.
+-- The buffers keep their lengths, what is in hand stays within the piece, and the turns that are left fall. Assumes nothing.
 use mathlib.Core.Path.{_≡_}
 use lib.ListN.{length}
 use Rattle.programs.specs.Hand.{InHand}
@@ -19,11 +19,6 @@ run-spec =
     Inv-loop
     μ-loop
     (λ c. search needs)
-    (λ c. search needs)
-    (λ c. search needs)
-    (λ c. search needs)
-    (λ c. search needs)
-    (λ c κs. search needs)
     (λ c. search needs)
     (λ c. search needs)
     (λ c. search needs)

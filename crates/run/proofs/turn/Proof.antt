@@ -9,11 +9,11 @@ use Rattle.run.proofs.turn.Tie as tie
 abbrev gave : tie.After-next → tie.After-event
 gave c = c .before .before .before .before
 
-abbrev taken : tie.After-tick → tie.After-next
-taken c = c .before .before .before .before .before
+abbrev taken : tie.After-capture → tie.After-next
+taken c = c .before .before .before .before .before .before
 
-abbrev ticked : tie.After-report-after → tie.After-tick
-ticked c = c .before .before .before .before .before .before
+abbrev captured : tie.After-report-captured → tie.After-capture
+captured c = c .before .before .before .before .before .before
 
 pub turn-spec : {M : Type 1} → statement M
 turn-spec =
@@ -25,13 +25,14 @@ turn-spec =
     (λ c κs. search needs)
     (λ c. search needs)
     (λ c. search needs)
+    (λ c. search needs)
     (λ c κs. search needs)
     (λ c κs. search needs)
     (λ c. search needs)
     (λ c. search needs)
     (λ c. search needs)
     (λ c.
-    let n = taken (ticked c) in
+    let n = taken (captured c) in
     let i = next-takes _ _ _ _ (n .next .given .1) (gave n .event .ensures) .within in
     let k = gave n .event .kept .0 in
     (i .0, omega arith)))

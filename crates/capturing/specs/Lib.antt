@@ -1,0 +1,3 @@
+-- What the contracts of `capturing` cite.
+pub mod Capture
+pub mod Running
