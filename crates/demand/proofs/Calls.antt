@@ -6,9 +6,9 @@ use Prim.Native.Nat.{ℕ}
 use Rattle.answers.specs.declared.Outcome.the-variants.{Done}
 use Rattle.watching.specs.Watch.{Calls, none, sample, step}
 use Rattle.watching.specs.Claims.{Accepted}
-use Rattle.demand.specs.Called.{Called, nothing, sampled, stepped, asked, closed, load-refused, close-refused, write-refused, central-refused, read-refused}
+use Rattle.demand.specs.Called.{Called, nothing, sampled, stepped, asked, closed, load-refused, close-refused, write-refused, central-refused, read-refused, capture-refused, capture-second-refused}
 use Rattle.demand.specs.Claims.{AllAccepted}
-use Rattle.demand.proofs.Passed.{refused-leaves}
+use Rattle.demand.proofs.Refused.{refused-leaves}
 
 pub called : {s t : List ℕ} → Called s t → Calls s t
 called nothing = none
@@ -21,6 +21,8 @@ called {s} (close-refused {t = t} c other why p) = subst (λ (u : List ℕ). Cal
 called {s} (write-refused {t = t} c masks q formula why p) = subst (λ (u : List ℕ). Calls s u) (sym (p .leaves ∙ refused-leaves why _ _ t (p .says))) (called c)
 called {s} (central-refused {t = t} c formula event why p) = subst (λ (u : List ℕ). Calls s u) (sym (p .leaves ∙ refused-leaves why _ _ t (p .says))) (called c)
 called {s} (read-refused {t = t} c file masks masks′ why p) = subst (λ (u : List ℕ). Calls s u) (sym (p .leaves-formula ∙ refused-leaves why _ _ t (p .says))) (called c)
+called {s} (capture-refused {t = t} c second second′ events why p) = subst (λ (u : List ℕ). Calls s u) (sym (p .leaves ∙ refused-leaves why _ _ t (p .says))) (called c)
+called {s} (capture-second-refused {t = t} c other other′ events why p) = subst (λ (u : List ℕ). Calls s u) (sym (p .leaves-second ∙ refused-leaves why _ _ t (p .says))) (called c)
 
 -- accepted calls over the definitions are allowed by the promises
 pub made : {s t : List ℕ} (c : Calls s t) → Accepted c → (d : Called s t) × AllAccepted d

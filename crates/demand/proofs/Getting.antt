@@ -19,6 +19,8 @@ use Rattle.state.specs.Form.{formIn, stateLength}
 use Rattle.state.specs.Fields.{boardsIn, slotsIn, sampledIn, steppedIn}
 use Rattle.state.specs.Calls.{askSays, sampleSays, sampleLeaves, stepSays, stepLeaves, doneIn, closeSays, closeLeaves}
 use Rattle.records.proofs.Each.{each-at}
+use Rattle.keeping.specs.Closing as defined
+use Rattle.keeping.proofs.Calls.{sample-passed, step-passed}
 use Rattle.watching.specs.Claims as definition
 use Rattle.telling.specs.declared.Standing.{Standing}
 use Rattle.telling.specs.declared.AskAnswer.the-variants.{Told}
@@ -27,7 +29,6 @@ use Rattle.asking.proofs.Determined.{saidAsk-injective}
 use Rattle.taking.specs.Sample.{Samples}
 use Rattle.settling.specs.Step.{StepsSlot}
 use Rattle.demand.specs.Claims.{Gets, CloseGets, Closing, accepts, too-many-slots, too-many-nodes, no-more-ticks, CloseLeft, GoesOn, samples, steps, closes, AskGets}
-use Rattle.demand.proofs.Passed.{sample-passed, step-passed}
 
 module _ (t : List ℕ) where
   sample-gets : (board bits : ℕ) (wanted : Outcome) → saidOutcome wanted ≡ sampleSays t board bits → Gets (Samples t board bits) wanted
@@ -47,11 +48,11 @@ module _ (t : List ℕ) where
   ask-gets wanted e = record { allowed = record { says = e }; only = λ answer p. saidAsk-injective answer (Told wanted) (p .says ∙ sym e) }
 
   -- ---- within a tick
-  pub closing : definition.StateClosing t → Closing t
-  closing (definition.accepts e) = accepts (close-gets Done (sym e))
-  closing (definition.refuses n (inl h) e) = too-many-slots (close-gets (Refused Slots) (sym (e ∙ ap refused h)))
-  closing (definition.refuses n (inr (inl h)) e) = too-many-nodes (close-gets (Refused Nodes) (sym (e ∙ ap refused h)))
-  closing (definition.refuses n (inr (inr h)) e) = no-more-ticks (close-gets (Refused Ticks) (sym (e ∙ ap refused h)))
+  pub closing : defined.StateClosing t → Closing t
+  closing (defined.accepts e) = accepts (close-gets Done (sym e))
+  closing (defined.refuses n (inl h) e) = too-many-slots (close-gets (Refused Slots) (sym (e ∙ ap refused h)))
+  closing (defined.refuses n (inr (inl h)) e) = too-many-nodes (close-gets (Refused Nodes) (sym (e ∙ ap refused h)))
+  closing (defined.refuses n (inr (inr h)) e) = no-more-ticks (close-gets (Refused Ticks) (sym (e ∙ ap refused h)))
 
   pub done-boards : doneIn t ≡ true → (b : ℕ) → b < boardsIn t → sampledIn t b ≡ 1
   unfolding doneIn
@@ -65,8 +66,8 @@ module _ (t : List ℕ) where
   close-left done =
       record {
         done = done;
-        no-sample = λ board bits t′ p. let f = sample-passed t board bits (p .says) in omega (arith, done-boards done board (f .there));
-        no-step = λ slot t′ p. let f = step-passed t slot (p .says) in omega (arith, done-slots done slot (f .there));
+        no-sample = λ board bits t′ p. let f = sample-passed t board bits (sym (p .says)) in omega (arith, done-boards done board (f .there));
+        no-step = λ slot t′ p. let f = step-passed t slot (sym (p .says)) in omega (arith, done-slots done slot (f .there));
       }
 
   pub going-on : definition.StateGoesOn t → GoesOn t

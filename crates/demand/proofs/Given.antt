@@ -17,14 +17,15 @@ use Rattle.state.specs.Writes.{sampleGiven}
 use Rattle.state.specs.Calls.{doneIn}
 use Rattle.state.proofs.Sampled.{sample-other, sample-other-flag, sample-bits, sample-flag}
 use Rattle.checked.proofs.Passing.{passing-sized}
+use Rattle.keeping.proofs.Sampling.{bits-few}
+use Rattle.keeping.proofs.Stepping as stepping
+use Rattle.keeping.proofs.Calls.{accepted-leaves, SamplePassed, sample-passed, step-passed}
 use Rattle.watching.specs.Watch.{Saw}
 use Rattle.watching.proofs.InTick.{InTick, boards-kept}
 use Rattle.watching.proofs.Started.{Started, started-laid}
 use Rattle.watching.proofs.Ticked.{started-in-tick}
-use Rattle.watching.proofs.Sampling.{bits-few}
-use Rattle.watching.proofs.Stepping as stepping
-use Rattle.demand.specs.Called.{Called, nothing, sampled, stepped, asked, closed, load-refused, close-refused, write-refused, central-refused, read-refused, Gave, GivenBy}
-use Rattle.demand.proofs.Passed.{refused-not-done, refused-leaves, accepted-leaves, SamplePassed, sample-passed, step-passed}
+use Rattle.demand.specs.Called.{Called, nothing, sampled, stepped, asked, closed, load-refused, close-refused, write-refused, central-refused, read-refused, capture-refused, capture-second-refused, Gave, GivenBy}
+use Rattle.demand.proofs.Refused.{refused-not-done, refused-leaves}
 use Rattle.demand.proofs.Calls.{called}
 use Rattle.demand.proofs.Getting.{done-boards}
 
@@ -107,16 +108,16 @@ module _ (p : ℕ) (masks : List ℕ) (rule : Formula) (us : List Event) (s : Li
         given = λ b l f. absurd (omega (arith, x .unsampled b l));
       }
   holding (sampled {t = t} c board bits Done y) =
-      let q = sample-passed t board bits (y .says) in
-      subst (λ (u : List ℕ). Held u (λ b v. Gave c b v ⊎ ((Done ≡ Done) × (b ≡ board) × (v ≡ bits)))) (sym (y .leaves ∙ accepted-leaves _ _ t (y .says)))
+      let q = sample-passed t board bits (sym (y .says)) in
+      subst (λ (u : List ℕ). Held u (λ b v. Gave c b v ⊎ ((Done ≡ Done) × (b ≡ board) × (v ≡ bits)))) (sym (y .leaves ∙ accepted-leaves _ _ t (sym (y .says))))
       (holds-more (boardsIn s) t (Gave c) (holding c) (as-many t c) board bits q)
   holding (sampled {t = t} c board bits (Refused why) y) =
       subst (λ (u : List ℕ). Held u (Gave (sampled c board bits (Refused why) y))) (sym (y .leaves ∙ refused-leaves why _ _ t (y .says)))
       (holds-refused (boardsIn s) t (Gave c) (holding c) (Gave (sampled c board bits (Refused why) y)) (λ b v g. inl g) (λ b v. ⊎-elim (λ g. g) (λ e. absurd (refused-not-done why (e .0)))))
   holding (stepped {t = t} c slot Done y) =
-      let q = step-passed t slot (y .says) in
+      let q = step-passed t slot (sym (y .says)) in
       let n = as-many t c in
-      subst (λ (u : List ℕ). Held u (Gave c)) (sym (y .leaves ∙ accepted-leaves _ _ t (y .says)))
+      subst (λ (u : List ℕ). Held u (Gave c)) (sym (y .leaves ∙ accepted-leaves _ _ t (sym (y .says))))
       (holds-still (boardsIn s) t (Gave c) (holding c) (stepping.after t slot) (λ b l. stepping.step-flag t (q .ok) slot (q .there) b (omega arith))
       (λ b l. stepping.step-sample t (q .ok) slot (q .there) b (omega arith)))
   holding (stepped {t = t} c slot (Refused why) y) = subst (λ (u : List ℕ). Held u (Gave c)) (sym (y .leaves ∙ refused-leaves why _ _ t (y .says))) (holding c)
@@ -127,6 +128,8 @@ module _ (p : ℕ) (masks : List ℕ) (rule : Formula) (us : List Event) (s : Li
   holding (write-refused {t = t} c ms q formula why y) = subst (λ (u : List ℕ). Held u (Gave c)) (sym (y .leaves ∙ refused-leaves why _ _ t (y .says))) (holding c)
   holding (central-refused {t = t} c formula event why y) = subst (λ (u : List ℕ). Held u (Gave c)) (sym (y .leaves ∙ refused-leaves why _ _ t (y .says))) (holding c)
   holding (read-refused {t = t} c file ms masks′ why y) = subst (λ (u : List ℕ). Held u (Gave c)) (sym (y .leaves-formula ∙ refused-leaves why _ _ t (y .says))) (holding c)
+  holding (capture-refused {t = t} c second second′ events why y) = subst (λ (u : List ℕ). Held u (Gave c)) (sym (y .leaves ∙ refused-leaves why _ _ t (y .says))) (holding c)
+  holding (capture-second-refused {t = t} c other other′ events why y) = subst (λ (u : List ℕ). Held u (Gave c)) (sym (y .leaves-second ∙ refused-leaves why _ _ t (y .says))) (holding c)
 
   -- where every board has sampled, each has what it was given
   pub sample-given : (t : List ℕ) (c : Called s t) → doneIn t ≡ true → (b : ℕ) → b < boardsIn s → (v : ℕ) × (Gave c b v) × (sampleIn t b ≡ v)

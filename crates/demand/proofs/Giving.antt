@@ -1,15 +1,14 @@
--- Giving an event, as the run program makes a tick up to its close, is made of samples and steps: whatever it comes to, by its promise, the calls'
--- promises allow (`give-called`), also where it is refused on the way. Assumes nothing.
-use mathlib.Core.Path.{sym, subst}
+-- A tick up to its close is made of samples and steps: whatever giving an event comes to, their promises allow (`give-called`), also where
+-- one of them is refused on the way. Assumes nothing.
 use mathlib.Core.List.{List}
 use Prim.Native.Nat.{ℕ, zero, suc, _+_}
 use lib.Bits.{bitAnd}
 use lib.Dec.{eqb}
 use Rattle.lists.proofs.Tests.{pick-elim}
-use Rattle.answers.specs.declared.Outcome.{Outcome}
 use Rattle.ltl.specs.Meaning.{Event}
 use Rattle.state.specs.Fields.{boardsIn, slotsIn, maskIn}
-use Rattle.giving.specs.Give.{After, after, follow, sampledFrom, steppedBelow, takenBy, givenUnder, Comes}
+use Rattle.course.specs.Given.{After, after, follow, sampledFrom, steppedBelow, takenBy, givenUnder}
+use Rattle.course.specs.Ticked.{tickLeaves}
 use Rattle.demand.specs.Called.{Called, nothing, sampled, stepped}
 use Rattle.demand.proofs.Allowed.{sample-allowed, step-allowed}
 
@@ -34,9 +33,8 @@ module _ (s : List ℕ) (event : Event) where
   stepped-called zero t c = c
   stepped-called (suc k) t c = let o = step-allowed t k in follow-keeps From _ (steppedBelow k) (stepped c k (o .0) (o .1)) (λ u d. stepped-called k u d)
 
-  pub give-called : (t : List ℕ) (answer : Outcome) → Comes (givenUnder s event) t answer → Called s t
+  pub give-called : Called s (tickLeaves s event)
   unfolding givenUnder
-  give-called t answer c =
-      subst From (sym (c .leaves))
-      (follow-keeps From _ (steppedBelow (slotsIn s)) (follow-keeps From (after (takenBy s event) s) (sampledFrom (boardsIn s) event 0) nothing (λ u d. sampled-called (boardsIn s) 0 u d))
-      (λ u d. stepped-called (slotsIn s) u d))
+  give-called =
+      follow-keeps From _ (steppedBelow (slotsIn s)) (follow-keeps From (after (takenBy s event) s) (sampledFrom (boardsIn s) event 0) nothing (λ u d. sampled-called (boardsIn s) 0 u d))
+      (λ u d. stepped-called (slotsIn s) u d)

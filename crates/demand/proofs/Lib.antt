@@ -1,6 +1,6 @@
 -- From the calls' promises to a watch over their definitions, and the third demand.
 pub mod Loaded
-pub mod Passed
+pub mod Refused
 pub mod Calls
 pub mod Given
 pub mod Watches
@@ -16,6 +16,13 @@ pub mod Allowed
 pub mod Giving
 pub mod AllGiven
 pub mod Ticking
+pub mod Coursed
+pub mod Stopping
+pub mod Singly
+pub mod SinglyMade
+pub mod Capturing
+pub mod Captured
+pub mod CapturedSplit
 pub mod Rows
 pub mod Worked
 pub mod Surviving

@@ -1,12 +1,15 @@
 -- Rows of the worked values as calls that their promises allow. `Part`: some calls of a tick under an event; `part-nothing` and the names
 -- below it put one call after the other, accepted or refused, each by its row. `part-ticks` closes the tick and `load-watches` begins a
 -- watch, both into a buffer of sevens (`buffer`). `ticks-give-same`: in two ticks under one event each board was given the same. Assumes nothing.
-use mathlib.Core.Path.{_≡_, sym, ap, ap₂, _∙_}
+use mathlib.Core.Path.{_≡_, refl, sym, ap, ap₂, _∙_}
+use mathlib.Core.Bool.{Bool, true, false}
 use mathlib.Core.List.{List, []}
 use mathlib.Core.Logic.{⊎-elim}
 use Prim.Native.Nat.{ℕ}
+use native.Mathlib.Omega.{arith}
 use lib.ListN.{length, replicate, length-replicate}
 use Rattle.answers.specs.declared.Refusal.{Refusal}
+use Rattle.answers.specs.declared.Refusal.the-variants.{Length, State}
 use Rattle.answers.specs.declared.Outcome.the-variants.{Refused, Done}
 use Rattle.answers.specs.declared.Verdict.{Verdict}
 use Rattle.answers.specs.Said.{refused, left, numberOf}
@@ -16,14 +19,17 @@ use Rattle.rules.specs.RuleFile.{masksInFile}
 use Rattle.state.specs.declared.Form.{Form}
 use Rattle.state.specs.declared.Form.the-variants.{Plain}
 use Rattle.state.specs.Form.{formIn, stateLength}
+use Rattle.state.specs.Clauses.{stateOk}
 use Rattle.state.specs.Calls.{sampleSays, stepSays, closeSays, loadedState}
 use Rattle.state.proofs.Forms.{form-at}
+use Rattle.checked.proofs.Checked.{checked}
 use Rattle.telling.specs.declared.AskAnswer.the-variants.{Told}
 use Rattle.loading.specs.Load.{startIn, loadSays}
+use Rattle.capturing.proofs.Outcomes.{capture-length, capture-state}
 use Rattle.stars.proofs.States.{LoadGives, SampleGives, StepGives, CloseGives, LoadRefuses, CloseRefuses, AskGives}
 use Rattle.demand.specs.Called as call
 use Rattle.demand.specs.Called.{Called, GivenBy, SameGiven, Ticked, Watched}
-use Rattle.demand.proofs.Passed.{refused-not-done, refused-leaves}
+use Rattle.demand.proofs.Refused.{refused-not-done, refused-leaves}
 
 -- some buffer of a form's length
 abbrev pub buffer : Form → List ℕ
@@ -31,6 +37,17 @@ buffer φ = replicate (stateLength φ) 7
 
 pub buffer-long : (φ : Form) → length (buffer φ) ≡ stateLength φ
 buffer-long φ = length-replicate {A = ℕ} (stateLength φ) 7
+
+-- no bytes have no form's length, so they are no state
+none-long : (φ : Form) → 0 ≡ stateLength φ → ⊥
+none-long Plain e = omega arith
+
+none-fail : stateOk [] ≡ false
+none-fail = go (stateOk []) refl
+  where
+    go : (b : Bool) → stateOk [] ≡ b → b ≡ false
+    go true ok = absurd (none-long (formIn []) (checked [] ok .long))
+    go false e = refl
 
 -- ---- a load into a state of the rows' form, whatever it held
 load-leaves : (file t after : List ℕ) → length t ≡ stateLength Plain → left (loadSays file (stateLength Plain)) (loadedState Plain (masksInFile file) (startIn file)) t ≡ after
@@ -99,6 +116,14 @@ module _ {masks : List ℕ} {e : Event} {s t : List ℕ} (p : Part masks e s t) 
       let long = buffer-long (formIn t) in
       let x = ap (closeSays t) long in
       record { calls = call.closed (p .calls) second second (Refused why) (record { says = sym (x ∙ r .says); leaves = sym (r .leaves second long) }); given = p .given }
+
+  -- a capture of it with an empty second buffer, and one of an empty state with it as second buffer
+  pub part-capture-refused : (events : List ℕ) → Part masks e s t
+  part-capture-refused events = record { calls = call.capture-refused (p .calls) [] [] events Length (capture-length t [] events (none-long (formIn t))); given = p .given }
+
+  pub part-capture-second-refused : (events : List ℕ) → length t ≡ stateLength (formIn []) → Part masks e s t
+  part-capture-second-refused events long =
+      record { calls = call.capture-second-refused (p .calls) [] [] events State (capture-state [] t events long none-fail); given = p .given }
 
   -- asking
   pub part-asks : (verdict : Verdict) (ticks slots nodes : ℕ) → AskGives t verdict ticks slots nodes → Part masks e s t

@@ -1,9 +1,8 @@
 -- A watch by the calls' promises that ends with false: always a, or always b, over two boards, under both, then a, then none. A slot lives
--- through the first close and vanishes in the second. Loads and closes that are refused stand among the calls (`always-watched`). The first
--- tick is made in two orders, `samples-first` and `slot-first`, which leave the same bytes; by the third demand so does every other order
--- (`any-order`). Ask tells the verdict false (`always-told`), so that the rule is not met
--- whatever comes then (`always-unmet`). The rows of the worked values are all that is computed here but the boards' parts of the events.
--- Assumes nothing.
+-- through the first close and vanishes in the second. Loads, closes and captures that are refused stand among the calls
+-- (`always-watched`). The first tick is made in two orders, `samples-first` and `slot-first`, which leave the same bytes; by the third demand
+-- so does every other order (`any-order`). Ask tells the verdict false (`always-told`), so that the rule is not met whatever comes then
+-- (`always-unmet`). The rows of the worked values are all that is computed here but the boards' parts of the events. Assumes nothing.
 use mathlib.Core.Path.{_≡_, refl, sym, ap, _∙_, subst}
 use mathlib.Core.List.{List, [], _∷_}
 use Prim.Native.Nat.{ℕ}
@@ -18,6 +17,7 @@ use Rattle.ltl.specs.Meaning.{Trace, Satisfies, continued}
 use Rattle.network.specs.Scores.{sampleOf}
 use Rattle.rules.specs.RuleFile.{masksInFile, maskBytes, fileOf}
 use Rattle.state.specs.declared.Form.the-variants.{Plain}
+use Rattle.state.specs.Form.{formOf}
 use Rattle.state.proofs.Forms.{formed-at}
 use Rattle.telling.specs.Ask.{Asks}
 use Rattle.telling.specs.declared.AskAnswer.{AskAnswer}
@@ -29,7 +29,7 @@ use Rattle.stars.proofs.Surviving.{ruleFile, otherVersion, otherHalf, asLaid, h
 use Rattle.demand.specs.Called.{nothing, Ticked, Watched, ticked}
 use Rattle.demand.specs.Claims.{standing}
 use Rattle.demand.proofs.Demand.{demanded}
-use Rattle.demand.proofs.Rows.{load-watches, Part, part-nothing, part-samples, part-steps, part-step-refused, part-load-refused, part-close-refused, part-close-early, part-asks, part-ticks, ticks-give-same}
+use Rattle.demand.proofs.Rows.{load-watches, Part, part-nothing, part-samples, part-steps, part-step-refused, part-load-refused, part-close-refused, part-close-early, part-capture-refused, part-capture-second-refused, part-asks, part-ticks, ticks-give-same}
 
 -- the file's bytes
 abbrev pub alwaysFile : List ℕ
@@ -49,9 +49,10 @@ begun = load-watches ruleFile start (surviving .loads)
 
 -- ---- the first tick, under both, in two orders
 -- board 0 samples, then board 1, then the slots are stepped. In between an empty file is loaded into the state, slot 0 is stepped and the
--- tick closed too early, and the state as it began is closed into this one: all are refused.
+-- tick closed too early, the state as it began is closed into this one, and events are captured with this one as state and an empty second
+-- buffer, and with an empty state and this one as second buffer: all are refused.
 pub samples-first-calls : Part masks 3 start bothLive
-unfolding le leAt listed maskBytes fileOf sampleOf
+unfolding le leAt listed maskBytes fileOf sampleOf formOf
 samples-first-calls =
     let c₁ = part-samples (part-nothing masks 3 start) 0 1 (asLaid 0 (halfSampled 1)) refl (surviving .both-0) in
     let c₂ = part-load-refused c₁ refl [] Length (surviving .no-bytes) in
@@ -60,7 +61,9 @@ samples-first-calls =
     let c₅ = part-steps c₄ 1 (heldLives (sampled 1 2)) (surviving .both-held) in
     let c₆ = part-close-early c₅ Unready (surviving .both-early) in
     let c₇ = part-close-refused c₆ start (formed-at Plain start refl) Unready (surviving .at-once) in
-    part-steps c₇ 0 bothLive (surviving .both-root)
+    let c₈ = part-capture-refused c₇ (3 ∷ []) in
+    let c₉ = part-capture-second-refused c₈ (3 ∷ []) refl in
+    part-steps c₉ 0 bothLive (surviving .both-root)
 
 abbrev pub samples-first : Ticked masks start 3 (asLaid 1 unsampled)
 samples-first = part-ticks samples-first-calls (asLaid 1 unsampled) (surviving .both-closes)

@@ -1,61 +1,94 @@
--- The run program's whole tick, by the promise of `ticking::tick`. Until a verdict, under an event that the boards' masks cover, its calls reach a
--- state where the close is all that is left, and it answers and leaves what the close does (`tick-closes`). Any other event gets 12, and both
--- buffers stay (`tick-outside`). So a tick that was accepted is a tick under its event (`tick-ticks`). Assumes nothing.
+-- A whole tick of a watch by the calls one at a time, until a verdict. Under an event that the masks cover it answers what the close answers
+-- (`tick-closes`); any other event gets 12, and the state stays (`tick-outside`; `given-outside` of every state that passes its check). So
+-- neither 13 nor 9 comes (`watched-order`), and a tick that was accepted is a tick under its event (`course-ticked`). Assumes nothing.
 use mathlib.Core.Path.{_≡_, refl, sym, ap, _∙_}
 use mathlib.Core.Bool.{Bool, true, false}
-use mathlib.Core.List.{List}
+use mathlib.Core.List.{List, []}
 use Prim.Native.Nat.{ℕ}
+use native.Mathlib.Omega.{arith}
 use lib.ListN.{length}
-use Rattle.answers.specs.Said.{saidOutcome}
-use Rattle.answers.specs.declared.Outcome.{Outcome}
-use Rattle.answers.specs.declared.Refusal.the-variants.{Outside}
-use Rattle.answers.specs.declared.Outcome.the-variants.{Refused, Done}
+use borrow.Author.Tests.{eq-eqb}
+use Rattle.answers.specs.Said.{Said, accepted, refused}
 use Rattle.answers.specs.declared.Verdict.the-variants.{Pending}
+use Rattle.answers.proofs.Answers.{order-ok, order-refused}
 use Rattle.ltl.specs.Meaning.{Event}
-use Rattle.masks.specs.Masks.{unionWith}
 use Rattle.rules.specs.RuleFile as rule-file
-use Rattle.state.specs.Fields.{masksIn}
-use Rattle.state.specs.Clauses.{inMask}
-use Rattle.state.specs.Calls.{closeSays, closeLeaves}
-use Rattle.closing.specs.Close.{Closes}
-use Rattle.ticking.specs.Tick.{TicksState}
-use Rattle.ticking.proofs.Determined.{ticks-determined}
-use Rattle.ticking.proofs.Outcomes.{tick-refused, tick-closed}
+use Rattle.state.specs.Fields.{boardsIn, slotsIn, masksIn}
+use Rattle.state.specs.Clauses.{stateOk}
+use Rattle.state.specs.Calls.{closeSays}
+use Rattle.checked.proofs.Checked.{each-of}
+use Rattle.loading.specs.Load.{startIn}
+use Rattle.course.specs.Given.{After, after, follow, sampledFrom, steppedBelow, takenBy, givenUnder}
+use Rattle.course.specs.Ticked.{tickLeaves, tickSays, closedTo}
+use Rattle.course.specs.Order.{noneSampled, tickOrder}
+use Rattle.course.proofs.Following.{follow-refused}
+use Rattle.course.proofs.InOrder as in-order
+use Rattle.watching.proofs.Started.{Started}
+use Rattle.watching.proofs.Ticked.{watch-started}
+use Rattle.watching.proofs.Asking.{pending-unfinished}
+use Rattle.watching.proofs.Demand.{watch-verdict, tick-passes}
 use Rattle.demand.specs.Called.{Ticked, Watched}
-use Rattle.demand.specs.Claims.{standing, Reaches}
-use Rattle.demand.proofs.Allowed.{close-outcome}
-use Rattle.demand.proofs.Passed.{refused-not-done}
-use Rattle.demand.proofs.AllGiven.{give-gets, give-reaches, give-stays}
+use Rattle.demand.specs.Claims.{standing}
+use Rattle.demand.specs.Stopping.{covers, watchOrder}
+use Rattle.demand.proofs.Calls.{called}
+use Rattle.demand.proofs.Watches.{watched}
+use Rattle.demand.proofs.Giving.{give-called}
+use Rattle.demand.proofs.AllGiven.{give-covered, give-reaches}
 
-module _ (file : List ℕ) (us : List Event) (s : List ℕ) (w : Watched file us s) (pending : standing file us s .verdict ≡ Pending) (e : Event) where
+-- an event that the masks do not cover: no call is made
+pub given-outside : (s : List ℕ) (e : Event) → stateOk s ≡ true → covers (masksIn s) e ≡ false → givenUnder s e ≡ after (refused 12) s
+unfolding givenUnder takenBy
+given-outside s e ok out =
+    let taken : takenBy s e ≡ refused 12 = order-ok 9 _ _ _ ok ∙ order-refused 12 _ _ _ out in
+    let boards = follow-refused (after (takenBy s e) s) (sampledFrom (boardsIn s) e 0) (rw taken (omega arith)) ∙ ap (λ (a : Said). after a s) taken in
+    ap (λ (a : After). follow a (steppedBelow (slotsIn s))) boards ∙ follow-refused (after (refused 12) s) (steppedBelow (slotsIn s)) (omega arith)
+
+module _ (file : List ℕ) (us : List Event) (s : List ℕ) (w : Watched file us s) where
   abbrev masks : List ℕ
   masks = rule-file.masksInFile file
 
-  module _ (second t s′ : List ℕ) (answer : Outcome) (x : TicksState s e second t s′ answer) where
-    pub tick-closes : inMask e (unionWith 0 (masksIn s)) ≡ true → Reaches masks s e t × Closes t second s′ answer
-    tick-closes inside =
-        let g = give-gets file us s w pending e inside in
-        let last = g .leaves in
-        let o = close-outcome last (length second) in
-        let closes : Closes last second (closeLeaves last second) (o .0) = record { says = o .1; leaves = refl } in
-        let d = ticks-determined s e second t last s′ (closeLeaves last second) answer (o .0) x (tick-closed s e second last Done (g .allowed) refl (closeLeaves last second) (o .0) closes) in (
-          give-reaches file us s w pending e inside t Done (record { says = g .allowed .says; leaves = d .1 ∙ g .allowed .leaves }),
-          record {
-            says = ap (λ (a : Outcome). saidOutcome a) (d .0) ∙ o .1 ∙ ap (λ (u : List ℕ). closeSays u (length second)) (sym (d .1));
-            leaves = d .2 ∙ ap (λ (u : List ℕ). closeLeaves u second) (sym (d .1));
-          },
-        )
+  abbrev p : ℕ
+  p = rule-file.propositionsInFile file
 
-    pub tick-outside : inMask e (unionWith 0 (masksIn s)) ≡ false → (answer ≡ Refused Outside) × (t ≡ s) × (s′ ≡ second)
-    tick-outside outside =
-        ticks-determined s e second t s s′ second answer (Refused Outside) x
-        (tick-refused s e second s (Refused Outside) (give-stays file us s w pending e outside) Outside refl)
+  start : Started p masks (startIn file) us s
+  start = watch-started p masks (startIn file) (watched w)
 
-  pub tick-ticks : (second t s′ : List ℕ) → TicksState s e second t s′ Done → Ticked masks s e s′
-  tick-ticks second t s′ x = go (inMask e (unionWith 0 (masksIn s))) refl
-    where
-      go : (b : Bool) → inMask e (unionWith 0 (masksIn s)) ≡ b → Ticked masks s e s′
-      go true inside =
-          let r = tick-closes second t s′ Done x inside in
-          record { last = t; calls = r .0 .calls; given = r .0 .given; second = second; closes = r .1 }
-      go false outside = absurd (refused-not-done Outside (sym (tick-outside second t s′ Done x outside .0)))
+  fresh : noneSampled s ≡ true
+  fresh = each-of _ (boardsIn s) (λ b l. eq-eqb _ _ (start .unsampled b l))
+
+  module _ (e : Event) where
+    same-cover : covers (masksIn s) e ≡ covers masks e
+    same-cover = ap (λ (ms : List ℕ). covers ms e) (start .masks-are)
+
+    pub tick-outside : covers masks e ≡ false → (tickSays s e ≡ refused 12) × (tickLeaves s e ≡ s)
+    tick-outside out =
+        let g = given-outside s e (start .passes) (same-cover ∙ out) in
+        (in-order.tick-refused s e 11 (ap (λ (a : After). a .says) g), ap (λ (a : After). a .leaves) g)
+
+    -- of a tick's checks those of 13 and 9 always hold
+    pub order-watched : tickOrder s e ≡ watchOrder masks s e
+    unfolding tickOrder watchOrder
+    order-watched = go (covers masks e) refl
+      where
+        go : (b : Bool) → covers masks e ≡ b → tickOrder s e ≡ watchOrder masks s e
+        go true q =
+            order-ok 12 _ _ _ (same-cover ∙ q) ∙ order-ok 13 _ _ _ fresh ∙ order-ok 9 _ _ _ (tick-passes p masks (startIn file) us s (watched w) (tickLeaves s e) (called (give-called s e)))
+            ∙ sym (order-ok 12 _ _ _ q)
+        go false q = order-refused 12 _ _ _ (same-cover ∙ q) ∙ sym (order-refused 12 _ _ _ q)
+
+    module _ (pending : standing file us s .verdict ≡ Pending) where
+      pub watched-order : tickSays s e ≡ watchOrder masks s e
+      watched-order =
+          in-order.tick-in-order s (start .passes) (pending-unfinished s (watch-verdict p masks (startIn file) us s (watched w) ∙ pending)) e ∙ order-watched
+
+      pub tick-closes : covers masks e ≡ true → tickSays s e ≡ closeSays (tickLeaves s e) (length s)
+      tick-closes inside = in-order.tick-closes s e (give-covered file us s w pending e inside)
+
+      pub course-ticked : tickSays s e ≡ accepted [] → Ticked masks s e (closedTo s e)
+      course-ticked says = go (covers masks e) refl
+        where
+          go : (b : Bool) → covers masks e ≡ b → Ticked masks s e (closedTo s e)
+          go true inside =
+              let r = give-reaches file us s w pending e inside in
+              record { last = tickLeaves s e; calls = r .calls; given = r .given; second = s; closes = record { says = sym says ∙ tick-closes inside; leaves = refl } }
+          go false out = let n = ap (λ (a : Said). a .number) (sym says ∙ tick-outside out .0) in absurd (omega arith)

@@ -23,9 +23,12 @@ use Rattle.taking.specs.Sample.{Samples}
 use Rattle.settling.specs.Step.{StepsSlot}
 use Rattle.closing.specs.Close.{Closes}
 use Rattle.loading.specs.Load.{LoadsRule}
+use Rattle.capturing.specs.declared.CaptureAnswer.the-variants as capture-said
+use Rattle.capturing.specs.Capture.{Captures}
 
 -- any number of calls on one state, with any numbers and buffers, each with any outcome that its promise allows: samples and steps;
--- asking and closing, which only read the state; and each call that was lent the state's buffer for its output and was refused
+-- asking and closing, which only read the state; and each call that was lent the state's buffer to write it and was refused. A refused
+-- capture was lent it as its state or as its second buffer
 pub data Called (s : List ℕ) : List ℕ → Type 0 where
   nothing : Called s s
   sampled : {t t′ : List ℕ} → Called s t → (board bits : ℕ) (answer : Outcome) → Samples t board bits t′ answer → Called s t′
@@ -37,6 +40,8 @@ pub data Called (s : List ℕ) : List ℕ → Type 0 where
   write-refused : {t t′ : List ℕ} → Called s t → (masks : List ℕ) (p : ℕ) (formula : List ℕ) (why : Refusal) → Writes masks p formula t t′ (write-said.Refused why) → Called s t′
   central-refused : {t t′ : List ℕ} → Called s t → (formula : List ℕ) (event : Event) (why : Refusal) → Centrally formula event t t′ (central-said.Refused why) → Called s t′
   read-refused : {t t′ : List ℕ} → Called s t → (file masks masks′ : List ℕ) (why : Refusal) → Reads file masks t masks′ t′ (read-said.Refused why) → Called s t′
+  capture-refused : {t t′ : List ℕ} → Called s t → (second second′ events : List ℕ) (why : Refusal) → Captures t second events t′ second′ (capture-said.Refused why) → Called s t′
+  capture-second-refused : {t t′ : List ℕ} → Called s t → (other other′ events : List ℕ) (why : Refusal) → Captures other t events other′ t′ (capture-said.Refused why) → Called s t′
 
 -- board b was given the bits v: one of these calls was that sample, and it was accepted
 abbrev pub Gave : {s t : List ℕ} → Called s t → ℕ → ℕ → Type 0
@@ -50,6 +55,8 @@ Gave (close-refused c other why p) b v = Gave c b v
 Gave (write-refused c masks q formula why p) b v = Gave c b v
 Gave (central-refused c formula event why p) b v = Gave c b v
 Gave (read-refused c file masks masks′ why p) b v = Gave c b v
+Gave (capture-refused c second second′ events why p) b v = Gave c b v
+Gave (capture-second-refused c other other′ events why p) b v = Gave c b v
 
 -- whatever a board was given was its part of the event: the bits of the event that are in the board's mask
 abbrev pub GivenBy : {s t : List ℕ} → List ℕ → Event → Called s t → Type 0

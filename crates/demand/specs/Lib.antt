@@ -3,3 +3,6 @@ pub mod Called
 pub mod Claims
 pub mod Demanded
 pub mod OnePlace
+pub mod Stopping
+pub mod Singly
+pub mod Capturing

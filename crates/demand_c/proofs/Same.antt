@@ -1,15 +1,19 @@
 -- Whatever an exported function's promise allows, the call's own promise allows, with an outcome of the same number: `sample-same`, `step-same`,
--- `close-same`, `load-same`; of a refusal `load-refusal`, `close-refusal`, `write-refusal`, `central-refusal`, `read-refusal`. Assumes nothing.
+-- `close-same`, `load-same`, of an accepted capture `capture-same`; of a refusal `load-refusal`, `close-refusal`, `write-refusal`, `central-refusal`,
+-- `read-refusal`, `capture-refusal`. Assumes nothing.
 use mathlib.Core.Path.{_≡_, refl, sym, ap, _∙_, subst}
 use mathlib.Core.List.{List}
 use mathlib.Core.Logic.{⊎-elim}
 use Prim.Native.Nat.{ℕ}
+use native.Mathlib.Omega.{arith}
 use lib.ListN.{length}
+use Rattle.lists.specs.Tests.{pick}
 use Rattle.answers.specs.declared.Refusal.{Refusal}
-use Rattle.answers.specs.declared.Refusal.the-variants.{Length, Version, Range, Offset, Masks, Formula, Nodes}
+use Rattle.answers.specs.declared.Refusal.the-variants.{Length, Version, Range, Offset, Masks, Formula, Nodes, State, Finished}
 use Rattle.answers.specs.declared.Outcome.{Outcome}
 use Rattle.answers.specs.declared.Outcome.the-variants.{Refused, Done}
-use Rattle.answers.specs.Said.{Said, refused, numberOf, saidOutcome}
+use Rattle.answers.specs.Said.{Said, refused, numberOf, verdictNumber, saidOutcome}
+use Rattle.answers.proofs.Answers.{number-some}
 use Rattle.ltl.specs.Meaning.{Event}
 use Rattle.loading.specs.Load.{LoadsRule}
 use Rattle.taking.specs.Sample.{Samples}
@@ -21,8 +25,12 @@ use Rattle.rules.specs.Read.{readSays, Reads}
 use Rattle.rules.specs.Write.{writeSays, Writes}
 use Rattle.central.specs.declared.CentralAnswer.the-variants as central-said
 use Rattle.central.specs.Central.{centralSays, Centrally}
-use Rattle.exports.specs.Exported.{ReadExported, WriteExported, CentralExported, LoadExported, SampleExported, StepExported, CloseExported}
+use Rattle.capturing.specs.declared.Captured.{Captured}
+use Rattle.capturing.specs.declared.CaptureAnswer.the-variants as capture-said
+use Rattle.capturing.specs.Capture.{captureSays, Captures}
+use Rattle.exports.specs.Exported.{valueAt, ReadExported, WriteExported, CentralExported, LoadExported, SampleExported, StepExported, CloseExported, CaptureExported}
 use Rattle.demand.proofs.Allowed.{Either, order-either, sample-outcome, step-outcome, close-outcome, load-outcome}
+use Rattle.demand.proofs.Capturing.{CaptureCase, may-run, not-run, capture-case, capture-exists}
 use Rattle.demand_c.specs.FromC.{Refuses}
 
 -- the outcome of a call without values that has this number
@@ -87,3 +95,36 @@ read-refusal {n = n} x refuses =
     let r =
     either-refused _ _ n (order-either _ ((Length, refl), ((Version, refl), ((Range, refl), ((Offset, refl), ((Masks, refl), ((Formula, refl), tt)))))) _) (x .says) refuses in
     (r .0, record { says = r .1; leaves-masks = x .leaves-masks; leaves-formula = x .leaves-formula })
+
+pub capture-refusal : {s second events s′ second′ : List ℕ} {count verdict stop count′ verdict′ stop′ n : ℕ} → CaptureExported s second events s′ second′ count verdict stop count′ verdict′ stop′ n → Refuses n
+    → (why : Refusal) × Captures s second events s′ second′ (capture-said.Refused why)
+unfolding captureSays
+capture-refusal {n = n} x refuses =
+    let r = either-refused _ _ n (order-either _ ((Length, refl), ((State, refl), ((Finished, refl), tt))) _) (x .says) refuses in
+    (r .0, record { says = r .1; leaves = x .leaves; leaves-second = x .leaves-second })
+
+-- ---- an accepted capture, and what it stored behind its pointers
+pub record CaptureSame (s second events s′ second′ : List ℕ) (count verdict stop : ℕ) : Type 0 where
+  pub told : Captured
+  pub captures : Captures s second events s′ second′ (capture-said.Captured told)
+  pub count-is : count ≡ told .closed
+  pub verdict-is : verdict ≡ verdictNumber (told .verdict)
+  pub stop-is : stop ≡ saidOutcome (told .stop) .number
+
+pub capture-same : {s second events s′ second′ : List ℕ} {count verdict stop count′ verdict′ stop′ : ℕ} → CaptureExported s second events s′ second′ count verdict stop count′ verdict′ stop′ 0
+    → CaptureSame s second events s′ second′ count′ verdict′ stop′
+unfolding valueAt pick
+capture-same {s} {second} {events} {s′} {second′} {count} {verdict} {stop} {count′} {verdict′} {stop′} x = go (capture-case s second)
+  where
+    go : CaptureCase s second → CaptureSame s second events s′ second′ count′ verdict′ stop′
+    go (may-run m) =
+        let r = capture-exists m events in
+        let e = sym (r .1 .says) in
+        record {
+          told = r .0;
+          captures = record { says = r .1 .says; leaves = x .leaves; leaves-second = x .leaves-second };
+          count-is = x .gives-closed ∙ ap (λ (a : Said). valueAt a 0 count) e;
+          verdict-is = x .gives-verdict ∙ ap (λ (a : Said). valueAt a 1 verdict) e;
+          stop-is = x .gives-stop ∙ ap (λ (a : Said). valueAt a 2 stop) e;
+        }
+    go (not-run why f) = let n = x .says ∙ ap (λ (a : Said). a .number) (sym (f events .says)) in absurd (omega (arith, number-some why))

@@ -14,8 +14,8 @@ use Rattle.loading.specs.Load.{LoadsRule}
 use Rattle.closing.specs.Close.{Closes}
 use Rattle.demand.specs.Called as call
 use Rattle.demand.specs.Called.{Called, Gave, Ticked, Watched}
-use Rattle.demand_c.specs.FromC.{CalledFromC, nothing, sampled, stepped, asked, closed, load-refused, close-refused, write-refused, central-refused, read-refused, GaveFromC, TickedFromC, WatchedFromC, begun, ticked}
-use Rattle.demand_c.proofs.Same.{sample-same, step-same, close-same, load-same, load-refusal, close-refusal, write-refusal, central-refusal, read-refusal}
+use Rattle.demand_c.specs.FromC.{CalledFromC, nothing, sampled, stepped, asked, closed, load-refused, close-refused, write-refused, central-refused, read-refused, capture-refused, capture-second-refused, GaveFromC, TickedFromC, WatchedFromC, begun, ticked}
+use Rattle.demand_c.proofs.Same.{sample-same, step-same, close-same, load-same, load-refusal, close-refusal, write-refusal, central-refusal, read-refusal, capture-refusal}
 
 -- asking changes nothing, so it may be left out
 abbrev pub from-c : {s t : List ℕ} → CalledFromC s t → Called s t
@@ -31,6 +31,12 @@ from-c (central-refused c formula event verdict nodes verdict′ nodes′ n refu
 from-c (read-refused c file masks masks′ boards propositions nodes boards′ propositions′ nodes′ n refuses p) =
     let r = read-refusal p refuses in
     call.read-refused (from-c c) file masks masks′ (r .0) (r .1)
+from-c (capture-refused c second second′ events count verdict stop count′ verdict′ stop′ n refuses p) =
+    let r = capture-refusal p refuses in
+    call.capture-refused (from-c c) second second′ events (r .0) (r .1)
+from-c (capture-second-refused c other other′ events count verdict stop count′ verdict′ stop′ n refuses p) =
+    let r = capture-refusal p refuses in
+    call.capture-second-refused (from-c c) other other′ events (r .0) (r .1)
 
 pub gave-from-c : {s t : List ℕ} (c : CalledFromC s t) (b v : ℕ) → Gave (from-c c) b v → GaveFromC c b v
 gave-from-c nothing b v g = g
@@ -44,6 +50,8 @@ gave-from-c (close-refused c other n refuses p) b v g = gave-from-c c b v g
 gave-from-c (write-refused c masks q formula written written′ n refuses p) b v g = gave-from-c c b v g
 gave-from-c (central-refused c formula event verdict nodes verdict′ nodes′ n refuses p) b v g = gave-from-c c b v g
 gave-from-c (read-refused c file masks masks′ boards propositions nodes boards′ propositions′ nodes′ n refuses p) b v g = gave-from-c c b v g
+gave-from-c (capture-refused c second second′ events count verdict stop count′ verdict′ stop′ n refuses p) b v g = gave-from-c c b v g
+gave-from-c (capture-second-refused c other other′ events count verdict stop count′ verdict′ stop′ n refuses p) b v g = gave-from-c c b v g
 
 -- a call that answers 0 is done
 pub zero-done : (answer : Outcome) → 0 ≡ saidOutcome answer .number → answer ≡ Done

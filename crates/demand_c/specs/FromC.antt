@@ -7,14 +7,15 @@ use Prim.Native.Nat.{ℕ}
 use Rattle.ltl.specs.Meaning.{Event}
 use Rattle.network.specs.Scores.{sampleOf}
 use Rattle.rules.specs.RuleFile.{masksInFile}
-use Rattle.exports.specs.Exported.{ReadExported, WriteExported, CentralExported, LoadExported, SampleExported, StepExported, CloseExported, AskExported}
+use Rattle.exports.specs.Exported.{ReadExported, WriteExported, CentralExported, LoadExported, SampleExported, StepExported, CloseExported, AskExported, CaptureExported}
 
 -- the number is a refusal's
 abbrev pub Refuses : ℕ → Type 0
 Refuses n = n ≡ 0 → ⊥
 
 -- any number of calls on one state, with any numbers and buffers, and whatever stood behind the pointers to single numbers: samples and
--- steps; asking and closing, which only read the state; and each call that was lent the state's buffer for its output and was refused
+-- steps; asking and closing, which only read the state; and each call that was lent the state's buffer to write it and was refused. A refused
+-- capture was lent it as its state or as its second buffer
 pub data CalledFromC (s : List ℕ) : List ℕ → Type 0 where
   nothing : CalledFromC s s
   sampled : {t t′ : List ℕ} → CalledFromC s t → (board bits n : ℕ) → SampleExported t board bits t′ n → CalledFromC s t′
@@ -26,6 +27,8 @@ pub data CalledFromC (s : List ℕ) : List ℕ → Type 0 where
   write-refused : {t t′ : List ℕ} → CalledFromC s t → (masks : List ℕ) (p : ℕ) (formula : List ℕ) (written written′ n : ℕ) → Refuses n → WriteExported masks p formula t t′ written written′ n → CalledFromC s t′
   central-refused : {t t′ : List ℕ} → CalledFromC s t → (formula : List ℕ) (event verdict nodes verdict′ nodes′ n : ℕ) → Refuses n → CentralExported formula event t t′ verdict nodes verdict′ nodes′ n → CalledFromC s t′
   read-refused : {t t′ : List ℕ} → CalledFromC s t → (file masks masks′ : List ℕ) (boards propositions nodes boards′ propositions′ nodes′ n : ℕ) → Refuses n → ReadExported file masks t masks′ t′ boards propositions nodes boards′ propositions′ nodes′ n → CalledFromC s t′
+  capture-refused : {t t′ : List ℕ} → CalledFromC s t → (second second′ events : List ℕ) (count verdict stop count′ verdict′ stop′ n : ℕ) → Refuses n → CaptureExported t second events t′ second′ count verdict stop count′ verdict′ stop′ n → CalledFromC s t′
+  capture-second-refused : {t t′ : List ℕ} → CalledFromC s t → (other other′ events : List ℕ) (count verdict stop count′ verdict′ stop′ n : ℕ) → Refuses n → CaptureExported other t events other′ t′ count verdict stop count′ verdict′ stop′ n → CalledFromC s t′
 
 -- board b was given the bits v: one of these calls was that sample, and it answered 0
 abbrev pub GaveFromC : {s t : List ℕ} → CalledFromC s t → ℕ → ℕ → Type 0
@@ -39,6 +42,8 @@ GaveFromC (close-refused c other n r p) b v = GaveFromC c b v
 GaveFromC (write-refused c masks q formula written written′ n r p) b v = GaveFromC c b v
 GaveFromC (central-refused c formula event verdict nodes verdict′ nodes′ n r p) b v = GaveFromC c b v
 GaveFromC (read-refused c file masks masks′ boards propositions nodes boards′ propositions′ nodes′ n r p) b v = GaveFromC c b v
+GaveFromC (capture-refused c second second′ events count verdict stop count′ verdict′ stop′ n r p) b v = GaveFromC c b v
+GaveFromC (capture-second-refused c other other′ events count verdict stop count′ verdict′ stop′ n r p) b v = GaveFromC c b v
 
 -- whatever a board was given was its part of the event
 abbrev pub GivenByC : {s t : List ℕ} → List ℕ → Event → CalledFromC s t → Type 0
