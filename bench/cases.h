@@ -6,13 +6,14 @@
 #include <stddef.h>
 #include <stdint.h>
 
-enum call { READ, WRITE, CENTRAL, LOAD, SAMPLE, STEP, CLOSE, ASK, TICK };
+enum call { READ, WRITE, CENTRAL, LOAD, SAMPLE, STEP, CLOSE, ASK, TICK, CAPTURE, CAPTURE_OF_TICK };
 
-enum { MOST_MASKS = 16, MOST_TICKS = 8, MOST_FORMULA = 4096, STATE_BYTES = 4768, MOST_BYTES = STATE_BYTES };
+enum { MOST_MASKS = 16, MOST_TICKS = 64, MOST_FORMULA = 4096, STATE_BYTES = 4768, MOST_BYTES = STATE_BYTES };
 
 // One call's input: the file of read and load, the masks, number of propositions and formula of write, the formula and event of
-// central, the state of sample, step, close and ask. TICK is whole ticks from a state on: all samples, all steps, the highest
-// slot first, a close into the second buffer, and the buffers change places.
+// central, the state of sample, step, close and ask. The last three go through a rule's events from its load on. TICK is whole ticks:
+// all samples, all steps, the highest slot first, a close into the second buffer, and the buffers change places. CAPTURE is the same
+// by one call, and CAPTURE_OF_TICK the library's capture beside the plain version's ticks.
 struct input {
     const char *name;
     enum call call;

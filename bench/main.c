@@ -1,55 +1,28 @@
 // Times the library's calls beside the plain C version, in one process and on the same inputs, and prints a line for each case:
-// nanoseconds a call, or a whole tick, for both, and how many times the plain version's time the library takes.
-// Rounds of the two sides alternate and the best round counts. Before that both must give equal answers and equal bytes.
-
-#define _POSIX_C_SOURCE 199309L
+// nanoseconds a call, a whole tick, or an event of a capture, for both, and how many times the plain version's time the library
+// takes. Rounds of the two sides alternate and the best round counts. Before that both must give equal answers and equal bytes.
 
 #include "cases.h"
-#include "../include/vydrulka.h"
+#include "clock.h"
+#include "million.h"
 #include "plain.h"
+#include "sides.h"
 
 #include <stdio.h>
 #include <string.h>
-#include <time.h>
 
 enum { ROUNDS = 25 };
 static const double ROUND = 1e6; // nanoseconds, at least
 
-struct side {
-    uint32_t (*read)(const uint8_t *, size_t, uint64_t *, size_t, uint8_t *, size_t, uint64_t *, uint64_t *, uint64_t *);
-    uint32_t (*write)(const uint64_t *, size_t, uint64_t, const uint8_t *, size_t, uint8_t *, size_t, uint64_t *);
-    uint32_t (*central)(const uint8_t *, size_t, uint64_t, uint8_t *, size_t, uint32_t *, uint64_t *);
-    uint32_t (*load)(const uint8_t *, size_t, uint8_t *, size_t);
-    uint32_t (*sample)(uint8_t *, size_t, uint64_t, uint64_t);
-    uint32_t (*step)(uint8_t *, size_t, uint64_t);
-    uint32_t (*close)(const uint8_t *, size_t, uint8_t *, size_t);
-    uint32_t (*ask)(const uint8_t *, size_t, uint32_t *, uint32_t *, uint64_t *, uint64_t *);
-};
-
-static const struct side library = {vydrulka_read, vydrulka_write, vydrulka_central, vydrulka_load,
-                                    vydrulka_sample, vydrulka_step, vydrulka_close, vydrulka_ask};
-static const struct side plain = {plain_read, plain_write, plain_central, plain_load, plain_sample, plain_step, plain_close, plain_ask};
-
 // What a call answered and all that it was lent.
 struct outcome {
     uint32_t number;
-    uint32_t verdict, ticks;
+    uint32_t verdict, ticks, stop;
     uint64_t values[3];
     uint64_t masks[MOST_MASKS];
     uint8_t bytes[MOST_BYTES];
     uint8_t second[MOST_BYTES];
 };
-
-// The number of the first refusal in a tick, which leaves its network in the second buffer.
-static uint32_t tick(const struct side *side, const struct input *in, uint64_t event, uint8_t *state, uint8_t *second)
-{
-    uint32_t number = 0;
-    for (size_t i = 0; i < in->masks_count && number == 0; i++)
-        number = side->sample(state, STATE_BYTES, i, event & in->masks[i]);
-    for (size_t i = state[2]; i-- > 0 && number == 0;) // the state says how many slots it has
-        number = side->step(state, STATE_BYTES, i);
-    return number == 0 ? side->close(state, STATE_BYTES, second, STATE_BYTES) : number;
-}
 
 static uint32_t run_ticks(const struct side *side, const struct input *in, uint8_t *state, uint8_t *second)
 {
@@ -62,6 +35,25 @@ static uint32_t run_ticks(const struct side *side, const struct input *in, uint8
         second = other;
     }
     return number;
+}
+
+static uint32_t run_capture(const struct side *side, const struct input *in, struct outcome *out)
+{
+    memcpy(out->bytes, in->bytes, STATE_BYTES);
+    return side->capture(out->bytes, STATE_BYTES, out->second, STATE_BYTES, in->events, in->ticks, &out->values[0], &out->verdict,
+                         &out->stop);
+}
+
+// Turns what ticks leave, the last state in one buffer or the other, into what a capture of them leaves.
+static void as_captured(const struct input *in, struct outcome *out)
+{
+    uint32_t ticks;
+    uint64_t slots, nodes;
+    if (in->ticks % 2 == 1)
+        memcpy(out->bytes, out->second, STATE_BYTES);
+    memset(out->second, 0, STATE_BYTES);
+    out->values[0] = in->ticks;
+    out->stop = plain_ask(out->bytes, STATE_BYTES, &out->verdict, &ticks, &slots, &nodes);
 }
 
 // Puts back what the last call of sample or step wrote.
@@ -103,6 +95,12 @@ static void call(const struct side *side, const struct input *in, struct outcome
     case TICK:
         out->number = run_ticks(side, in, out->bytes, out->second);
         break;
+    case CAPTURE:
+        out->number = run_capture(side, in, out);
+        break;
+    case CAPTURE_OF_TICK:
+        out->number = side == &library ? run_capture(side, in, out) : run_ticks(side, in, out->bytes, out->second);
+        break;
     }
 }
 
@@ -113,6 +111,8 @@ static void call_fresh(const struct side *side, const struct input *in, struct o
     if (in->call == SAMPLE || in->call == STEP)
         memcpy(out->bytes, in->bytes, STATE_BYTES);
     call(side, in, out);
+    if (in->call == CAPTURE_OF_TICK && side == &plain)
+        as_captured(in, out);
 }
 
 static int agree(const struct input *in, struct outcome *ours, struct outcome *theirs)
@@ -125,22 +125,15 @@ static int agree(const struct input *in, struct outcome *ours, struct outcome *t
 // Nanoseconds for so many calls.
 static double timed(const struct side *side, const struct input *in, struct outcome *out, long turns)
 {
-    struct timespec begin, end;
-    clock_gettime(CLOCK_MONOTONIC, &begin);
+    double begin = now();
     for (long i = 0; i < turns; i++)
         call(side, in, out);
-    clock_gettime(CLOCK_MONOTONIC, &end);
-    return 1e9 * (double)(end.tv_sec - begin.tv_sec) + (double)(end.tv_nsec - begin.tv_nsec);
-}
-
-static double least(double a, double b)
-{
-    return a < b ? a : b;
+    return now() - begin;
 }
 
 struct times {
     const char *name;
-    double ours, theirs; // nanoseconds a call, or a tick
+    double ours, theirs; // nanoseconds a call, a tick, or an event
 };
 
 // How often a side is called in one round.
@@ -160,7 +153,7 @@ static struct times measured(const struct input *in, struct outcome *out)
         ours = least(ours, timed(&library, in, out, our_turns));
         theirs = least(theirs, timed(&plain, in, out, their_turns));
     }
-    double ticks = (double)(in->call == TICK ? in->ticks : 1);
+    double ticks = (double)(in->call >= TICK ? in->ticks : 1);
     return (struct times){in->name, ours / (double)our_turns / ticks, theirs / (double)their_turns / ticks};
 }
 
@@ -168,7 +161,7 @@ static struct times measured(const struct input *in, struct outcome *out)
 static void print_times(const struct times *all, size_t which, const char *typical)
 {
     const struct times *t = &all[which];
-    printf("%-48s %10.0f %10.0f %7.2f", t->name, t->ours, t->theirs, t->ours / t->theirs);
+    printf("%-52s %10.0f %10.0f %7.2f", t->name, t->ours, t->theirs, t->ours / t->theirs);
     for (size_t i = 0; typical != NULL && i < which; i++)
         if (strcmp(all[i].name, typical) == 0)
             printf("   %.0f and %.0f times \"%s\"", t->ours / all[i].ours, t->theirs / all[i].theirs, typical);
@@ -181,7 +174,7 @@ int main(void)
     static struct input in;
     static struct outcome ours, theirs;
     static struct times times[MOST_CASES];
-    printf("%-48s %10s %10s %7s\n", "case", "library ns", "plain C ns", "ratio");
+    printf("%-52s %10s %10s %7s\n", "case", "library ns", "plain C ns", "ratio");
     for (size_t i = 0; i < input_count; i++) {
         make_input(i, &in);
         if (!agree(&in, &ours, &theirs)) {
@@ -192,5 +185,5 @@ int main(void)
         times[i] = measured(&in, &ours);
         print_times(times, i, in.typical);
     }
-    return 0;
+    return time_million();
 }

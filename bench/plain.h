@@ -27,4 +27,7 @@ uint32_t plain_close(const uint8_t *state, size_t state_len, uint8_t *second, si
 
 uint32_t plain_ask(const uint8_t *state, size_t state_len, uint32_t *verdict, uint32_t *ticks, uint64_t *slots, uint64_t *nodes);
 
+uint32_t plain_capture(uint8_t *state, size_t state_len, uint8_t *second, size_t second_len, const uint64_t *events,
+                       size_t events_len, uint64_t *closed, uint32_t *verdict, uint32_t *stop);
+
 #endif

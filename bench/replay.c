@@ -6,8 +6,8 @@
 #include <stdio.h>
 #include <string.h>
 
-enum { READ = 1, WRITE, CENTRAL, LOAD, SAMPLE, STEP, CLOSE, ASK, POKE };
-enum { MOST_FILE = 4096, MOST_MASKS = 32, MOST_BYTES = 8192 };
+enum { READ = 1, WRITE, CENTRAL, LOAD, SAMPLE, STEP, CLOSE, ASK, POKE, CAPTURE };
+enum { MOST_FILE = 4096, MOST_MASKS = 32, MOST_EVENTS = 256, MOST_BYTES = 8192 };
 
 struct request {
     uint32_t call, a, b, c;
@@ -15,7 +15,7 @@ struct request {
 };
 
 static uint8_t given[MOST_BYTES], lent[MOST_BYTES], kept[MOST_BYTES];
-static uint64_t masks[MOST_MASKS];
+static uint64_t masks[MOST_MASKS], events[MOST_EVENTS];
 
 static uint64_t little_endian(const uint8_t *bytes, int count)
 {
@@ -63,6 +63,17 @@ static int take(void *bytes, size_t count)
     return fread(bytes, 1, count, stdin) == count;
 }
 
+static int take_numbers(uint64_t *numbers, size_t count)
+{
+    uint8_t number[8];
+    for (size_t i = 0; i < count; i++) {
+        if (!take(number, 8))
+            return 0;
+        numbers[i] = little_endian(number, 8);
+    }
+    return 1;
+}
+
 static int answer_read(struct request r)
 {
     uint64_t boards, propositions, nodes;
@@ -82,15 +93,7 @@ static int answer_read(struct request r)
 static int answer_write(struct request r)
 {
     uint64_t length;
-    uint8_t mask[8];
-    if (r.a > MOST_MASKS || r.b > MOST_BYTES || r.c > MOST_BYTES)
-        return 0;
-    for (uint32_t i = 0; i < r.a; i++) {
-        if (!take(mask, 8))
-            return 0;
-        masks[i] = little_endian(mask, 8);
-    }
-    if (!take(given, r.b))
+    if (r.a > MOST_MASKS || r.b > MOST_BYTES || r.c > MOST_BYTES || !take_numbers(masks, r.a) || !take(given, r.b))
         return 0;
     fill_lent(r.c);
     uint32_t number = plain_write(masks, r.a, r.v, given, r.b, lent, r.c, &length);
@@ -189,6 +192,22 @@ static int answer_poke(struct request r)
     return 1;
 }
 
+static int answer_capture(struct request r)
+{
+    uint64_t closed;
+    uint32_t verdict, stop;
+    if (r.a > MOST_EVENTS || r.b > MOST_BYTES || r.c > MOST_BYTES || !take_numbers(events, r.a))
+        return 0;
+    fill_lent(r.c);
+    uint32_t number = plain_capture(kept, r.b, lent, r.c, events, r.a, &closed, &verdict, &stop);
+    printf("%" PRIu32, number);
+    if (number == 0)
+        printf(" %" PRIu64 " %" PRIu32 " %" PRIu32, closed, verdict, stop);
+    print_bytes(kept, r.b);
+    print_bytes(lent, r.c);
+    return 1;
+}
+
 static int answer(const uint8_t *header)
 {
     struct request r = {(uint32_t)little_endian(header, 4), (uint32_t)little_endian(header + 4, 4),
@@ -212,6 +231,8 @@ static int answer(const uint8_t *header)
         return answer_ask(r);
     case POKE:
         return answer_poke(r);
+    case CAPTURE:
+        return answer_capture(r);
     default:
         return 0;
     }

@@ -35,12 +35,12 @@ static void responses(struct input *input, size_t boards, size_t ticks)
     }
     input->ticks = ticks;
     for (size_t i = 1; i < ticks; i += 2)
-        input->events[i] = UINT64_MAX;
+        input->events[i] = UINT64_MAX >> (64 - input->number);
 }
 
 void responses_over_four(struct input *input)
 {
-    responses(input, 4, MOST_TICKS);
+    responses(input, 4, 8);
 }
 
 void responses_over_sixteen(struct input *input)
@@ -66,7 +66,7 @@ void thousand_nodes(struct input *input)
         random_formula(input, NODES, first, EACH);
         put_all(input, (const uint8_t[]){EVENTUALLY, (uint8_t)(PROPOSITION + first + below(EACH))}, 2);
     }
-    input->ticks = MOST_TICKS;
+    input->ticks = 8;
     for (size_t i = 0; i < input->ticks; i++)
         input->events[i] = (uint64_t)below((size_t)1 << 32) << 32 | below((size_t)1 << 32);
 }
@@ -84,6 +84,17 @@ void ors_over_two(struct input *input)
     input->masks[1] = 2;
     input->ticks = 1; // it has its verdict then
     input->events[0] = 2;
+}
+
+// Always, a or eventually b, with b in every second tick. With b on the first board the network never has more than two slots.
+void response_over_two(struct input *input)
+{
+    put_all(input, (const uint8_t[]){ALWAYS, OR, PROPOSITION, EVENTUALLY, PROPOSITION + 1}, 5);
+    input->masks_count = input->number = 2;
+    input->masks[0] = 2;
+    input->masks[1] = 1;
+    input->ticks = 2;
+    input->events[1] = 2;
 }
 
 // ---- Files and states
@@ -149,7 +160,7 @@ static void note_touched(struct input *input)
 void finish_watch(struct input *input)
 {
     static uint8_t state[STATE_BYTES];
-    size_t before = input->call == TICK ? 0 : input->ticks / 2;
+    size_t before = input->call >= TICK ? 0 : input->ticks / 2;
     uint64_t event = input->events[before];
     if (input->call == LOAD) {
         make_file(input);

@@ -2,12 +2,16 @@
 //   generate SEED COUNT        writes the stream of COUNT requests
 //   generate SEED COUNT list   writes a line for each of them instead: its call, its offset in the stream, its length, its case
 //   generate SEED COUNT inputs ROOM   writes COUNT inputs of the run program into files ROOM/1, ROOM/2, .. and a line with the case of each
-// The worked values, the rules at the borders and the smallest formulas with constants come first; then the cases below, for the
-// calls without a state, and the episodes on the kept state take turns, so that a stream of some hundreds more meets each of them
-// often.
+// The worked values, examples of captures, the rules at the borders and the smallest formulas with constants come first; then the
+// cases below, for the calls without a state, and the episodes on the kept state take turns, so that a stream of some hundreds more
+// meets each of them often.
 
 #[path = "generate/borders.rs"]
 mod borders;
+#[path = "generate/capture_stops.rs"]
+mod capture_stops;
+#[path = "generate/captures.rs"]
+mod captures;
 #[path = "generate/central.rs"]
 mod central;
 #[path = "generate/closes.rs"]
@@ -16,6 +20,8 @@ mod closes;
 mod constants;
 #[path = "generate/episodes.rs"]
 mod episodes;
+#[path = "generate/events.rs"]
+mod events;
 #[path = "generate/files.rs"]
 mod files;
 #[path = "generate/folded_rules.rs"]
@@ -55,6 +61,8 @@ mod spots;
 mod watches;
 #[path = "generate/worked.rs"]
 mod worked;
+#[path = "generate/worked_captures.rs"]
+mod worked_captures;
 #[path = "generate/worked_watches.rs"]
 mod worked_watches;
 #[path = "generate/write.rs"]
@@ -127,6 +135,7 @@ fn opening(script: &mut Script) -> Vec<Made> {
     let borders = borders::borders().into_iter().map(|(call, request)| (call, "border", request));
     let folded = folding::each_small().into_iter().map(|request| ("central", "folding: small", request));
     worked_watches::watched(script);
+    worked_captures::captured(script);
     borders::loaded(script);
     folded_rules::loaded(script);
     worked.chain(borders).chain(folded).chain(std::iter::from_fn(|| script.take())).collect()

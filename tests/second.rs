@@ -2,7 +2,7 @@
 //   second        answers the requests of PROTOCOL.md from standard input, one line each
 //   second run    does what 01 says of the run program
 // tests/compare holds the Rattle program `replay` to it, tests/watches the Rattle program `run`, and tests/store keeps its answers.
-// `rustc --test` runs it on 01's worked values, on random watches, and on formulas with constants.
+// `rustc --test` runs it on 01's worked values, on random watches and captures, and on formulas with constants.
 
 #[path = "second/model.rs"]
 mod model;
@@ -11,6 +11,9 @@ mod replay;
 #[path = "second/run.rs"]
 mod run;
 
+#[cfg(test)]
+#[path = "second/captured.rs"]
+mod captured;
 #[cfg(test)]
 #[path = "second/constants.rs"]
 mod constants;
@@ -21,6 +24,9 @@ mod folded;
 #[allow(dead_code)] // the tests take small formulas from the generator's many
 #[path = "generate/formulas.rs"]
 mod formulas;
+#[cfg(test)]
+#[path = "generate/handed.rs"]
+mod handed;
 #[cfg(test)]
 #[path = "second/invariants.rs"]
 mod invariants;
@@ -34,6 +40,12 @@ mod random;
 #[cfg(test)]
 #[path = "second/readings.rs"]
 mod readings;
+#[cfg(test)]
+#[path = "generate/spots.rs"]
+mod spots;
+#[cfg(test)]
+#[path = "second/stops.rs"]
+mod stops;
 #[cfg(test)]
 #[path = "second/trying.rs"]
 mod trying;

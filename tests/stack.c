@@ -14,11 +14,14 @@
 #include <string.h>
 #include <sys/mman.h>
 
-// What the calls are given. A call that writes the state is given `second`, so that `state` stays for the next one.
+// What the calls are given. A call that writes the state is given `second`, so that `state` stays for the next one; capture's own
+// second buffer is `third`.
+enum { EVENTS = 4 };
 static struct formula formula;
-static uint64_t event, slot;
+static uint64_t event, slot, events[EVENTS];
 static size_t file_length;
-static uint8_t file[VYDRULKA_FILE_MOST], state[VYDRULKA_STATE_LENGTH], second[VYDRULKA_STATE_LENGTH];
+static uint8_t file[VYDRULKA_FILE_MOST];
+static uint8_t state[VYDRULKA_STATE_LENGTH], second[VYDRULKA_STATE_LENGTH], third[VYDRULKA_STATE_LENGTH];
 
 // What the other outputs are; nobody looks at them.
 static uint64_t read_masks[VYDRULKA_BOARDS_MOST], numbers[3];
@@ -66,8 +69,12 @@ static void make_ask(void)
     answer = vydrulka_ask(state, sizeof state, &words[0], &words[1], &numbers[0], &numbers[1]);
 }
 
+static void make_capture(void)
+{
+    answer = vydrulka_capture(second, sizeof second, third, sizeof third, events, EVENTS, &numbers[0], &words[0], &words[1]);
+}
 
-enum call { READ, WRITE, CENTRAL, LOAD, SAMPLE, STEP, CLOSE, ASK, CALLS };
+enum call { READ, WRITE, CENTRAL, LOAD, SAMPLE, STEP, CLOSE, ASK, CAPTURE, CALLS };
 
 static const struct {
     const char *name;
@@ -82,6 +89,7 @@ static const struct {
     [STEP] = {"step", make_step, VYDRULKA_STACK_STEP},
     [CLOSE] = {"close", make_close, VYDRULKA_STACK_CLOSE},
     [ASK] = {"ask", make_ask, VYDRULKA_STACK_ASK},
+    [CAPTURE] = {"capture", make_capture, VYDRULKA_STACK_CAPTURE},
 };
 
 // What is done with a call: it is measured, or made on a small stack.
@@ -202,9 +210,22 @@ static void take_file(void)
     take(LOAD);
 }
 
+enum { SAMPLE_0 = 16 + 8, SAMPLED_0 = 16 + 16, SAMPLED_1 = SAMPLED_0 + 17 };
+
+// Captures the same event over and over, from the start of a tick on: nothing, or both propositions.
+static void take_captures(size_t slots)
+{
+    for (event = 0; event < 4; event += 3) {
+        state_of(second, &formula, 0, slots);
+        second[SAMPLED_0] = second[SAMPLED_1] = 0;
+        for (size_t i = 0; i < EVENTS; i++)
+            events[i] = event;
+        take(CAPTURE);
+    }
+}
+
 static void take_states(size_t slots)
 {
-    enum { SAMPLED_0 = 16 + 16, SAMPLE_0 = 16 + 8 };
     state_of(state, &formula, 1, slots);
     take(CLOSE);
     take(ASK);
@@ -218,6 +239,15 @@ static void take_states(size_t slots)
     second[SAMPLED_0] = 0;
     slot = 0;
     take(SAMPLE);
+    take_captures(slots);
+}
+
+// Puts the formula, which leaves room for it, below next: its step leaves what a close is given.
+static void take_capture_later(void)
+{
+    memmove(formula.bytes + 1, formula.bytes, formula.nodes++);
+    formula.bytes[0] = VYDRULKA_NODE_NEXT;
+    take_captures(1);
 }
 
 static void name_shape(const struct pattern *pattern, size_t slots)
@@ -237,6 +267,9 @@ static void take_nest(const struct pattern *pattern, size_t most, int filled)
     name_shape(pattern, 1);
     take_central();
     take_states(1);
+    nest(&formula, pattern, most - 1, filled);
+    name_shape(pattern, 1);
+    take_capture_later();
     nest(&formula, pattern, most / 4, filled);
     name_shape(pattern, 1);
     take_file();
@@ -270,6 +303,16 @@ static void take_pairs(size_t least)
                 take_sizes(&(struct pattern){2, 0, {first, next}}, least);
 }
 
+// A capture of the rule file, over a few events.
+static void take_run(struct chance *chance)
+{
+    make_load();
+    for (size_t i = 0; i < EVENTS; i++)
+        events[i] = below(chance, 4);
+    if (answer == 0)
+        take(CAPTURE);
+}
+
 // A watch of the rule file, for a few ticks.
 static void take_watch(struct chance *chance)
 {
@@ -296,8 +339,11 @@ static void take_chances(struct chance *chance, size_t count)
         any[i % 2](&formula, chance, VYDRULKA_NODES_MOST);
         take_central();
         take_states(1);
+        any[i % 2](&formula, chance, VYDRULKA_NODES_MOST - 1);
+        take_capture_later();
         any[i % 2](&formula, chance, 8 + below(chance, VYDRULKA_RULE_NODES_MOST - 8));
         take_file();
+        take_run(chance);
         take_watch(chance);
     }
 }

@@ -1,11 +1,12 @@
 // The cases on the kept state, by kind, and how the kinds take turns. An episode makes as many requests as it needs.
 
 use crate::files::{self, Handed};
+use crate::model::state::Network;
 use crate::random::Random;
 use crate::rules::{self, Rule};
 use crate::script::{Made, Script};
 use crate::spoilt::SPOILS;
-use crate::{closes, folded_rules, handed, moments, patterns, spoilt, watches};
+use crate::{capture_stops, captures, closes, folded_rules, handed, moments, patterns, spoilt, watches};
 
 type Episode = Box<dyn Fn(&mut Script, &mut Random, bool)>;
 
@@ -165,14 +166,65 @@ fn strange_states() -> Kind {
     Kind::new(4, vec![("handed state", handed), ("flipped state", flipped), ("saved state", saved)])
 }
 
+fn captured(pattern: fn(&mut Random, bool) -> Rule) -> Episode {
+    Box::new(move |script, random, large| {
+        let rule = pattern(random, large);
+        captures::of_rule(script, random, &rule);
+    })
+}
+
+fn captured_state(make: fn(&mut Random, bool) -> Network) -> Episode {
+    Box::new(move |script, random, large| {
+        let network = make(random, large);
+        captures::of_network(script, random, &network);
+    })
+}
+
+fn runs_of_events() -> Kind {
+    let saved: Episode = Box::new(|script, random, large| {
+        let rule = folded_rules::any(random, large);
+        let calls = random.below(30);
+        if let Some(network) = moments::saved(random, &rule, calls) {
+            captures::of_network(script, random, &network);
+        }
+    });
+    let episodes: Vec<(&'static str, Episode)> = vec![
+        ("capture: small", captured(patterns::small)),
+        ("capture: verdict", Box::new(capture_stops::verdict)),
+        ("capture: lone foreign proposition", Box::new(capture_stops::foreign)),
+        ("capture: responses", captured(patterns::responses)),
+        ("capture: last ticks", Box::new(capture_stops::last_ticks)),
+        ("capture: handed state", captured_state(handed::between_ticks)),
+        ("capture: slots", Box::new(capture_stops::slots)),
+        ("capture: outside the masks", Box::new(captures::outside)),
+        ("capture: until", captured(patterns::until)),
+        ("capture: in a tick", captured_state(|random, _| moments::moment(random))),
+        ("capture: nodes", Box::new(capture_stops::nodes)),
+        ("capture: folding", captured(folded_rules::around_any)),
+        ("capture: handed state in a tick", captured_state(handed::handed)),
+        ("capture: verdict", Box::new(capture_stops::verdict)),
+        ("capture: alternatives", captured(patterns::alternatives)),
+        ("capture: saved state", saved),
+        ("capture: wide", captured(patterns::wide)),
+        ("capture: lone foreign proposition", Box::new(capture_stops::foreign)),
+        ("capture: responses", captured(patterns::responses)),
+        ("capture: nodes", Box::new(capture_stops::nodes)),
+        ("capture: long", Box::new(captures::long)),
+        ("capture: last ticks", Box::new(capture_stops::last_ticks)),
+        ("capture: later", captured(|random, large| patterns::later(patterns::chain(random, large)))),
+    ];
+    Kind::new(5, episodes)
+}
+
 // The kinds by their places in Episodes.
 const LOAD: usize = 0;
 const WATCH: usize = 1;
 const SPOILT: usize = 2;
 const CLOSE: usize = 3;
 const STRANGE: usize = 4;
+const CAPTURE: usize = 5;
 
-// How they take turns: a load makes one request, a watch many.
+// How they take turns, with runs of events between them: a load makes one request, a watch many.
 const TURNS: &[usize] = &[
     SPOILT, LOAD, SPOILT, LOAD, CLOSE, SPOILT, LOAD, SPOILT, LOAD, WATCH, LOAD, SPOILT, LOAD, SPOILT, LOAD, CLOSE, SPOILT, LOAD, SPOILT,
     LOAD, STRANGE, LOAD, SPOILT, LOAD, SPOILT, LOAD, CLOSE, LOAD, SPOILT, LOAD, SPOILT, LOAD, WATCH, LOAD, SPOILT, LOAD, CLOSE, LOAD,
@@ -180,13 +232,13 @@ const TURNS: &[usize] = &[
 ];
 
 pub struct Episodes {
-    kinds: [Kind; 5],
+    kinds: [Kind; 6],
     turn: usize,
 }
 
 impl Episodes {
     pub fn new() -> Episodes {
-        Episodes { kinds: [loads(), whole_watches(), spoilt_states(), closes_at_limits(), strange_states()], turn: 0 }
+        Episodes { kinds: [loads(), whole_watches(), spoilt_states(), closes_at_limits(), strange_states(), runs_of_events()], turn: 0 }
     }
 
     // The next request; where none is waiting, the next episode makes its own.
@@ -195,7 +247,8 @@ impl Episodes {
             if let Some(made) = script.take() {
                 return made;
             }
-            self.kinds[TURNS[self.turn % TURNS.len()]].play(script, random);
+            let kind = if self.turn % 2 == 1 { CAPTURE } else { TURNS[self.turn / 2 % TURNS.len()] };
+            self.kinds[kind].play(script, random);
             self.turn += 1;
         }
     }

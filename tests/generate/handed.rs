@@ -7,23 +7,33 @@ use crate::model::state::{Board, Network, Slot};
 use crate::random::Random;
 use crate::spots::{spots, Spot};
 
-// A few slots of any shape that the check lets pass, held by one another or by nobody.
+// A few slots of any shape that the check lets pass, held by one another or by nobody, mostly in the middle of a tick.
 pub fn handed(random: &mut Random, large: bool) -> Network {
+    passing(random, large, 70)
+}
+
+// The same before anything of the tick has come.
+pub fn between_ticks(random: &mut Random, large: bool) -> Network {
+    passing(random, large, 0)
+}
+
+fn passing(random: &mut Random, large: bool, sampled: usize) -> Network {
     loop {
-        let network = any_network(random, large);
+        let network = any_network(random, large, sampled);
         if network_of(&network.bytes()).is_some() {
             return network;
         }
     }
 }
 
-fn any_network(random: &mut Random, large: bool) -> Network {
+// So many in a hundred boards have sampled.
+fn any_network(random: &mut Random, large: bool, sampled: usize) -> Network {
     let (boards, propositions) = (random.within(1, 4), random.within(1, 6));
     let mut masks = vec![0; boards];
     for i in 0..propositions {
         masks[random.below(boards)] |= 1 << i;
     }
-    let boards: Vec<Board> = masks.into_iter().map(|mask| any_board(random, mask)).collect();
+    let boards: Vec<Board> = masks.into_iter().map(|mask| any_board(random, mask, sampled)).collect();
     let ticks = random.pick(&[0, 1, 1000, u32::MAX - 1, u32::MAX]);
     let count = random.within(1, if large { 20 } else { 6 });
     let mut slots: Vec<Slot> = (0..count).map(|_| any_slot(random, &boards, propositions)).collect();
@@ -48,8 +58,8 @@ fn any_network(random: &mut Random, large: bool) -> Network {
     Network { ticks, nodes, boards, slots }
 }
 
-fn any_board(random: &mut Random, mask: u64) -> Board {
-    let sampled = random.percent(70);
+fn any_board(random: &mut Random, mask: u64, sampled: usize) -> Board {
+    let sampled = random.percent(sampled);
     Board { mask, sample: if sampled { random.word() & mask } else { 0 }, sampled }
 }
 

@@ -8,6 +8,12 @@ const AND: u8 = 3;
 const NEXT: u8 = 5;
 const UNTIL: u8 = 6;
 
+// The rule over these masks.
+pub fn over(masks: &[u64], formula: &[u8]) -> Rule {
+    let union = masks.iter().fold(0, |union, mask| union | mask);
+    Rule { masks: masks.to_vec(), propositions: u64::from(union.count_ones()), formula: formula.to_vec() }
+}
+
 // A rule over the lowest propositions, dealt out in turn to the boards.
 pub fn dealt(boards: usize, propositions: usize, formula: Vec<u8>) -> Rule {
     let mut masks = vec![0; boards];

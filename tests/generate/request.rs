@@ -48,6 +48,11 @@ impl Request {
         Request { call: 9, a: bytes.len(), b: offset, c: 0, v: 0, payload: bytes.to_vec() }
     }
 
+    pub fn capture(state_lent: usize, second_lent: usize, events: &[u64]) -> Request {
+        let payload = events.iter().flat_map(|event| event.to_le_bytes()).collect();
+        Request { call: 10, a: events.len(), b: state_lent, c: second_lent, v: 0, payload }
+    }
+
     pub fn bytes(&self) -> Vec<u8> {
         let mut bytes = vec![self.call, 0, 0, 0];
         for number in [self.a, self.b, self.c] {

@@ -2,6 +2,7 @@
 // written as calls, and each says whether it is accepted.
 
 use crate::files::{self, Handed};
+use crate::model::capture::capture;
 use crate::model::check::network_of;
 use crate::model::state::{Network, STATE};
 use crate::model::watch;
@@ -97,6 +98,15 @@ impl Script {
     pub fn ask_lent(&mut self, lent: usize) -> bool {
         self.make("ask", Request::ask(lent));
         watch::ask(&self.kept[..lent]).is_ok()
+    }
+
+    pub fn capture(&mut self, events: &[u64]) -> bool {
+        self.capture_lent(STATE, STATE, events)
+    }
+
+    pub fn capture_lent(&mut self, lent: usize, second_lent: usize, events: &[u64]) -> bool {
+        self.make("capture", Request::capture(lent, second_lent, events));
+        capture(&mut self.kept[..lent], &mut vec![0; second_lent], events).is_ok()
     }
 
     pub fn poke(&mut self, offset: usize, bytes: &[u8]) {

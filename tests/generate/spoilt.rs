@@ -1,5 +1,6 @@
 // States that differ from a valid one in one clause of the state check: poked in, answered with 9, and mended again.
 
+use crate::events::inside;
 use crate::handed;
 use crate::model::check::network_of;
 use crate::model::state::{Network, STATE};
@@ -85,6 +86,7 @@ pub fn spoilt(script: &mut Script, random: &mut Random, spoil: Spoil) {
     }
     if random.percent(10) {
         script.close_lent(STATE, STATE - 1); // 1 comes before 9
+        script.capture_lent(STATE, STATE - 1, &[0]);
     }
     script.become_state(&valid);
     watches::go_on(script, random, 1);
@@ -96,10 +98,14 @@ fn any_call(script: &mut Script, random: &mut Random, valid: &[u8]) {
     let board = random.below(network.boards.len());
     let ready: Vec<usize> = (0..network.slots.len()).filter(|&i| watches::is_ready(&network, i)).collect();
     let slot = if ready.is_empty() { 0 } else { random.pick(&ready) };
-    match random.below(4) {
+    match random.below(5) {
         0 => script.sample(board as u64, random.event() & network.boards[board].mask),
         1 => script.step(slot as u64),
         2 => script.close(),
+        3 => {
+            let count = random.below(3);
+            script.capture(&inside(random, network.union(), count))
+        }
         _ => script.ask(),
     };
 }

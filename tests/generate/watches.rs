@@ -1,5 +1,6 @@
 // Watches through ticks in random orders, with calls in between that are refused.
 
+use crate::events::{bits_outside, inside};
 use crate::model::formula::Formula::PlaceHolder;
 use crate::model::state::{Network, STATE};
 use crate::model::watch::is_finished;
@@ -20,6 +21,9 @@ pub fn go_on(script: &mut Script, random: &mut Random, requests: usize) {
             return;
         } else if only_samples_left && random.percent(30) {
             script.close(); // too early
+        } else if is_before_tick(&network) && random.percent(15) {
+            let count = random.below(4);
+            script.capture(&inside(random, network.union(), count));
         } else if random.percent(40) {
             refused(script, random, &network);
         } else if calls.is_empty() {
@@ -36,6 +40,11 @@ pub fn go_on(script: &mut Script, random: &mut Random, requests: usize) {
     // a step has left a handed state that fails its check
     script.ask();
     script.close();
+}
+
+// Whether nothing of the tick has come.
+pub fn is_before_tick(network: &Network) -> bool {
+    network.boards.iter().all(|board| !board.sampled)
 }
 
 // A tick from any moment up to its close, with no call that is refused for being early; nothing where the watch is finished.
@@ -104,15 +113,7 @@ fn none_of(random: &mut Random, count: usize) -> u64 {
         .max(count)
 }
 
-// Bits of which one at least is outside the mask; where the mask is full, all bits.
-fn bits_outside(random: &mut Random, mask: u64) -> u64 {
-    let outside = random.event() & !mask;
-    let lowest = !mask & mask.wrapping_add(1);
-    let inside = random.event() & mask;
-    inside | if outside == 0 { lowest } else { outside }
-}
-
-fn wrong_length(random: &mut Random) -> usize {
+pub fn wrong_length(random: &mut Random) -> usize {
     random.pick(&[0, 1, 15, 16, STATE - 1, STATE - 1, STATE + 1, STATE + 1, KEPT])
 }
 
@@ -125,7 +126,7 @@ fn refused(script: &mut Script, random: &mut Random, network: &Network) {
     let sampled = (0..network.boards.len()).find(|&i| network.boards[i].sampled);
     let stepped = (0..network.slots.len()).find(|&i| network.slots[i].stepped);
     let unready = (0..network.slots.len()).find(|&i| !network.slots[i].stepped && !is_ready(network, i));
-    match random.below(18) {
+    match random.below(20) {
         0..=2 => script.sample(sampled.unwrap_or(board) as u64, 0),
         3 | 4 => script.sample(board as u64, bits_outside(random, mask)),
         5 => script.sample(none_of(random, network.boards.len()), inside),
@@ -136,17 +137,20 @@ fn refused(script: &mut Script, random: &mut Random, network: &Network) {
         13 | 14 if !left_of(network).is_empty() => script.close(),
         13..=15 => script.close_lent(random.pick(&[STATE, STATE, STATE - 1]), wrong_length(random)),
         16 => wrongly_lent(script, random, board, inside, slot),
-        _ => script.ask(),
+        17 => script.ask(),
+        18 => script.capture(&[inside]),
+        _ => script.capture(&[bits_outside(random, network.union())]),
     };
 }
 
 // A call that would be good if it were not for the length of the state.
 fn wrongly_lent(script: &mut Script, random: &mut Random, board: usize, bits: u64, slot: usize) -> bool {
     let lent = wrong_length(random);
-    match random.below(4) {
+    match random.below(5) {
         0 => script.sample_lent(lent, board as u64, bits),
         1 => script.step_lent(lent, slot as u64),
         2 => script.close_lent(lent, STATE),
+        3 => script.capture_lent(lent, STATE, &[bits]),
         _ => script.ask_lent(lent),
     }
 }
@@ -156,12 +160,13 @@ fn afterwards(script: &mut Script, random: &mut Random, network: &Network) {
     script.ask();
     for _ in 0..3 {
         let board = random.below(network.boards.len()) as u64;
-        match random.below(7) {
+        match random.below(8) {
             0 => script.sample(board, 0),
             1 => script.sample(none_of(random, network.boards.len()), u64::MAX),
             2 => script.step(0),
             3 => script.step(none_of(random, 1)),
             4 | 5 => script.close(),
+            6 => script.capture(&[random.event()]),
             _ => script.close_lent(STATE, wrong_length(random)),
         };
     }

@@ -5,16 +5,11 @@ use crate::files;
 use crate::formulas::nested;
 use crate::model::formula::{always, and, next, or, Formula};
 use crate::model::state::{Board, Network, Slot, STATE};
-use crate::patterns::{conjunction, copies, later};
+use crate::patterns::{conjunction, copies, later, over};
 use crate::rules::Rule;
 use crate::script::{Script, KEPT};
 
-const TWO: &[u64] = &[1, 2];
-
-fn over(masks: &[u64], formula: &[u8]) -> Rule {
-    let union = masks.iter().fold(0, |union, mask| union | mask);
-    Rule { masks: masks.to_vec(), propositions: u64::from(union.count_ones()), formula: formula.to_vec() }
-}
+pub const TWO: &[u64] = &[1, 2];
 
 pub fn watched(script: &mut Script) {
     script.case = "worked value";
@@ -33,7 +28,7 @@ pub fn watched(script: &mut Script) {
     lone_foreign_proposition(script);
 }
 
-fn load(script: &mut Script, rule: &Rule) {
+pub fn load(script: &mut Script, rule: &Rule) {
     script.load(files::of(rule));
     script.ask();
 }
@@ -126,9 +121,9 @@ fn refused_closes(script: &mut Script) {
     }
 }
 
-// A state of two sampled boards and these unstepped slots on board 0.
-fn hand(script: &mut Script, formulas: &[Formula]) {
-    let boards = TWO.iter().map(|&mask| Board { mask, sample: 0, sampled: true }).collect();
+// A state of two boards, sampled or not, and these unstepped slots on board 0.
+pub fn hand(script: &mut Script, sampled: bool, formulas: &[Formula]) {
+    let boards = TWO.iter().map(|&mask| Board { mask, sample: 0, sampled }).collect();
     let mut network = Network { ticks: 0, nodes: 0, boards, slots: Vec::new() };
     for formula in formulas {
         network.slots.push(Slot { board: 0, stepped: false, start: network.nodes, formula: formula.clone() });
@@ -140,7 +135,7 @@ fn hand(script: &mut Script, formulas: &[Formula]) {
 
 // A slot 5 65 on board 0 passes, its step is accepted, and every later call gets 9.
 fn lone_foreign_proposition(script: &mut Script) {
-    hand(script, &[next(Formula::Proposition(1))]);
+    hand(script, true, &[next(Formula::Proposition(1))]);
     script.step(0);
     script.step(0);
     script.sample(0, 0);
@@ -150,11 +145,11 @@ fn lone_foreign_proposition(script: &mut Script) {
 
 // A lone slot that is constant is finished whatever is sampled; with another slot beside it, it is not.
 fn finished(script: &mut Script) {
-    hand(script, &[Formula::True]);
+    hand(script, true, &[Formula::True]);
     script.sample(0, 0);
     script.step(0);
     script.close();
-    hand(script, &[Formula::True, Formula::False]);
+    hand(script, true, &[Formula::True, Formula::False]);
     script.step(0);
     script.step(1);
     script.close();
@@ -164,7 +159,7 @@ fn finished(script: &mut Script) {
 // States of watches that were begun when constants were not folded yet, 4 1 64 and 8 1: steps and closes do not fold them either.
 fn saved(script: &mut Script) {
     for formula in [or(Formula::True, Formula::Proposition(0)), and(Formula::True, next(always(Formula::True)))] {
-        hand(script, &[formula]);
+        hand(script, true, &[formula]);
         script.step(0);
         script.close();
         script.ask();

@@ -2,6 +2,7 @@
 // what the generator knows valid states by.
 
 pub mod bytes;
+pub mod capture;
 pub mod central;
 pub mod check;
 pub mod folding;

@@ -1,6 +1,7 @@
 // The requests of PROTOCOL.md and their answer lines.
 
 use crate::model::bytes::{front_and_rest, little_endian};
+use crate::model::capture::{capture, Captured};
 use crate::model::central::central;
 use crate::model::refusal::Refusal;
 use crate::model::rule_file::{read, write};
@@ -15,6 +16,7 @@ const STEP: u64 = 6;
 const CLOSE: u64 = 7;
 const ASK: u64 = 8;
 const POKE: u64 = 9;
+const CAPTURE: u64 = 10;
 
 const KEPT: u64 = 8192;
 const MOST_LENT: u64 = 8192;
@@ -62,6 +64,7 @@ impl<'a> Request<'a> {
             STEP | ASK => (within([ANY, KEPT, ANY]), 0),
             CLOSE => (within([ANY, KEPT, MOST_LENT]), 0),
             POKE => (a + b <= KEPT, a),
+            CAPTURE => (within([256, KEPT, MOST_LENT]), 8 * a),
             _ => (false, 0),
         };
         if !good {
@@ -81,7 +84,8 @@ impl<'a> Request<'a> {
             STEP => self.answer_step(&mut kept[..self.b as usize]),
             CLOSE => self.answer_close(kept),
             ASK => self.answer_ask(&kept[..self.b as usize]),
-            _ => self.answer_poke(kept),
+            POKE => self.answer_poke(kept),
+            _ => self.answer_capture(&mut kept[..self.b as usize]),
         }
     }
 
@@ -94,7 +98,7 @@ impl<'a> Request<'a> {
 
     fn answer_write(&self) -> Answer {
         let (masks, formula) = self.payload.split_at(8 * self.a as usize);
-        let masks: Vec<u64> = masks.chunks(8).map(little_endian).collect();
+        let masks = numbers_of(masks);
         let mut file = lent_bytes(self.c);
         let result = write(&masks, self.v, formula, &mut file);
         Answer { values: result.map(|length| vec![length]), hashes: vec![hash(&file)] }
@@ -147,6 +151,14 @@ impl<'a> Request<'a> {
         kept[offset..offset + self.payload.len()].copy_from_slice(self.payload);
         Answer { values: Ok(vec![]), hashes: vec![] }
     }
+
+    fn answer_capture(&self, state: &mut [u8]) -> Answer {
+        let mut second = lent_bytes(self.c);
+        let result = capture(state, &mut second, &numbers_of(self.payload));
+        let stop = |refusal: Option<Refusal>| refusal.map_or(0, |refusal| refusal as u64);
+        let values = result.map(|Captured { closed, verdict, refusal }| vec![closed, verdict as u64, stop(refusal)]);
+        Answer { values, hashes: vec![hash(state), hash(&second)] }
+    }
 }
 
 // Lent outputs start with a pattern, so that a byte missed or written by a refusal shows in the hash.
@@ -156,6 +168,10 @@ pub fn lent_bytes(count: u64) -> Vec<u8> {
 
 pub fn lent_masks(count: u64) -> Vec<u64> {
     (0..count).map(|i| (i + 1) * 0x0101_0101_0101_0101).collect()
+}
+
+fn numbers_of(bytes: &[u8]) -> Vec<u64> {
+    bytes.chunks(8).map(little_endian).collect()
 }
 
 fn bytes_of_masks(masks: &[u64]) -> Vec<u8> {

@@ -1,6 +1,7 @@
 // What the tests of the second program share: what central leaves, rule files, watches moved along a tick at a time, states as someone
 // might hand them over, and room for deep formulas.
 
+use crate::model::capture::{capture, Captured};
 use crate::model::central::{central, OUTPUT};
 use crate::model::check::network_of;
 use crate::model::formula::{bytes_of, parse_slot, Formula};
@@ -67,6 +68,19 @@ pub fn closed(state: &[u8]) -> Result<Vec<u8>, Refusal> {
     close(state, &mut second)?;
     assert_eq!(state, before);
     Ok(second)
+}
+
+// What capture answers, and the state that it leaves. A refusal must write nothing, and the second buffer must end as zeros.
+pub fn captured(state: &[u8], events: &[u64]) -> Result<(Captured, Vec<u8>), Refusal> {
+    let mut left = state.to_vec();
+    let mut second = lent_bytes(STATE as u64);
+    let result = capture(&mut left, &mut second, events);
+    if result.is_ok() {
+        assert!(second.iter().all(|&byte| byte == 0));
+    } else {
+        assert_eq!((&left[..], second), (state, lent_bytes(STATE as u64)));
+    }
+    result.map(|captured| (captured, left))
 }
 
 // A state with these masks, samples where there are any, and slots: board, mark and formula, each filling its stretch.

@@ -77,7 +77,7 @@ pub fn ask(state: &[u8]) -> Result<Standing, Refusal> {
 }
 
 // The network of a state that passes the check and is not finished.
-fn begun(state: &[u8]) -> Result<Network, Refusal> {
+pub fn begun(state: &[u8]) -> Result<Network, Refusal> {
     let network = network_of(state).ok_or(Refusal::State)?;
     demand(!is_finished(&network), Refusal::Finished)?;
     Ok(network)

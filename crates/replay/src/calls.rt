@@ -1,7 +1,9 @@
 // The calls, each over what a request gives and lends. None of them reads or writes a line.
 use answers::Outcome;
+use capturing::CaptureAnswer;
 use central::CentralAnswer;
 use requests::header::ASK;
+use requests::header::CAPTURE;
 use requests::header::CENTRAL;
 use requests::header::CLOSE;
 use requests::header::LOAD;
@@ -102,23 +104,51 @@ fn poke(kept: &mut [u8], given: &[u8]) -> Answered {
     done()
 }
 
+// How many events were closed, how the state that is left stands, and the refusal's number, if there was one.
+// The refusal's number, 0 where there was none.
+fn number_of(outcome: Outcome) -> u64 {
+    match outcome {
+        Outcome::Refused(refusal) => refusal.number() as u64,
+        Outcome::Done => 0,
+    }
+}
+
+fn capture(state: &mut [u8], second: &mut [u8], events: &[u64]) -> Answered {
+    let answer = capturing::capture(state, second, events);
+    match answer {
+        CaptureAnswer::Refused(refusal) => Answered::refused(refusal),
+        CaptureAnswer::Captured(run) => {
+            let verdict = run.verdict;
+            let stop = run.stop;
+            Answered::accepted(
+                3,
+                run.closed as u64,
+                verdict.number() as u64,
+                number_of(stop),
+                0,
+            )
+        }
+    }
+}
+
 pub fn make(
     call: u32,
     value: u64,
     given: &[u8],
-    masks: &mut [u64],
+    numbers: &mut [u64],
     fresh: &mut [u8],
     kept: &mut [u8],
 ) -> Answered {
     match call {
-        READ => read(given, masks, fresh),
-        WRITE => write(masks, value, given, fresh),
+        READ => read(given, numbers, fresh),
+        WRITE => write(numbers, value, given, fresh),
         CENTRAL => central(given, value, fresh),
         LOAD => load(given, fresh),
         SAMPLE => sample(kept, given, value),
         STEP => step(kept, value),
         CLOSE => close(kept, fresh),
         ASK => ask(kept),
+        CAPTURE => capture(kept, fresh, numbers),
         _ => poke(kept, given),
     }
 }

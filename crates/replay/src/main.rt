@@ -3,7 +3,7 @@
 mod calls;
 
 use requests::BYTES_MOST;
-use requests::MASKS_MOST;
+use requests::EVENTS_MOST;
 use requests::header;
 use requests::header::HEADER_LENGTH;
 use requests::header::NONE;
@@ -23,20 +23,20 @@ fn answer_over(
     call: u32,
     value: u64,
     given: &mut [u8],
-    masks: &mut [u64],
+    numbers: &mut [u64],
     fresh: &mut [u8],
     kept: &mut [u8],
 ) -> Made {
-    lent::fill_masks(masks);
+    lent::fill_masks(numbers);
     lent::fill_bytes(fresh);
-    if !payload::take(call, masks, given) {
+    if !payload::take(call, numbers, given) {
         return Made {
             good: false,
             keep: false,
         };
     }
-    let answered = calls::make(call, value, given, masks, fresh, kept);
-    line::write(call, answered, masks, kept, fresh);
+    let answered = calls::make(call, value, given, numbers, fresh, kept);
+    line::write(call, answered, numbers, kept, fresh);
     Made {
         good: true,
         keep: answered.number == 0 && header::keeps(call),
@@ -59,7 +59,7 @@ fn keep(kept: &mut [u8], fresh: &[u8], length: usize) {
 fn answer(
     request: Request,
     given: &mut [u8],
-    masks: &mut [u64],
+    numbers: &mut [u64],
     fresh: &mut [u8],
     kept: &mut [u8],
 ) -> bool {
@@ -67,13 +67,13 @@ fn answer(
         return false;
     }
     let g = request.given;
-    let m = request.masks;
+    let n = request.numbers;
     let f = request.fresh;
     let k = request.kept;
     if given.len() < g {
         return false;
     }
-    if masks.len() < m {
+    if numbers.len() < n {
         return false;
     }
     if fresh.len() < f {
@@ -86,7 +86,7 @@ fn answer(
         request.call,
         request.value,
         &mut given[0..g],
-        &mut masks[0..m],
+        &mut numbers[0..n],
         &mut fresh[0..f],
         &mut kept[0..k],
     );
@@ -102,7 +102,7 @@ fn bad() -> bool {
 }
 
 // One request: whether another may follow.
-fn turn(given: &mut [u8], masks: &mut [u64], fresh: &mut [u8], kept: &mut [u8]) -> bool {
+fn turn(given: &mut [u8], numbers: &mut [u64], fresh: &mut [u8], kept: &mut [u8]) -> bool {
     let mut bytes = [0u8; HEADER_LENGTH];
     let got = io::read_full(libc::STDIN_FILENO, &mut bytes);
     if got == 0 {
@@ -111,28 +111,28 @@ fn turn(given: &mut [u8], masks: &mut [u64], fresh: &mut [u8], kept: &mut [u8]) 
     if got != HEADER_LENGTH {
         return bad();
     }
-    if !answer(header::request_in(&bytes), given, masks, fresh, kept) {
+    if !answer(header::request_in(&bytes), given, numbers, fresh, kept) {
         return bad();
     }
     true
 }
 
 // Nothing says that the input ends, so the turns are counted down.
-fn run(given: &mut [u8], masks: &mut [u64], fresh: &mut [u8], kept: &mut [u8]) {
+fn run(given: &mut [u8], numbers: &mut [u64], fresh: &mut [u8], kept: &mut [u8]) {
     let mut turns: u64 = 18446744073709551615;
     while 0 < turns {
-        if !turn(given, masks, fresh, kept) {
+        if !turn(given, numbers, fresh, kept) {
             return;
         }
         turns -= 1;
     }
 }
 
-// What is given, what is lent afresh, and the state that is kept.
+// What is given, masks or events, what is lent afresh, and the state that is kept.
 fn main() {
     let mut given = [0u8; BYTES_MOST];
-    let mut masks = [0u64; MASKS_MOST];
+    let mut numbers = [0u64; EVENTS_MOST];
     let mut fresh = [0u8; BYTES_MOST];
     let mut kept = [0u8; BYTES_MOST];
-    run(&mut given, &mut masks, &mut fresh, &mut kept);
+    run(&mut given, &mut numbers, &mut fresh, &mut kept);
 }

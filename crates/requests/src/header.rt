@@ -1,5 +1,6 @@
 // The header of a request: which call, and how much is given and lent to it.
 use crate::FILE_BYTES_MOST;
+use crate::MASKS_MOST;
 
 // Three numbers of 32 bits stand behind the call's, and one of 64 bits behind those.
 pub const HEADER_LENGTH: usize = 24;
@@ -33,43 +34,67 @@ pub const ASK: u32 = 8;
 
 pub const POKE: u32 = 9;
 
+pub const CAPTURE: u32 = 10;
+
 // A board's number is the payload of sample.
 const BOARD_LENGTH: usize = 8;
 
-// The call by its number and its value; how many masks and bytes are given or lent to it, how many bytes are
-// lent afresh, and how many of the kept state. A poke's bytes are the last of those that are lent of the kept state.
+// The call by its number and its value; how many numbers, which are masks or events, and bytes are given or lent to it, how many
+// bytes are lent afresh, and how many of the kept state. A poke's bytes are the last of those that are lent of the kept state.
 pub struct Request {
     pub call: u32,
     pub value: u64,
-    pub masks: usize,
+    pub numbers: usize,
     pub given: usize,
     pub fresh: usize,
     pub kept: usize,
 }
 
-fn asked(call: u32, value: u64, masks: usize, given: usize, fresh: usize, kept: usize) -> Request {
+fn asked(
+    call: u32,
+    value: u64,
+    numbers: usize,
+    given: usize,
+    fresh: usize,
+    kept: usize,
+) -> Request {
     Request {
         call: call,
         value: value,
-        masks: masks,
+        numbers: numbers,
         given: given,
         fresh: fresh,
         kept: kept,
     }
 }
 
-// A call on a file of so many bytes, which is none where the file is too long.
+fn none() -> Request {
+    asked(NONE, 0, 0, 0, 0, 0)
+}
+
+// A call on a file of so many bytes, with so many masks, which is none where the file is too long or the masks are too many.
 fn on_file(call: u32, file: usize, masks: usize, fresh: usize) -> Request {
     if FILE_BYTES_MOST < file {
-        return asked(NONE, 0, 0, 0, 0, 0);
+        return none();
+    }
+    if MASKS_MOST < masks {
+        return none();
     }
     asked(call, 0, masks, file, fresh, 0)
+}
+
+// The same of a write of so many masks, propositions and bytes of formula.
+fn on_masks(masks: usize, propositions: u64, formula: usize, fresh: usize) -> Request {
+    if MASKS_MOST < masks {
+        return none();
+    }
+    asked(WRITE, propositions, masks, formula, fresh, 0)
 }
 
 fn request_of(call: u32, a: u32, b: u32, c: u32, v: u64) -> Request {
     match call {
         READ => on_file(READ, a as usize, b as usize, c as usize),
-        WRITE => asked(WRITE, v, a as usize, b as usize, c as usize, 0),
+        WRITE => on_masks(a as usize, v, b as usize, c as usize),
         CENTRAL => asked(CENTRAL, v, 0, a as usize, c as usize, 0),
         LOAD => on_file(LOAD, a as usize, 0, c as usize),
         SAMPLE => asked(SAMPLE, v, 0, BOARD_LENGTH, 0, b as usize),
@@ -77,7 +102,8 @@ fn request_of(call: u32, a: u32, b: u32, c: u32, v: u64) -> Request {
         CLOSE => asked(CLOSE, 0, 0, 0, c as usize, b as usize),
         ASK => asked(ASK, 0, 0, 0, 0, b as usize),
         POKE => asked(POKE, 0, 0, a as usize, 0, a as usize + b as usize),
-        _ => asked(NONE, 0, 0, 0, 0, 0),
+        CAPTURE => asked(CAPTURE, 0, a as usize, 0, c as usize, b as usize),
+        _ => none(),
     }
 }
 
@@ -102,6 +128,7 @@ pub fn lends_kept(call: u32) -> bool {
         STEP => true,
         CLOSE => true,
         ASK => true,
+        CAPTURE => true,
         _ => false,
     }
 }
@@ -113,6 +140,7 @@ pub fn lends_fresh(call: u32) -> bool {
         CENTRAL => true,
         LOAD => true,
         CLOSE => true,
+        CAPTURE => true,
         _ => false,
     }
 }

@@ -15,3 +15,6 @@ pub const FILE_BYTES_MOST: usize = 4096;
 
 // The most masks that are given or lent.
 pub const MASKS_MOST: usize = 32;
+
+// The most events that are given. Masks have their place where events have theirs.
+pub const EVENTS_MOST: usize = 256;

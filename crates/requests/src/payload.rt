@@ -1,34 +1,43 @@
 // A request's payload, taken from standard input: whether it was not cut short.
+use crate::header::CAPTURE;
 use crate::header::WRITE;
 
 fn take_bytes(bytes: &mut [u8]) -> bool {
     io::read_full(libc::STDIN_FILENO, bytes) == bytes.len()
 }
 
-fn take_masks(masks: &mut [u64]) -> bool {
+fn take_numbers(numbers: &mut [u64]) -> bool {
     let mut i: usize = 0;
-    while i < masks.len() {
+    while i < numbers.len() {
         let mut eight = [0u8; 8];
         if !take_bytes(&mut eight) {
             return false;
         }
-        masks[i] = le::u64_at(&eight, 0);
+        numbers[i] = le::u64_at(&eight, 0);
         i += 1;
     }
     true
 }
 
-// Only write is given masks.
-fn take_masks_of(call: u32, masks: &mut [u64]) -> bool {
-    if call != WRITE {
-        return true;
+// Write is given masks, and capture events.
+fn is_given_numbers(call: u32) -> bool {
+    match call {
+        WRITE => true,
+        CAPTURE => true,
+        _ => false,
     }
-    take_masks(masks)
 }
 
-// The masks come first.
-pub fn take(call: u32, masks: &mut [u64], given: &mut [u8]) -> bool {
-    if !take_masks_of(call, masks) {
+fn take_numbers_of(call: u32, numbers: &mut [u64]) -> bool {
+    if !is_given_numbers(call) {
+        return true;
+    }
+    take_numbers(numbers)
+}
+
+// The numbers come first.
+pub fn take(call: u32, numbers: &mut [u64], given: &mut [u8]) -> bool {
+    if !take_numbers_of(call, numbers) {
         return false;
     }
     take_bytes(given)

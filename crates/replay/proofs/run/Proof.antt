@@ -6,10 +6,10 @@ use Rattle.replay.proofs.run.Statement.{statement}
 use Rattle.replay.proofs.run.Tie as tie
 
 abbrev Inv-loop : tie.InvT-loop
-Inv-loop given₀ masks₀ fresh₀ kept₀ turns₀ given masks fresh kept turns = (length given ≡ length given₀) × (length masks ≡ length masks₀) × (length fresh ≡ length fresh₀) × (length kept ≡ length kept₀)
+Inv-loop given₀ numbers₀ fresh₀ kept₀ turns₀ given numbers fresh kept turns = (length given ≡ length given₀) × (length numbers ≡ length numbers₀) × (length fresh ≡ length fresh₀) × (length kept ≡ length kept₀)
 
 abbrev μ-loop : tie.MeasureT-loop
-μ-loop given₀ masks₀ fresh₀ kept₀ turns₀ given masks fresh kept turns = turns
+μ-loop given₀ numbers₀ fresh₀ kept₀ turns₀ given numbers fresh kept turns = turns
 
 pub run-spec : {M : Type 1} → statement M
 run-spec =

@@ -1,19 +1,19 @@
--- `requests::payload::take_masks` is safe and ends: stores keep the length, below which each turn takes one mask more. Assumes nothing.
+-- `requests::payload::take_numbers` is safe and ends: stores keep the length, below which each turn takes one number more. Assumes nothing.
 use mathlib.Core.Path.{_≡_}
 use Prim.Native.Nat.{_-_}
 use lib.ListN.{length}
 use borrow.Author.Needs.{needs}
-use Rattle.requests.proofs.payload.take_masks.Statement.{statement}
-use Rattle.requests.proofs.payload.take_masks.Tie as tie
+use Rattle.requests.proofs.payload.take_numbers.Statement.{statement}
+use Rattle.requests.proofs.payload.take_numbers.Tie as tie
 
 abbrev Inv-loop : tie.InvT-loop
-Inv-loop masks₀ i₀ masks i = length masks ≡ length masks₀
+Inv-loop numbers₀ i₀ numbers i = length numbers ≡ length numbers₀
 
 abbrev μ-loop : tie.MeasureT-loop
-μ-loop masks₀ i₀ masks i = length masks₀ - i
+μ-loop numbers₀ i₀ numbers i = length numbers₀ - i
 
-pub take-masks-spec : {M : Type 1} → statement M
-take-masks-spec =
+pub take-numbers-spec : {M : Type 1} → statement M
+take-numbers-spec =
     tie.close
     (tie.spec
     Inv-loop
