@@ -1,5 +1,6 @@
 // A whole watch through the library: the rule "a until b", where board 0 sees a and board 1 sees b, over three events. It prints
-// the lines of the run program, ticks, verdict, slots and nodes after the load and after each tick, and then the verdict.
+// the lines of the run program, ticks, verdict, slots and nodes after the load and after each tick, and then the verdict. Each
+// tick has its line, so each event is a capture of its own. Where nobody looks at the ticks between, one call takes all events.
 
 #include "../include/vydrulka.h"
 
@@ -22,12 +23,12 @@ struct standing {
     uint64_t slots, nodes;
 };
 
-// Ends the program where a call was refused.
-static void must_accept(const char *call, uint32_t answer)
+// Ends the program where a call was refused, or an event.
+static void must_accept(const char *what, uint32_t answer)
 {
     if (answer == VYDRULKA_ACCEPTED)
         return;
-    fprintf(stderr, "%s refused %" PRIu32 ": %s\n", call, answer, vydrulka_refusal_words(answer));
+    fprintf(stderr, "%s refused %" PRIu32 ": %s\n", what, answer, vydrulka_refusal_words(answer));
     exit(EXIT_FAILURE);
 }
 
@@ -40,15 +41,15 @@ static void load(uint8_t *state)
     must_accept("load", vydrulka_load(file, length, state, VYDRULKA_STATE_LENGTH));
 }
 
-// One tick, from one buffer to the other: each board samples what it sees of the event, and each slot is stepped after those that
-// it holds, which have higher numbers.
-static void tick(uint8_t *state, uint64_t slots, uint64_t event, uint8_t *second)
+// One tick: the state becomes the closed one, and the second buffer is room to work in. A call that comes to an event which is
+// refused is itself accepted, and `stop` tells why.
+static void tick(uint8_t *state, uint8_t *second, uint64_t event)
 {
-    for (uint64_t board = 0; board < BOARDS; board++)
-        must_accept("sample", vydrulka_sample(state, VYDRULKA_STATE_LENGTH, board, event & masks[board]));
-    for (uint64_t slot = slots; slot-- > 0;)
-        must_accept("step", vydrulka_step(state, VYDRULKA_STATE_LENGTH, slot));
-    must_accept("close", vydrulka_close(state, VYDRULKA_STATE_LENGTH, second, VYDRULKA_STATE_LENGTH));
+    uint64_t closed;
+    uint32_t verdict, stop;
+    must_accept("capture", vydrulka_capture(state, VYDRULKA_STATE_LENGTH, second, VYDRULKA_STATE_LENGTH, &event, 1, &closed,
+                                            &verdict, &stop));
+    must_accept("event", stop);
 }
 
 // Asks how the watch stands and prints it.
@@ -62,15 +63,11 @@ static struct standing report(const uint8_t *state)
 
 int main(void)
 {
-    uint8_t buffers[2][VYDRULKA_STATE_LENGTH];
-    uint8_t *state = buffers[0], *second = buffers[1];
+    uint8_t state[VYDRULKA_STATE_LENGTH], second[VYDRULKA_STATE_LENGTH];
     load(state);
     struct standing now = report(state);
     for (size_t i = 0; i < EVENTS && now.verdict == VYDRULKA_VERDICT_PENDING; i++) {
-        tick(state, now.slots, events[i], second);
-        uint8_t *old = state;
-        state = second;
-        second = old;
+        tick(state, second, events[i]);
         now = report(state);
     }
     printf("a until b is %s after %" PRIu32 " ticks\n", vydrulka_verdict_words(now.verdict), now.ticks);

@@ -3,11 +3,13 @@
 //
 // A call stands any bytes and numbers. It makes its checks in the order that its comment gives and answers the number of the
 // first that fails; then it has written nothing. Else it answers 0 and has stored its values behind the pointers to single
-// numbers. What it answers and writes follows from what it is given, and from nothing else.
+// numbers. What it answers and writes follows from what it is given, and from nothing else. A capture that comes to an event which
+// is refused is accepted itself: it answers 0, stores where and why it stopped, and leaves what was closed before.
 //
-// Memory: a call allocates nothing and keeps nothing. It has no memory of its own but the stack. Load and close take more of it
-// the deeper a formula is nested, the others the same small amount. On the deepest inputs that are known a thread with 1 MiB of
-// stack can make every call but close, and one with 4 MiB can close too. That is measured and not proved: see the figures below.
+// Memory: a call allocates nothing and keeps nothing. It has no memory of its own but the stack. Load, close and capture take more
+// of it the deeper a formula is nested, the others the same small amount. On the deepest inputs that are known a thread with 1 MiB
+// of stack can make every call but close and capture, and one with 4 MiB these two as well. That is measured and not proved: see
+// the figures below.
 //
 // Threads: calls share nothing. Any thread may make any call at any time, as long as no other call writes what it is given.
 //
@@ -15,8 +17,8 @@
 // or machine, and used again there. Each call checks the state that it is given.
 //
 // The caller sees to it that no pointer is null, that a buffer has as many elements as the length behind it says, and that
-// nothing which a call may write overlaps anything else that it is given. A buffer of bytes may begin at any address; masks and
-// single numbers are aligned as C aligns their type.
+// nothing which a call may write overlaps anything else that it is given. A buffer of bytes may begin at any address; masks,
+// events and single numbers are aligned as C aligns their type.
 
 #ifndef VYDRULKA_H
 #define VYDRULKA_H
@@ -26,7 +28,7 @@
 
 // The version of this interface; CHANGES.md lists what changed. A call that is changed or taken away makes a new major version.
 #define VYDRULKA_VERSION_MAJOR 1
-#define VYDRULKA_VERSION_MINOR 3
+#define VYDRULKA_VERSION_MINOR 4
 
 #ifdef __cplusplus
 extern "C" {
@@ -51,9 +53,10 @@ enum {
     VYDRULKA_STACK_CENTRAL = 32768,   // 20,856, whatever the formula
     VYDRULKA_STACK_LOAD = 1048576,    // 1,014,528, a rule of 1,023 nots
     VYDRULKA_STACK_SAMPLE = 32768,    // 520
-    VYDRULKA_STACK_STEP = 32768,      // 8,776, whatever the slot
-    VYDRULKA_STACK_CLOSE = 4194304,   // 3,953,360, a slot of 4,095 nots
+    VYDRULKA_STACK_STEP = 32768,      // 8,520, whatever the slot
+    VYDRULKA_STACK_CLOSE = 4194304,   // 3,953,536, a slot of 4,095 nots
     VYDRULKA_STACK_ASK = 32768,       // 536
+    VYDRULKA_STACK_CAPTURE = 4194304, // 3,952,656, a slot of 4,094 nots
 };
 
 // A formula has one byte a node: the node's, then its operands, the left one before the right one.
@@ -149,6 +152,19 @@ uint32_t vydrulka_close(const uint8_t *state, size_t state_len, uint8_t *second,
 // Refusals in order: 9.
 uint32_t vydrulka_ask(const uint8_t *state, size_t state_len, uint32_t *verdict, uint32_t *ticks, uint64_t *slots,
                       uint64_t *nodes);
+
+// Goes through a run of events, one tick for each, as the other calls do it: each board samples its part of the event, the lowest
+// first, each slot is stepped, the highest first, and the tick is closed. It stops at the end of the events, of which there may be
+// any number, also none; at a verdict, and looks at none behind it; or at an event that is refused. The call is accepted
+// whichever it is. It gives the number of events that were closed, the verdict of the state that is left, and 0 or the refusal at
+// which it stopped, one of 12 (a bit in no board's mask), 13 (a board had sampled when the call was made, so the first event
+// alone), 9 (a step has left a state that fails its check, which no watch from a load on comes to), 15, 7, 8. The state becomes the
+// last that was closed, and stays as it was, every byte, where none was. `second`, of length VYDRULKA_STATE_LENGTH, is room to work
+// in: it is all zero in the end. `events` is aligned as C aligns uint64_t.
+// Stack: VYDRULKA_STACK_CAPTURE.
+// Refusals in order: 1, 9, 10.
+uint32_t vydrulka_capture(uint8_t *state, size_t state_len, uint8_t *second, size_t second_len, const uint64_t *events,
+                          size_t events_len, uint64_t *closed, uint32_t *verdict, uint32_t *stop);
 
 // A short phrase for an answer and a word for a verdict, for messages. Any number is allowed.
 static inline const char *vydrulka_refusal_words(uint32_t answer)
