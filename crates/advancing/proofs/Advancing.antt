@@ -20,7 +20,7 @@ use Rattle.state.specs.Bytes.{nodesOf}
 use Rattle.state.specs.Calls.{nextIn}
 use Rattle.state.specs.Opened.{Opened}
 use Rattle.state.proofs.Forms.{slots-few, nodes-few}
-use Rattle.scores.specs.Owned.{Owns}
+use Rattle.scores.specs.Owned.{Owned, Owns}
 use Rattle.storing.specs.Stores.{ZeroFrom}
 use Rattle.checked.proofs.Passing.{passing}
 use Rattle.counting.specs.declared.Totals.{Totals}
@@ -69,13 +69,24 @@ known {s} opened {masks} {before} {owner} e o =
       owned = subst (λ (m : List ℕ). Owns m before owner) e o .owned (sumOnes (masksIn s)) (p .few-propositions) (p .masks-rule);
     }
 
+-- what is lent for one state serves another that has the same masks
+pub lent-same : {s t masks owner u tags u′ tags′ : List ℕ} → Lent s masks owner u tags → masksIn t ≡ masksIn s → length u′ ≡ length u → length tags′ ≡ length tags → Lent t masks owner u′ tags′
+lent-same {owner = owner} l e a b =
+    record {
+      masks-are = l .masks-are ∙ sym e;
+      table = l .table;
+      owned = subst (λ (m : List ℕ). Owned (sumOnes m) m owner) (sym e) (l .owned);
+      u-long = a ∙ l .u-long;
+      tags-long = b ∙ l .tags-long;
+    }
+
 -- ---- the close
 module _ {s second : List ℕ} {c : Counts} (ask : AdvanceAsk s second c) where
   pub advanced-refused : (why : Refusal) → refused (numberOf why) ≡ advanceSays s → Advances s second second (Refused why)
   advanced-refused why e = record { says = e; leaves = sym (ap (λ (x : Said). left x (nextState s) second) (sym e) ∙ left-refused why (nextState s) second) }
 
   -- what is lent, with the state that was opened
-  pub lent-known : {used : ℕ} {masks owner u tags : List ℕ} → Lent s second used masks owner u tags → OpenedWith s c owner
+  pub lent-known : {masks owner u tags : List ℕ} → Lent s masks owner u tags → OpenedWith s c owner
   lent-known l = record { opened = ask .opened; table = l .table; owned = l .owned }
 
   -- within the limits

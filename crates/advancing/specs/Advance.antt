@@ -48,12 +48,16 @@ pub record Advances (s second second′ : List ℕ) (answer : Outcome) : Type 0 
   pub says : saidOutcome answer ≡ advanceSays s
   pub leaves : second′ ≡ left (advanceSays s) (nextState s) second
 
--- what is lent for one tick of many: the masks and their table of owners, room for the layout, and that the second buffer is zero from
--- a place on
-pub record Lent (s second : List ℕ) (used : ℕ) (masks owner u tags : List ℕ) : Type 0 where
+-- what is lent to each tick of many: the state's masks and their table of owners, and room for the layout
+pub record Lent (s masks owner u tags : List ℕ) : Type 0 where
   pub masks-are : masks ≡ masksIn s
   pub table : Table owner
   pub owned : Owned (sumOnes (masksIn s)) (masksIn s) owner
-  pub clean : ZeroFrom used second
   pub u-long : length u ≡ nodesRoom
   pub tags-long : length tags ≡ nodesRoom
+
+-- a close with that, into a second buffer that is zero from a place on
+pub record LentAsk (s second : List ℕ) (c : Counts) (used : ℕ) (masks owner u tags : List ℕ) : Type 0 where
+  pub ask : AdvanceAsk s second c
+  pub lent : Lent s masks owner u tags
+  pub clean : ZeroFrom used second

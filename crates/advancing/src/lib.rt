@@ -1,7 +1,7 @@
 // A tick that is done is closed: the slots and nodes of the new layout are counted, and only where they are within the limits the next
 // state is put into the second buffer.
 ghost use Rattle.counting.specs.OpenedWith.{OpenedWith};
-ghost use Rattle.advancing.specs.Advance.{NextFound, AdvanceAsk, Advances, Lent};
+ghost use Rattle.advancing.specs.Advance.{NextFound, AdvanceAsk, Advances, LentAsk};
 use answers::Outcome;
 use answers::Refusal;
 use counting::Totals;
@@ -78,7 +78,7 @@ pub fn advance_lent(
     u: &mut [u8],
     tags: &mut [u32],
 ) -> Outcome
-    requires { ⌜ AdvanceAsk (now state) (now second) c × Lent (now state) (now second) used (now masks) (now owner) (now u) (now tags) ⌝ }
+    requires { ⌜ LentAsk (now state) (now second) c used (now masks) (now owner) (now u) (now tags) ⌝ }
     ensures { λ r. ⌜ Advances (now (state .entry)) (now (second .entry)) (now (second .exit)) r ⌝ }
 {
     let next = find_next(state, c, owner);

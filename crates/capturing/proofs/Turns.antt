@@ -17,8 +17,6 @@ use Rattle.answers.specs.declared.Verdict.{Verdict}
 use Rattle.answers.specs.declared.Verdict.the-variants.{Pending}
 use Rattle.answers.specs.Said.{Said, accepted, left, numberOf, verdictNumber, saidOutcome}
 use Rattle.answers.proofs.Answers.{number-some, left-accepted}
-use Rattle.masks.specs.Masks.{sumOnes}
-use Rattle.scores.specs.Owned.{Owned}
 use Rattle.state.specs.declared.Counts.{Counts}
 use Rattle.state.specs.Form.{Formed}
 use Rattle.state.specs.Fields.{masksIn}
@@ -31,6 +29,7 @@ use Rattle.checked.proofs.Checked.{checked}
 use Rattle.keeping.proofs.Finished.{unfinished-pending}
 use Rattle.storing.specs.Stores.{ZeroFrom}
 use Rattle.storing.proofs.Zeros.{zero-none, zero-later}
+use Rattle.advancing.proofs.Advancing.{lent-same}
 use Rattle.course.specs.Course.{Course, stopped, oneMore, coursed}
 use Rattle.course.specs.Ticked.{tickSays, closedTo}
 use Rattle.course.proofs.Closing.{ClosedTick, closed-tick}
@@ -88,16 +87,7 @@ module _ {s₀ events s second : List ℕ} {c : Counts} {used closed : ℕ} (w :
 
   pub turn-asks : {c₀ : Counts} {second₀ second′ masks owner u₀ tags₀ u tags : List ℕ} → RunAsk s₀ c₀ second₀ masks owner u₀ tags₀ → second′ ≡ s → length u ≡ length u₀ → length tags ≡ length tags₀
       → TickAsk s c second′ masks owner u tags
-  turn-asks {owner = owner} r e a b =
-      record {
-        going = w .going;
-        copied = e;
-        masks-are = r .masks-are ∙ sym (w .masks);
-        table = r .table;
-        owned = subst (λ (m : List ℕ). Owned (sumOnes m) m owner) (sym (w .masks)) (r .owned);
-        u-long = a ∙ r .u-long;
-        tags-long = b ∙ r .tags-long;
-      }
+  turn-asks r e a b = record { going = w .going; copied = e; lent = lent-same (r .lent) (w .masks) a b }
 
   -- what stands in the state ends within it
   pub turn-inside : endOf c ≤ length s

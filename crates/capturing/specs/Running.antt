@@ -3,13 +3,10 @@ use mathlib.Core.Path.{_≡_}
 use mathlib.Core.List.{List}
 use Prim.Native.Nat.{ℕ}
 use lib.ListN.{length, replicate}
-use Rattle.limits.specs.Limits.{nodesRoom}
-use Rattle.masks.specs.Masks.{sumOnes}
-use Rattle.scores.specs.Owned.{Table, Owned}
 use Rattle.state.specs.declared.Counts.{Counts}
 use Rattle.state.specs.Form.{formIn, stateLength}
-use Rattle.state.specs.Fields.{masksIn}
 use Rattle.storing.specs.Stores.{ZeroFrom}
+use Rattle.advancing.specs.Advance.{Lent}
 use Rattle.giving.specs.Give.{GoingOn}
 use Rattle.capturing.specs.declared.Captured.{Captured}
 use Rattle.capturing.specs.declared.running.Ran.{Ran}
@@ -21,14 +18,10 @@ pub record RunningAsk (s : List ℕ) (c : Counts) (second : List ℕ) : Type 0 w
   pub going : GoingOn s c
   pub long : length second ≡ stateLength (formIn s)
 
--- the same, with the masks, their table of owners and the room that each tick is lent
+-- the same, with what each tick is lent
 pub record RunAsk (s : List ℕ) (c : Counts) (second masks owner u tags : List ℕ) : Type 0 where
   pub ask : RunningAsk s c second
-  pub masks-are : masks ≡ masksIn s
-  pub table : Table owner
-  pub owned : Owned (sumOnes (masksIn s)) (masksIn s) owner
-  pub u-long : length u ≡ nodesRoom
-  pub tags-long : length tags ≡ nodesRoom
+  pub lent : Lent s masks owner u tags
 
 -- what the run comes to; the second buffer is zero from a place on
 pub record Runs (s events s′ second′ : List ℕ) (r : Ran) : Type 0 where

@@ -12,6 +12,7 @@ use Rattle.state.specs.Form.{formIn, stateLength}
 use Rattle.state.specs.Fields.{ticksIn}
 use Rattle.state.specs.Calls.{finishedIn, doneIn, closeSays, closeLeaves}
 use Rattle.state.specs.Opened.{Opened}
+use Rattle.storing.specs.Stores.{ZeroFrom}
 use Rattle.advancing.specs.Advance.{Lent}
 
 -- whether a tick can be closed: it is done, and the ticks can be counted on
@@ -23,9 +24,10 @@ pub record Closes (s second second′ : List ℕ) (answer : Outcome) : Type 0 wh
   pub says : saidOutcome answer ≡ closeSays s (length second)
   pub leaves : second′ ≡ closeLeaves s second
 
--- what a close with room that is lent asks: a watch that goes on, the second buffer's length, its zeros, and the room
-pub record LentAsk (s : List ℕ) (c : Counts) (second : List ℕ) (used : ℕ) (masks owner u tags : List ℕ) : Type 0 where
+-- what a close asks that has its room lent: a watch that goes on, the second buffer's length, and that it is zero from a place on
+pub record CloseLentAsk (s : List ℕ) (c : Counts) (second : List ℕ) (used : ℕ) (masks owner u tags : List ℕ) : Type 0 where
   pub opened : Opened s c
   pub going : finishedIn s ≡ false
   pub long : length second ≡ stateLength (formIn s)
-  pub lent : Lent s second used masks owner u tags
+  pub lent : Lent s masks owner u tags
+  pub clean : ZeroFrom used second

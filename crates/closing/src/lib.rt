@@ -6,7 +6,7 @@ ghost use Rattle.answers.specs.Said.{saidOutcome};
 ghost use Rattle.state.specs.Form.{formIn, stateLength};
 ghost use Rattle.state.specs.Calls.{finishedIn};
 ghost use Rattle.state.specs.Opened.{Opened};
-ghost use Rattle.closing.specs.Close.{overSays, Closes, LentAsk};
+ghost use Rattle.closing.specs.Close.{overSays, Closes, CloseLentAsk};
 use answers::Outcome;
 use answers::Refusal;
 use opening::Opening;
@@ -53,7 +53,7 @@ pub fn close_lent(
     u: &mut [u8],
     tags: &mut [u32],
 ) -> Outcome
-    requires { ⌜ LentAsk (now state) c (now second) used (now masks) (now owner) (now u) (now tags) ⌝ }
+    requires { ⌜ CloseLentAsk (now state) c (now second) used (now masks) (now owner) (now u) (now tags) ⌝ }
     ensures { λ r. ⌜ Closes (now (state .entry)) (now (second .entry)) (now (second .exit)) r ⌝ }
 {
     let ready = over(state, c);

@@ -25,17 +25,13 @@ use Rattle.state.specs.Calls.{sampleSays, sampleLeaves, stepSays, stepLeaves}
 use Rattle.taking.specs.Sample.{Samples}
 use Rattle.settling.specs.Step.{StepsSlot}
 use Rattle.course.specs.Given.{After, after, follow, sampledFrom, steppedBelow, takenBy, givenUnder}
+use Rattle.course.proofs.Following.{follow-accepted, follow-refused}
 use Rattle.giving.specs.Give.{passing, givenPassing, Comes}
 use Rattle.giving.proofs.Kept.{refused-left}
 
 -- ---- what follows a call
 follow-done : (s : List ℕ) (next : List ℕ → After) → follow (after (accepted []) s) next ≡ next s
-unfolding follow pick
-follow-done s next = refl
-
-follow-refused : (why : Refusal) (s : List ℕ) (next : List ℕ → After) → follow (after (refused (numberOf why)) s) next ≡ after (refused (numberOf why)) s
-unfolding follow pick
-follow-refused why s next = let z = number-some why in rw (ne-eqb (numberOf why) 0 (λ e. omega arith))
+follow-done s next = follow-accepted (after (accepted []) s) next refl
 
 -- what the last call has answered and left, as it was answered
 comes-as : (a : After) (s : List ℕ) (x y : Outcome) → x ≡ y → Comes a s x → a ≡ after (saidOutcome y) s
@@ -48,7 +44,9 @@ pub comes-ends : (a : After) (s : List ℕ) (next : List ℕ → After) (x : Out
     → Comes (follow a next) s x
 comes-ends a s next x why e c =
     let q = comes-as a s x (Refused why) e c in
-    let f : follow a next ≡ a = ap (λ (b : After). follow b next) q ∙ follow-refused why s next ∙ sym q in
+    let n = number-some why in
+    let z : a .says .number ≡ numberOf why = ap (λ (b : After). b .says .number) q in
+    let f : follow a next ≡ a = follow-refused a next (omega arith) in
     record { says = c .says ∙ sym (ap (λ (b : After). b .says) f); leaves = c .leaves ∙ sym (ap (λ (b : After). b .leaves) f) }
 
 pub comes-by : (a b : After) (s : List ℕ) (x : Outcome) → a ≡ b → Comes a s x → Comes b s x

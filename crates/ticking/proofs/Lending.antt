@@ -1,14 +1,12 @@
 -- What a tick lends to its close: the state is zero behind its nodes (`state-zeros`), and where the event was given the copy has the
 -- state's masks (`given-lent`). Assumes nothing.
-use mathlib.Core.Path.{_≡_, sym, ap, ap₂, subst, _∙_}
+use mathlib.Core.Path.{_≡_, refl, sym, ap, ap₂, _∙_}
 use mathlib.Core.Bool.{true}
 use mathlib.Core.List.{List}
 use Prim.Native.Nat.{ℕ, _+_, _≤_}
 use native.Mathlib.Omega.{arith}
 use lib.ListN.{length, drop}
 use Rattle.answers.specs.Said.{Said}
-use Rattle.masks.specs.Masks.{sumOnes}
-use Rattle.scores.specs.Owned.{Owned}
 use Rattle.state.specs.declared.Counts.{Counts}
 use Rattle.state.specs.Form.{formIn, stateLength, nodesAt}
 use Rattle.state.specs.Fields.{masksIn}
@@ -20,8 +18,8 @@ use Rattle.records.proofs.Opened.{opened-sized}
 use Rattle.checked.proofs.Checked.{checked}
 use Rattle.storing.specs.Stores.{ZeroFrom}
 use Rattle.storing.proofs.Zeros.{zero-of}
-use Rattle.advancing.specs.Advance.{Lent}
-use Rattle.closing.specs.Close.{LentAsk}
+use Rattle.advancing.proofs.Advancing.{lent-same}
+use Rattle.closing.specs.Close.{CloseLentAsk}
 use Rattle.course.specs.Given.{givenUnder}
 use Rattle.course.specs.Ticked.{tickLeaves}
 use Rattle.course.proofs.Given.{TickGiven, outside, sampled, stepped, given-comes}
@@ -65,18 +63,6 @@ module _ {s second masks owner u tags : List ℕ} {c : Counts} (ask : TickAsk s 
       let ok : stateOk (tickLeaves s event) ≡ true = ap stateOk (sym is) ∙ g .opened .passes in
       ap masksIn is ∙ masks-same (given-framed s event (given-comes s (o .opened .passes) (o .unfinished) event) number ok)
 
-  pub given-lent : length s ≡ stateLength (formIn t) → {u′ tags′ : List ℕ} → length u′ ≡ length u → length tags′ ≡ length tags → LentAsk t c s (endOf c) masks owner u′ tags′
-  given-lent long a b =
-      record {
-        opened = g .opened;
-        going = g .unfinished;
-        long = long;
-        lent = record {
-          masks-are = ask .masks-are ∙ sym same-masks;
-          table = ask .table;
-          owned = subst (λ (m : List ℕ). Owned (sumOnes m) m owner) (sym same-masks) (ask .owned);
-          clean = state-zeros (ask .going);
-          u-long = a ∙ ask .u-long;
-          tags-long = b ∙ ask .tags-long;
-        };
-      }
+  pub given-lent : length s ≡ stateLength (formIn t) → CloseLentAsk t c s (endOf c) masks owner u tags
+  given-lent long =
+      record { opened = g .opened; going = g .unfinished; long = long; lent = lent-same (ask .lent) same-masks refl refl; clean = state-zeros (ask .going) }

@@ -27,14 +27,14 @@ pub advance-lent-spec : {M : Type 1} → statement M
 advance-lent-spec =
     tie.close
     (tie.spec
-    (λ c κs. let p = lent c .pre in lent-known (p .0) (p .1))
+    (λ c κs. let p = lent c .pre in lent-known (p .ask) (p .lent))
     (λ c. search needs)
     (λ c. search needs)
-    (λ c κs. let w = within c in let k = counted w in let p = entry k .pre in let l = p .1 in
-    next-ask (p .0) (found k (w .before .next2 .given .1)) (l .clean) (l .masks-are) (lent-known (p .0) l) (l .u-long) (l .tags-long))
-    (λ c. let k = c .before .before .before in advanced-refused (entry k .pre .0) _ (found k (c .before .next .given .1)))
+    (λ c κs. let w = within c in let k = counted w in let p = entry k .pre in let l = p .lent in
+    next-ask (p .ask) (found k (w .before .next2 .given .1)) (p .clean) (l .masks-are) (lent-known (p .ask) l) (l .u-long) (l .tags-long))
+    (λ c. let k = c .before .before .before in advanced-refused (entry k .pre .ask) _ (found k (c .before .next .given .1)))
     (λ c. search needs)
     (λ c. search needs)
     (λ c. search needs)
     (λ c. let n = c .before .before .before .before .before .before in let w = within (n .before) in let k = counted w in
-    advanced-done (entry k .pre .0) (found k (w .before .next2 .given .1)) (n .put-next .ensures)))
+    advanced-done (entry k .pre .ask) (found k (w .before .next2 .given .1)) (n .put-next .ensures)))

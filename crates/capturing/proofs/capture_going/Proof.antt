@@ -69,7 +69,7 @@ capture-going-spec =
     (λ c. search needs)
     (λ c. search needs)
     (λ c κs. let w = lent c in let m = masked w in let o = opened w in
-    record { ask = entry m .pre; masks-are = masks-are m; table = o .table; owned = o .owned; u-long = refl; tags-long = refl })
+    record { ask = entry m .pre; lent = record { masks-are = masks-are m; table = o .table; owned = o .owned; u-long = refl; tags-long = refl } })
     (λ c. ran c .run .ensures .zeros .inside)
     (λ c. sym (length-take-le _ _ (ran (c .before) .run .ensures .zeros .inside)))
     (λ c κs. search needs)

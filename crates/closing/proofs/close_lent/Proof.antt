@@ -37,7 +37,7 @@ close-lent-spec =
     (λ c. search needs)
     (λ c. let d = c .before .before in refused-over (going d) _ _ (c .enum-told2 .given .1) (d .over .ensures))
     (λ c κs. let d = handed c in let p = entry (asked d) .pre in
-    (record { opened = p .opened; counted = over-passed _ (ready d) .1; long = p .long }, p .lent))
+    record { ask = record { opened = p .opened; counted = over-passed _ (ready d) .1; long = p .long }; lent = p .lent; clean = p .clean })
     (λ c. search needs)
     (λ c. search needs)
     (λ c. search needs)

@@ -1,5 +1,5 @@
 -- Giving refuses, or what it has left is closed back into the state: one law of proofs/Outcomes.antt for each. Assumes nothing.
-use mathlib.Core.Path.{_≡_, refl, sym, ap, subst, _∙_}
+use mathlib.Core.Path.{_≡_, sym, ap, subst, _∙_}
 use mathlib.Core.List.{List}
 use Prim.Native.Nat.{ℕ, _≤_}
 use native.Mathlib.Omega.{arith}
@@ -55,7 +55,7 @@ tick-spec =
     (λ c. let d = c .before .before .before .before in tick-refused _ _ _ _ (gives d .comes) _ (c .enum-told2 .given .1) (long d) (zeros d))
     (λ c. let d = given (c .before .before .before) in let i = inside d in let l = entry d .fits in omega arith)
     (λ c κs. let e = taken c in let d = given e in let g = gives d in
-    given-lent (entry d .pre) _ (given-leaves _ _ _ _ (g .comes) (e .enum-told .given .1)) (given-number _ _ _ _ (g .comes) (e .enum-told .given .1)) (g .going (e .enum-told .given .1)) (long d) refl refl)
+    given-lent (entry d .pre) _ (given-leaves _ _ _ _ (g .comes) (e .enum-told .given .1)) (given-number _ _ _ _ (g .comes) (e .enum-told .given .1)) (g .going (e .enum-told .given .1)) (long d))
     (λ c. search needs)
     (λ c. search needs)
     (λ c. search needs)
