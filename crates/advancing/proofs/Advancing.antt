@@ -11,7 +11,7 @@ use Rattle.answers.specs.declared.Refusal.the-variants.{Slots, Nodes}
 use Rattle.answers.specs.declared.Outcome.the-variants.{Refused, Done}
 use Rattle.answers.specs.Said.{Said, accepted, refused, left, numberOf}
 use Rattle.answers.proofs.Answers.{left-refused, left-accepted, order-ok, order-refused, order-done}
-use Rattle.limits.specs.Limits.{boardsMost, nodesRoom}
+use Rattle.limits.specs.Limits.{nodesRoom}
 use Rattle.masks.specs.Masks.{sumOnes}
 use Rattle.state.specs.declared.Counts.{Counts}
 use Rattle.state.specs.Form.{formIn, slotsMost, nodesMost}

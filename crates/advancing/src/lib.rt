@@ -18,7 +18,7 @@ pub enum NextLayout {
 }
 
 // Counts the layout that a tick closes to: 7 and 8 by the whole of it, however large.
-pub fn find_next(state: &[u8], c: Counts, owner: &[u8]) -> NextLayout
+fn find_next(state: &[u8], c: Counts, owner: &[u8]) -> NextLayout
     requires { ⌜ OpenedWith (now state) c (now owner) ⌝ }
     ensures { λ r. ⌜ NextFound (now (state .entry)) r ⌝ }
 {

@@ -15,7 +15,7 @@ use Rattle.capturing.specs.declared.CaptureAnswer.the-variants as said
 use Rattle.capturing.specs.Capture.{valuesOf, saidCapture, Captures}
 
 -- the outcomes of one number are the same
-outcome-injective : (a b : Outcome) → saidOutcome a .number ≡ saidOutcome b .number → a ≡ b
+pub outcome-injective : (a b : Outcome) → saidOutcome a .number ≡ saidOutcome b .number → a ≡ b
 outcome-injective (Refused x) (Refused y) e = ap Refused (number-injective x y e)
 outcome-injective (Refused x) Done e = let z = number-some x in absurd (omega arith)
 outcome-injective Done (Refused y) e = let z = number-some y in absurd (omega arith)

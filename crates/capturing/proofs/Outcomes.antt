@@ -1,8 +1,8 @@
 -- The ways out of the call: each refusal (`capture-length`, `capture-state`, `capture-finished`), and what a run comes to (`ran-all`,
 -- `capture-ran`). Assumes nothing.
-use mathlib.Core.Path.{_≡_, refl, sym, ap, ap₂, _∙_}
+use mathlib.Core.Path.{_≡_, sym, ap, ap₂, _∙_}
 use mathlib.Core.Bool.{true, false, not}
-use mathlib.Core.List.{List, [], _∷_, _++_}
+use mathlib.Core.List.{List, _++_}
 use Prim.Native.Nat.{ℕ, _+_, _-_}
 use native.Mathlib.Omega.{arith}
 use lib.ListN.{length, take, drop, replicate, replicate-append-replicate}
@@ -16,7 +16,6 @@ use Rattle.answers.proofs.Answers.{left-accepted, left-refused, order-ok, order
 use Rattle.state.specs.Form.{formIn, stateLength}
 use Rattle.state.specs.Clauses.{stateOk}
 use Rattle.state.specs.Calls.{finishedIn}
-use Rattle.storing.specs.Stores.{ZeroFrom}
 use Rattle.course.specs.Course.{coursed}
 use Rattle.capturing.specs.declared.Captured.{Captured}
 use Rattle.capturing.specs.declared.running.Ran.{Ran}

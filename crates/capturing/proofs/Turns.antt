@@ -26,16 +26,16 @@ use Rattle.state.specs.Counted.{Header}
 use Rattle.state.specs.Opened.{Opened}
 use Rattle.records.proofs.Opened.{opened-sized}
 use Rattle.checked.proofs.Checked.{checked}
+use Rattle.keeping.proofs.Refused.{refused-leaves}
 use Rattle.keeping.proofs.Finished.{unfinished-pending}
 use Rattle.storing.specs.Stores.{ZeroFrom}
 use Rattle.storing.proofs.Zeros.{zero-none, zero-later}
 use Rattle.advancing.proofs.Advancing.{lent-same}
-use Rattle.course.specs.Course.{Course, stopped, oneMore, coursed}
+use Rattle.course.specs.Course.{Course, stopped, coursed}
 use Rattle.course.specs.Ticked.{tickSays, closedTo}
 use Rattle.course.proofs.Closing.{ClosedTick, closed-tick}
 use Rattle.course.proofs.Coursing.{coursed-end, coursed-finished, coursed-refused, coursed-more}
 use Rattle.giving.specs.Give.{GoingOn}
-use Rattle.giving.proofs.Kept.{refused-left}
 use Rattle.ticking.specs.Tick.{TickAsk, TicksOnce}
 use Rattle.ticking.proofs.Lending.{endOf, ends-inside, state-zeros}
 use Rattle.capturing.specs.Capture.{told}
@@ -115,7 +115,7 @@ module _ {s₀ events s second : List ℕ} {c : Counts} {used closed : ℕ} (w :
         let some : 0 < tickSays s event .number = omega arith in
         let q : coursed s₀ events ≡ later closed (stopped (tickSays s event .number) s) =
         w .course ∙ ap (λ (es : List ℕ). later closed (coursed s es)) (events-left l) ∙ ap (later closed) (coursed-refused s event (drop (closed + 1) events) (w .going .unfinished) some) in
-        let stays : s′ ≡ s = t .leaves ∙ refused-left (tickSays s event) (closedTo s event) s why (sym (t .says) ∙ ap saidOutcome e) in (
+        let stays : s′ ≡ s = t .leaves ∙ refused-leaves why (tickSays s event) (closedTo s event) s (sym (ap saidOutcome e) ∙ t .says) in (
           sym
               (ap told q
               ∙ ap₂ (λ (i : ℕ) (v : Verdict). i ∷ verdictNumber v ∷ tickSays s event .number ∷ []) (add-zero closed) (unfinished-pending s (w .going .unfinished))

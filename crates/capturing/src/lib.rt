@@ -2,7 +2,6 @@
 // samples, steps and closes made one at a time, and leaves the last closed state. The state is checked once.
 mod running;
 
-ghost use Rattle.state.specs.Form.{formIn, stateLength};
 ghost use Rattle.capturing.specs.Capture.{Captures};
 ghost use Rattle.capturing.specs.Running.{RunningAsk, RanAll};
 use answers::Outcome;

@@ -14,7 +14,7 @@ use state::Counts;
 use state::Form;
 
 // Whether the tick of a state that was opened can be closed: it is done, and the ticks can be counted on.
-pub fn over(state: &[u8], c: Counts) -> Outcome
+fn over(state: &[u8], c: Counts) -> Outcome
     requires { ⌜ Opened (now state) c ⌝ }
     ensures { λ r. ⌜ saidOutcome r ≡ overSays (now (state .entry)) ⌝ }
 {

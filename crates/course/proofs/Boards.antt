@@ -5,11 +5,11 @@ use mathlib.Core.Path.{_≡_, refl, sym, ap, _∙_, subst}
 use mathlib.Core.Bool.{true, false, not}
 use mathlib.Core.List.{List, []}
 use mathlib.Core.Logic.{⊎-elim}
-use Prim.Native.Nat.{ℕ, zero, suc, _+_, _/_, _%_, _<_, _≤_, min}
+use Prim.Native.Nat.{ℕ, zero, suc, _+_, _<_, _≤_}
 use native.Mathlib.Decide.{ℕ-discrete}
 use native.Mathlib.Nat.{eq-or-lt-of-le}
 use native.Mathlib.Omega.{arith}
-use lib.Bits.{bitAnd, and-step}
+use lib.Bits.{bitAnd}
 use borrow.Author.Tests.{eq-eqb, ne-eqb, lt-ltb}
 use Rattle.answers.specs.Said.{accepted, refused}
 use Rattle.answers.proofs.Answers.{order-ok, order-refused}
@@ -22,6 +22,7 @@ use Rattle.state.proofs.Sampled.{sample-framed, sample-slot, sample-other-flag,
 use Rattle.records.proofs.Each.{each-false}
 use Rattle.checked.proofs.Checked.{each-of}
 use Rattle.checked.proofs.Passing.{countsIn, passing-sized, passing-stretched}
+use Rattle.keeping.proofs.Sampling.{and-twice}
 use Rattle.keeping.proofs.Calls.{accepted-leaves, sample-accepted}
 use Rattle.keeping.proofs.Kept.{sample-kept}
 use Rattle.course.specs.Given.{After, sampledFrom}
@@ -30,17 +31,8 @@ use Rattle.course.proofs.Following.{partOf, sampled-done, sampled-more,
 use Rattle.course.proofs.Frames.{framed-none, framed-then}
 
 -- ---- a board's part of an event is in its mask
-part-twice : (n e m : ℕ) → e ≤ n → bitAnd (bitAnd e m) m ≡ bitAnd e m
-part-twice zero e m l = let z : e ≡ 0 = omega arith in rw z
-part-twice (suc n) e m l =
-    let a = and-step e m in
-    let half : bitAnd e m / 2 ≡ bitAnd (e / 2) (m / 2) = omega arith in
-    let low : bitAnd e m % 2 ≡ min (e % 2) (m % 2) = omega arith in
-    let high = ap (λ (x : ℕ). bitAnd x (m / 2)) half ∙ part-twice n (e / 2) (m / 2) (omega arith) in
-    omega (arith, and-step (bitAnd e m) m)
-
 part-inside : (e m : ℕ) → inMask (bitAnd e m) m ≡ true
-part-inside e m = eq-eqb _ _ (part-twice e e m (omega arith))
+part-inside e m = eq-eqb _ _ (and-twice e m)
 
 -- ---- the boards below i have sampled, those from i on and all slots are as in s
 pub record SampledTo (s t : List ℕ) (i : ℕ) : Type 0 where

@@ -8,7 +8,7 @@ use Rattle.watching.specs.Watch.{Calls, none, sample, step}
 use Rattle.watching.specs.Claims.{Accepted}
 use Rattle.demand.specs.Called.{Called, nothing, sampled, stepped, asked, closed, load-refused, close-refused, write-refused, central-refused, read-refused, capture-refused, capture-second-refused}
 use Rattle.demand.specs.Claims.{AllAccepted}
-use Rattle.demand.proofs.Refused.{refused-leaves}
+use Rattle.keeping.proofs.Refused.{refused-leaves}
 
 pub called : {s t : List ℕ} → Called s t → Calls s t
 called nothing = none

@@ -32,7 +32,8 @@ use Rattle.demand.proofs.Demand.{demanded}
 use Rattle.demand.proofs.Coursed.{coursed-watched}
 use Rattle.demand.proofs.Stopping.{watched-stops}
 use Rattle.demand.proofs.Singly.{singly-coursed}
-use Rattle.demand.proofs.Capturing.{outcome-same, captured-where, capture-passed, may-length}
+use Rattle.capturing.proofs.Determined.{outcome-injective}
+use Rattle.demand.proofs.Capturing.{captured-where, capture-passed, may-length}
 
 -- ---- of a watch
 module _ {file : List ℕ} {us : List Event} {s : List ℕ} (w : Watched file us s) {second events s′ second′ : List ℕ} {c : Captured} (x : Captures s second events s′ second′ (said.Captured c)) where
@@ -74,6 +75,6 @@ captured-singly {c = c} x closed answer last y =
     let e = singly-coursed (p .may .passes) (may-length (p .may)) y in
     let r = p .ran in (
       ap (λ (q : Course). q .closed) r ∙ sym (e .0),
-      outcome-same (c .stop) answer (ap (λ (q : Course). q .refusal) r ∙ sym (e .1)),
+      outcome-injective (c .stop) answer (ap (λ (q : Course). q .refusal) r ∙ sym (e .1)),
       ap (λ (q : Course). q .leaves) r ∙ sym (e .2),
     )

@@ -25,10 +25,10 @@ use Rattle.capturing.specs.declared.Captured.{Captured}
 use Rattle.capturing.specs.declared.CaptureAnswer.{CaptureAnswer}
 use Rattle.capturing.specs.declared.CaptureAnswer.the-variants as said
 use Rattle.capturing.specs.Capture.{Captures}
-use Rattle.capturing.proofs.Determined.{captures-determined}
+use Rattle.capturing.proofs.Determined.{outcome-injective, captures-determined}
 use Rattle.watching.proofs.Asking.{pending-unfinished}
 use Rattle.demand.specs.Capturing.{MayCapture, ranTo, RanThrough, Splits}
-use Rattle.demand.proofs.Capturing.{outcome-same, CaptureCase, may-run, not-run, capture-case, may-refused, captured-where, CapturePassed, capture-passed, capture-of}
+use Rattle.demand.proofs.Capturing.{CaptureCase, may-run, not-run, capture-case, may-refused, captured-where, CapturePassed, capture-passed, capture-of}
 
 -- ---- a run that goes on, and one that does not
 -- it came to its end without a verdict
@@ -86,7 +86,7 @@ module _ {s second xs t r : List ℕ} where
       go true e =
           let z = ap (λ (q : Course). q .refusal) (p .ran) ∙ eqb-true _ _ (both-0 _ _ e) in
           let f = ap (λ (q : Course). finishedIn (q .leaves)) (p .ran) ∙ not-true _ (both-1 _ _ e) in
-          absurd (stopped (record { accepts = refl; stops = outcome-same (c .stop) Done z; pending = p .verdict ∙ unfinished-pending t f }))
+          absurd (stopped (record { accepts = refl; stops = outcome-injective (c .stop) Done z; pending = p .verdict ∙ unfinished-pending t f }))
 
 pub captured-split : {s second xs ys s′ second′ t r : List ℕ} {a b : CaptureAnswer} → Captures s second (xs ++ ys) s′ second′ a → Captures s second xs t r b → Splits ys s′ second′ a t r b
 captured-split {s} {second} {xs} {ys} {s′} {second′} {t} {r} {a} {b} x y =

@@ -11,11 +11,10 @@ use lib.ListN.{length, getD, replicate}
 use borrow.Author.Tests.{eq-eqb}
 use Rattle.answers.specs.declared.Refusal.{Refusal}
 use Rattle.answers.specs.declared.Refusal.the-variants.{Length, State, Finished}
-use Rattle.answers.specs.declared.Outcome.{Outcome}
-use Rattle.answers.specs.declared.Outcome.the-variants.{Refused, Done}
+use Rattle.answers.specs.declared.Outcome.the-variants.{Refused}
 use Rattle.answers.specs.declared.Verdict.{Verdict}
 use Rattle.answers.specs.Said.{Said, accepted, refused, left, verdictNumber, saidOutcome}
-use Rattle.answers.proofs.Answers.{number-some, verdict-injective, saidOutcome-injective, left-accepted, order-ok, order-done}
+use Rattle.answers.proofs.Answers.{number-some, verdict-injective, left-accepted, order-ok, order-done}
 use Rattle.state.specs.Form.{formIn, stateLength}
 use Rattle.state.specs.Clauses.{stateOk}
 use Rattle.state.specs.Calls.{finishedIn, verdictIn}
@@ -30,14 +29,6 @@ use Rattle.capturing.proofs.Determined.{captures-determined}
 use Rattle.demand.specs.Capturing.{MayCapture, ranTo}
 use Rattle.demand.proofs.Singly.{singly-coursed}
 use Rattle.demand.proofs.SinglyMade.{singly-exists}
-
--- ---- outcomes by their numbers
-outcome-said : (a : Outcome) → saidOutcome a ≡ refused (saidOutcome a .number)
-outcome-said (Refused why) = refl
-outcome-said Done = refl
-
-pub outcome-same : (a b : Outcome) → saidOutcome a .number ≡ saidOutcome b .number → a ≡ b
-outcome-same a b e = saidOutcome-injective a b (outcome-said a ∙ ap refused e ∙ sym (outcome-said b))
 
 -- ---- where it is accepted
 -- it may run, or it is refused and leaves both buffers, whatever the events are

@@ -25,7 +25,7 @@ use Rattle.watching.proofs.InTick.{InTick, boards-kept}
 use Rattle.watching.proofs.Started.{Started, started-laid}
 use Rattle.watching.proofs.Ticked.{started-in-tick}
 use Rattle.demand.specs.Called.{Called, nothing, sampled, stepped, asked, closed, load-refused, close-refused, write-refused, central-refused, read-refused, capture-refused, capture-second-refused, Gave, GivenBy}
-use Rattle.demand.proofs.Refused.{refused-not-done, refused-leaves}
+use Rattle.keeping.proofs.Refused.{refused-not-done, refused-leaves}
 use Rattle.demand.proofs.Calls.{called}
 use Rattle.demand.proofs.Getting.{done-boards}
 

@@ -1,6 +1,5 @@
 -- From the calls' promises to a watch over their definitions, and the third demand.
 pub mod Loaded
-pub mod Refused
 pub mod Calls
 pub mod Given
 pub mod Watches

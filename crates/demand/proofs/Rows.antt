@@ -29,7 +29,7 @@ use Rattle.capturing.proofs.Outcomes.{capture-length, capture-state}
 use Rattle.stars.proofs.States.{LoadGives, SampleGives, StepGives, CloseGives, LoadRefuses, CloseRefuses, AskGives}
 use Rattle.demand.specs.Called as call
 use Rattle.demand.specs.Called.{Called, GivenBy, SameGiven, Ticked, Watched}
-use Rattle.demand.proofs.Refused.{refused-not-done, refused-leaves}
+use Rattle.keeping.proofs.Refused.{refused-not-done, refused-leaves}
 
 -- some buffer of a form's length
 abbrev pub buffer : Form → List ℕ

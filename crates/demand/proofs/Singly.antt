@@ -31,7 +31,7 @@ use Rattle.course.proofs.Closing.{tick-stepped, closed-tick}
 use Rattle.course.proofs.Coursing.{coursed-end, coursed-finished, coursed-refused, coursed-more}
 use Rattle.demand.specs.Stopping.{covers}
 use Rattle.demand.specs.Singly.{SampledSingly, no-board, sample-refused, sample-then, SteppedSingly, no-slot, step-refused, step-then, TickedSingly, outside, in-samples, in-steps, in-close, RunSingly, no-event, finished, tick-refused, tick-then}
-use Rattle.demand.proofs.Refused.{refused-leaves}
+use Rattle.keeping.proofs.Refused.{refused-leaves}
 use Rattle.demand.proofs.Ticking.{given-outside}
 
 -- ---- the samples and the steps

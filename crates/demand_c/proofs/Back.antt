@@ -7,7 +7,7 @@ use Prim.Native.Nat.{ℕ}
 use Rattle.answers.specs.Said.{Said, saidOutcome}
 use Rattle.ltl.specs.Meaning.{Event}
 use Rattle.demand.specs.Called.{Called, nothing, sampled, stepped, asked, closed, load-refused, close-refused, write-refused, central-refused, read-refused, capture-refused, capture-second-refused, Gave, Ticked, Watched, begun, ticked}
-use Rattle.demand.proofs.Refused.{refused-leaves}
+use Rattle.keeping.proofs.Refused.{refused-leaves}
 use Rattle.demand_c.specs.FromC as from
 use Rattle.demand_c.specs.FromC.{CalledFromC, GaveFromC, TickedFromC, WatchedFromC}
 use Rattle.demand_c.proofs.Watches.{zero-done}

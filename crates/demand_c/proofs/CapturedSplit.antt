@@ -14,7 +14,7 @@ use Rattle.capturing.specs.declared.CaptureAnswer.the-variants as capture-said
 use Rattle.capturing.specs.Capture.{saidCapture, Captures}
 use Rattle.exports.specs.Exported.{CaptureExported}
 use Rattle.demand.specs.Capturing.{RanThrough}
-use Rattle.demand.proofs.Capturing.{outcome-same}
+use Rattle.capturing.proofs.Determined.{outcome-injective}
 use Rattle.demand.proofs.CapturedSplit.{captured-split}
 use Rattle.demand_c.specs.Capturing.{StoredC, CapturesFromC, RanThroughC, SplitsFromC}
 use Rattle.demand_c.proofs.Same.{capture-refusal, capture-same}
@@ -72,7 +72,7 @@ module _ {s second events s′ second′ : List ℕ} {x : StoredC} (y : Answered
       let q = sym (y .stored c e) in
       record {
         accepts = e;
-        stops = outcome-same (c .stop) Done (ap (λ (z : StoredC). z .stop) q ∙ h .stops);
+        stops = outcome-injective (c .stop) Done (ap (λ (z : StoredC). z .stop) q ∙ h .stops);
         pending = verdict-injective (c .verdict) Pending (ap (λ (z : StoredC). z .verdict) q ∙ h .pending);
       }
 

@@ -10,7 +10,6 @@ use lib.Bits.{bitAnd, bitOr}
 use lib.ListN.{length, getD, drop, drop-of-length-le}
 use lib.Seq.{drop-cons}
 use borrow.Author.Tests.{ne-eqb, eq-eqb}
-use Rattle.lists.specs.Tests.{pick}
 use Rattle.lists.specs.Listed.{listed}
 use Rattle.answers.specs.declared.Outcome.{Outcome}
 use Rattle.answers.specs.declared.Outcome.the-variants.{Refused, Done}
@@ -25,9 +24,9 @@ use Rattle.state.specs.Calls.{sampleSays, sampleLeaves, stepSays, stepLeaves}
 use Rattle.taking.specs.Sample.{Samples}
 use Rattle.settling.specs.Step.{StepsSlot}
 use Rattle.course.specs.Given.{After, after, follow, sampledFrom, steppedBelow, takenBy, givenUnder}
+use Rattle.keeping.proofs.Refused.{refused-leaves}
 use Rattle.course.proofs.Following.{follow-accepted, follow-refused}
 use Rattle.giving.specs.Give.{passing, givenPassing, Comes}
-use Rattle.giving.proofs.Kept.{refused-left}
 
 -- ---- what follows a call
 follow-done : (s : List ℕ) (next : List ℕ → After) → follow (after (accepted []) s) next ≡ next s
@@ -109,7 +108,7 @@ broken zero s e =
     comes-by _ _ s (Refused State) (sym (follow-done s passing)) (record { says = sym (order-refused 9 (stateOk s) _ _ e); leaves = refl })
 broken (suc k) s e =
     let says : stepSays s k ≡ refused 9 = order-refused 9 (stateOk s) _ _ e in
-    let first : Comes (after (stepSays s k) (stepLeaves s k)) s (Refused State) = record { says = sym says; leaves = sym (refused-left (stepSays s k) _ s State says) } in
+    let first : Comes (after (stepSays s k) (stepLeaves s k)) s (Refused State) = record { says = sym says; leaves = sym (refused-leaves State (stepSays s k) _ s (sym says)) } in
     comes-ends _ s passing (Refused State) State refl (comes-ends _ s (steppedBelow k) (Refused State) State refl first)
 
 -- one that passes

@@ -1,35 +1,26 @@
 -- What giving keeps of a state that goes on: after a call that is refused it is as it was, after a sample it still goes on, and after a step
 -- the slot can be looked at. Assumes nothing.
-use mathlib.Core.Path.{_≡_, refl, sym, ap, subst, _∙_}
-use mathlib.Core.Bool.{true, false}
-use mathlib.Core.List.{List, []}
+use mathlib.Core.Path.{_≡_, sym, ap, subst, _∙_}
+use mathlib.Core.Bool.{false}
+use mathlib.Core.List.{List}
 use Prim.Native.Nat.{ℕ}
-use native.Mathlib.Omega.{arith}
 use Rattle.answers.specs.declared.Outcome.{Outcome}
 use Rattle.answers.specs.declared.Outcome.the-variants.{Refused, Done}
 use Rattle.answers.specs.declared.Refusal.{Refusal}
-use Rattle.answers.specs.Said.{Said, refused, left, numberOf, saidOutcome}
-use Rattle.answers.proofs.Answers.{number-some, left-refused}
+use Rattle.answers.specs.Said.{saidOutcome}
 use Rattle.state.specs.declared.Counts.{Counts}
 use Rattle.state.specs.Fields.{maskIn, boardOfIn}
-use Rattle.state.specs.Clauses.{loneOther, restOk, stateOk}
+use Rattle.state.specs.Clauses.{loneOther}
 use Rattle.state.specs.Bytes.{formulaAt}
-use Rattle.state.specs.Calls.{finishedIn, sampleSays, sampleLeaves, stepSays, stepLeaves}
-use Rattle.state.specs.Opened.{Opened}
+use Rattle.state.specs.Calls.{sampleSays, sampleLeaves, stepSays}
 use Rattle.checked.proofs.Checked.{checked}
 use Rattle.taking.specs.Sample.{Samples}
 use Rattle.settling.specs.Step.{StepsSlot}
+use Rattle.keeping.proofs.Refused.{refused-not-done, refused-leaves}
 use Rattle.keeping.proofs.Kept.{StepKept, sample-kept, step-kept}
 use Rattle.course.specs.Given.{After}
 use Rattle.giving.specs.Give.{Comes, GoingOn, GivesEvent}
 use Rattle.giving.specs.Stray.{SlotReads}
-
-no-done : {A : Type 0} (why : Refusal) (x : Outcome) → x ≡ Refused why → x ≡ Done → A
-no-done why x e f = let z = number-some why in let n : numberOf why ≡ 0 = ap (λ (y : Outcome). saidOutcome y .number) (sym e ∙ f) in absurd (omega arith)
-
--- a refused call leaves what was there
-pub refused-left : (a : Said) (output before : List ℕ) (why : Refusal) → a ≡ refused (numberOf why) → left a output before ≡ before
-refused-left a output before why e = ap (λ (b : Said). left b output before) e ∙ left-refused why output before
 
 -- a watch that goes on, behind the last call
 pub gives-going : {a : After} {s : List ℕ} {c : Counts} {x : Outcome} → GoingOn s c → Comes a s x → GivesEvent a c s x
@@ -48,7 +39,7 @@ module _ {s t : List ℕ} {b bits : ℕ} {x : Outcome} (r : Samples s b bits t x
   pub sampled-same : (why : Refusal) → x ≡ Refused why → t ≡ s
   sampled-same why e =
       let says : sampleSays s b bits ≡ saidOutcome (Refused why) = sym (r .says) ∙ ap saidOutcome e in
-      r .leaves ∙ refused-left _ _ s why says
+      r .leaves ∙ refused-leaves why _ _ s (sym says)
 
   pub sampled-going : {c : Counts} → x ≡ Done → GoingOn s c → GoingOn t c
   sampled-going {c} e g =
@@ -61,7 +52,7 @@ module _ {s t : List ℕ} {k : ℕ} {x : Outcome} (r : StepsSlot s k t x) where
   pub stepped-same : (why : Refusal) → x ≡ Refused why → t ≡ s
   stepped-same why e =
       let says : stepSays s k ≡ saidOutcome (Refused why) = sym (r .says) ∙ ap saidOutcome e in
-      r .leaves ∙ refused-left _ _ s why says
+      r .leaves ∙ refused-leaves why _ _ s (sym says)
 
   pub stepped-kept : {c : Counts} → x ≡ Done → GoingOn s c → StepKept t c k
   stepped-kept {c} e g =
@@ -76,4 +67,4 @@ module _ {t : List ℕ} {c : Counts} {k : ℕ} (n : StepKept t c k) where
 
   -- a slot that strays
   pub strayed : {a : After} (why : Refusal) → Comes a t (Refused why) → GivesEvent a c t (Refused why)
-  strayed why h = record { comes = h; header = n .there .sized .header; rest = n .rest; going = λ e. no-done why _ refl e }
+  strayed why h = record { comes = h; header = n .there .sized .header; rest = n .rest; going = λ e. absurd (refused-not-done why e) }

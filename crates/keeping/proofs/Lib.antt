@@ -1,4 +1,5 @@
 -- What a sample and a step keep of a state that passes its check, and which calls such a state accepts.
+pub mod Refused
 pub mod Parts
 pub mod Slots
 pub mod Once

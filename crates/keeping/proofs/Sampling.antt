@@ -1,15 +1,15 @@
--- A sample that is accepted: its bits are those of a mask (`bits-few`), and the state that it leaves still passes its check
+-- Bits within a mask, taken twice (`and-twice`). A sample that is accepted: its bits are those of a mask (`bits-few`), and the state that it leaves still passes its check
 -- (`sample-passes`). Assumes nothing.
 use mathlib.Core.Path.{_≡_, sym, ap, ap₂, _∙_, subst}
 use mathlib.Core.Bool.{true}
 use mathlib.Core.List.{List}
 use mathlib.Core.Option.{Option}
-use Prim.Native.Nat.{ℕ, _^_, _<_}
+use Prim.Native.Nat.{ℕ, zero, suc, _/_, _%_, _^_, _<_, _≤_, min}
 use native.Mathlib.Nat.{lt-of-lt-of-le}
 use native.Mathlib.Decide.{ℕ-discrete}
 use native.Mathlib.Omega.{arith}
 use lib.Pow.{pow-mono}
-use lib.Bits.{bitAnd, and-le-r}
+use lib.Bits.{bitAnd, and-step, and-le-r}
 use borrow.Author.Tests.{eqb-true, eq-eqb, le-leb}
 use Rattle.lists.specs.Tests.{either}
 use Rattle.lists.proofs.Tests.{both-true}
@@ -29,6 +29,19 @@ use Rattle.checked.proofs.Passing.{passing, passing-sized, passing-stretched}
 use Rattle.checked.proofs.Holders.{times}
 use Rattle.keeping.proofs.Once.{held-once}
 use Rattle.keeping.proofs.Slots.{same-reads, same-record, same-formula}
+
+-- a number's bits within a mask, taken twice
+within-twice : (n e m : ℕ) → e ≤ n → bitAnd (bitAnd e m) m ≡ bitAnd e m
+within-twice zero e m l = let z : e ≡ 0 = omega arith in rw z
+within-twice (suc n) e m l =
+    let a = and-step e m in
+    let half : bitAnd e m / 2 ≡ bitAnd (e / 2) (m / 2) = omega arith in
+    let low : bitAnd e m % 2 ≡ min (e % 2) (m % 2) = omega arith in
+    let high = ap (λ (x : ℕ). bitAnd x (m / 2)) half ∙ within-twice n (e / 2) (m / 2) (omega arith) in
+    omega (arith, and-step (bitAnd e m) m)
+
+pub and-twice : (e m : ℕ) → bitAnd (bitAnd e m) m ≡ bitAnd e m
+and-twice e m = within-twice e e m (omega arith)
 
 -- bits within a board's mask
 pub bits-few : (s : List ℕ) → stateOk s ≡ true → (b bits : ℕ) → b < boardsIn s → inMask bits (maskIn s b) ≡ true → bits < 2 ^ 64

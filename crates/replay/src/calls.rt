@@ -104,15 +104,7 @@ fn poke(kept: &mut [u8], given: &[u8]) -> Answered {
     done()
 }
 
-// How many events were closed, how the state that is left stands, and the refusal's number, if there was one.
-// The refusal's number, 0 where there was none.
-fn number_of(outcome: Outcome) -> u64 {
-    match outcome {
-        Outcome::Refused(refusal) => refusal.number() as u64,
-        Outcome::Done => 0,
-    }
-}
-
+// How many events were closed, how the state that is left stands, and the refusal's number, 0 where there was none.
 fn capture(state: &mut [u8], second: &mut [u8], events: &[u64]) -> Answered {
     let answer = capturing::capture(state, second, events);
     match answer {
@@ -124,7 +116,7 @@ fn capture(state: &mut [u8], second: &mut [u8], events: &[u64]) -> Answered {
                 3,
                 run.closed as u64,
                 verdict.number() as u64,
-                number_of(stop),
+                outcome(stop).number,
                 0,
             )
         }

@@ -21,8 +21,8 @@ use Rattle.storing.specs.Stores.{ZeroFrom}
 use Rattle.closing.specs.Close.{Closes}
 use Rattle.course.specs.Given.{follow, givenUnder}
 use Rattle.course.specs.Ticked.{tickLeaves, tickSays, closedTo}
-use Rattle.giving.specs.Give.{passing, givenPassing, Comes}
-use Rattle.giving.proofs.Kept.{refused-left}
+use Rattle.giving.specs.Give.{givenPassing, Comes}
+use Rattle.keeping.proofs.Refused.{refused-leaves}
 use Rattle.ticking.specs.Tick.{TicksOnce}
 use Rattle.ticking.proofs.Lending.{endOf}
 
@@ -78,7 +78,7 @@ module _ (s : List ℕ) (event : ℕ) (t : List ℕ) (x : Outcome) (c : Comes (g
         go false e = ended e
 
     pub tick-refused : {k : Counts} → ZeroFrom (endOf k) t → TicksOnce s k event s t x
-    tick-refused z = record { says = refuses; leaves = sym (refused-left (tickSays s event) _ s why (sym refuses ∙ ap saidOutcome is)); zeros = z }
+    tick-refused z = record { says = refuses; leaves = sym (refused-leaves why (tickSays s event) _ s (sym (ap saidOutcome is) ∙ refuses)); zeros = z }
 
   -- where it does not, the close follows
   module _ (is : x ≡ Done) where

@@ -1,5 +1,5 @@
--- A number's bits within a mask, taken twice: `and-twice`. Numbers each within a mask of its own, the masks having no bit in common: their
--- union has of each mask the number within it (`union-own`). Assumes nothing.
+-- Numbers each within a mask of its own, the masks having no bit in common: their union has of each mask the number within it (`union-own`).
+-- Assumes nothing.
 use mathlib.Core.Path.{_≡_, sym, ap, _∙_}
 use mathlib.Core.List.{List, [], _∷_}
 use Prim.Native.Nat.{ℕ, zero, suc, _+_, _*_, _/_, _%_, _^_, _<_, _≤_, min}
@@ -28,9 +28,6 @@ and-bit a b i =
   where
     odd : (x y z : ℕ) → y < 2 → (x * 2 + min y z) % 2 ≡ min y z
     odd x y z l = omega arith
-
-pub and-twice : (e m : ℕ) → bitAnd (bitAnd e m) m ≡ bitAnd e m
-and-twice e m = bits-same (bitAnd (bitAnd e m) m) (bitAnd e m) (λ i. omega (arith, and-bit (bitAnd e m) m i, and-bit e m i))
 
 -- ---- numbers within masks, at bit i
 module _ (i : ℕ) where

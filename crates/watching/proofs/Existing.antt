@@ -30,7 +30,7 @@ use Rattle.keeping.proofs.Stepping.{after, step-sample, step-flag, step-slot, s
 use Rattle.keeping.proofs.Calls.{accepted-leaves, done-of, above-ready, sample-accepted, step-accepted, close-left}
 use Rattle.watching.specs.Watch.{Calls, none, sample, step, Saw}
 use Rattle.watching.specs.Claims.{Accepted, StateReached}
-use Rattle.watching.proofs.Bits.{and-twice}
+use Rattle.keeping.proofs.Sampling.{and-twice}
 use Rattle.watching.proofs.InTick.{InTick, slots-kept, boards-kept}
 use Rattle.watching.proofs.Started.{Started, started-laid}
 use Rattle.watching.proofs.Ticked.{started-in-tick}

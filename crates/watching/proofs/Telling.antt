@@ -13,10 +13,10 @@ use borrow.Author.Tests.{eq-eqb}
 use Rattle.lists.specs.Tests.{pick}
 use Rattle.lists.proofs.Tests.{no-true}
 use Rattle.kinds.specs.declared.Leaf.the-variants.{Const, Prop, Hold}
-use Rattle.answers.specs.Said.{Said, refused, left}
+use Rattle.answers.specs.Said.{refused}
 use Rattle.answers.specs.declared.Refusal.the-variants.{Finished}
 use Rattle.answers.specs.declared.Verdict.the-variants.{False, True, Pending}
-use Rattle.answers.proofs.Answers.{left-refused, order-ok, order-refused}
+use Rattle.answers.proofs.Answers.{order-ok, order-refused}
 use Rattle.ltl.specs.Formula.{Formula, leaf, one, two, constant, encode}
 use Rattle.ltl.specs.Meaning.{Event}
 use Rattle.ltl.specs.Progression.{verdictOf}
@@ -29,6 +29,7 @@ use Rattle.state.specs.Calls.{finishedIn, verdictIn, sampleSays, sampleLeaves, 
 use Rattle.state.proofs.Listed.{network-at}
 use Rattle.checked.proofs.Passing.{SlotPassing, passing}
 use Rattle.keeping.specs.Known.{known}
+use Rattle.keeping.proofs.Refused.{refused-leaves}
 use Rattle.keeping.proofs.Constants.{constant-is}
 use Rattle.keeping.proofs.Finished.{finished-of, Ended, not-finished}
 use Rattle.watching.specs.Watch.{Calls, none, sample, step}
@@ -38,9 +39,6 @@ use Rattle.watching.proofs.Started.{Started, started-laid}
 use Rattle.watching.proofs.Ticked.{started-in-tick}
 
 -- ---- calls on a finished state that passes
-refused-leaves : (a : Said) (output before : List ℕ) → a ≡ refused 10 → left a output before ≡ before
-refused-leaves a output before e = ap (λ (b : Said). left b output before) e ∙ left-refused Finished output before
-
 module _ (s : List ℕ) (ok : stateOk s ≡ true) (finished : finishedIn s ≡ true) where
   sample-refused : (board bits : ℕ) → sampleSays s board bits ≡ refused 10
   unfolding sampleSays
@@ -56,8 +54,8 @@ module _ (s : List ℕ) (ok : stateOk s ≡ true) (finished : finishedIn s ≡ t
 
   calls-stay : {t : List ℕ} → Calls s t → t ≡ s
   calls-stay none = refl
-  calls-stay (sample c board bits) = ap (λ (u : List ℕ). sampleLeaves u board bits) (calls-stay c) ∙ refused-leaves _ _ s (sample-refused board bits)
-  calls-stay (step c k) = ap (λ (u : List ℕ). stepLeaves u k) (calls-stay c) ∙ refused-leaves _ _ s (step-refused k)
+  calls-stay (sample c board bits) = ap (λ (u : List ℕ). sampleLeaves u board bits) (calls-stay c) ∙ refused-leaves Finished _ _ s (sym (sample-refused board bits))
+  calls-stay (step c k) = ap (λ (u : List ℕ). stepLeaves u k) (calls-stay c) ∙ refused-leaves Finished _ _ s (sym (step-refused k))
 
   pub finished-over : StateOver s
   finished-over = record { no-sample = sample-refused; no-step = step-refused; no-close = close-refused; stays = λ t c. calls-stay c }

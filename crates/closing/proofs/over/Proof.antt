@@ -6,7 +6,6 @@ use Rattle.records.proofs.Opened.{opened-sized}
 use Rattle.done.specs.Done.{allSampled, allStepped}
 use Rattle.closing.proofs.Ready.{over-boards, over-slots, over-ticks, over-done}
 use native.Mathlib.Omega.{arith}
-use borrow.Author.Needs.{needs}
 use Rattle.closing.proofs.over.Statement.{statement}
 use Rattle.closing.proofs.over.Tie as tie
 

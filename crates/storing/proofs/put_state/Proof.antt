@@ -1,6 +1,6 @@
 -- The front is written, and the network into what is behind it, as far as it goes or as anything stood there: the limits leave room for
 -- both. Assumes nothing.
-use Prim.Native.Nat.{ℕ, _+_, _-_, _≤_}
+use Prim.Native.Nat.{_+_, _-_, _≤_}
 use mathlib.Core.Logic.{⊎-elim}
 use mathlib.Core.Path.{_≡_}
 use lib.ListN.{length, drop, length-drop}

@@ -6,11 +6,10 @@ use Prim.Native.Nat.{_-_, _<_, _≤_, _^_}
 use native.Mathlib.Omega.{arith}
 use lib.ListN.{length}
 use lib.Seq.{length-take-le}
-use Rattle.answers.specs.declared.Outcome.the-variants.{Done}
 use Rattle.state.specs.Opened.{Opened}
 use Rattle.records.proofs.Opened.{opened-sized}
 use Rattle.ticking.proofs.Lending.{endOf, ends-inside}
-use Rattle.capturing.proofs.Turns.{CameTo, came-nowhere, turn-room, turn-copied, turn-asks, turn-inside, turn-ends, turn-refused, closed-long, closed-opened, closed-formed, turn-finished, next-zeros, turn-more}
+use Rattle.capturing.proofs.Turns.{CameTo, came-nowhere, turn-room, turn-copied, turn-asks, turn-inside, turn-ends, turn-refused, closed-opened, closed-formed, turn-finished, next-zeros, turn-more}
 use borrow.Author.Needs.{needs}
 use Rattle.capturing.proofs.running.run.Statement.{statement}
 use Rattle.capturing.proofs.running.run.Tie as tie

@@ -1,14 +1,12 @@
 -- One arm for each kind of the slot's first byte: `lone-by` tells what it says. Assumes nothing.
 use mathlib.Core.Path.{_≡_, sym, ap, _∙_}
-use Prim.Native.Nat.{ℕ, _<_}
-use lib.ListN.{length}
+use Prim.Native.Nat.{ℕ}
 use Rattle.lists.specs.Tests.{bit}
 use Rattle.kinds.specs.declared.Kind.{Kind}
 use Rattle.kinds.specs.declared.Kind.the-variants.{Zero}
 use Rattle.state.specs.Clauses.{loneOther}
-use Rattle.state.specs.Fields.{maskIn, boardOfIn}
+use Rattle.state.specs.Fields.{maskIn}
 use Rattle.state.specs.Bytes.{formulaAt}
-use Rattle.records.proofs.Opened.{board-few}
 use Rattle.giving.proofs.Lone.{loneBy, prop-few, reads-some, lone-by}
 use native.Mathlib.Omega.{arith}
 use borrow.Author.Needs.{needs}
