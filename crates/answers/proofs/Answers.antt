@@ -9,7 +9,7 @@ use lib.ListN.{getD}
 use borrow.Author.Tests.{ne-eqb}
 use Rattle.lists.specs.Tests.{pick}
 use Rattle.answers.specs.declared.Refusal.{Refusal}
-use Rattle.answers.specs.declared.Refusal.the-variants.{Length, Version, Range, Offset, Masks, Formula, Slots, Nodes, State, Finished, Nowhere, Outside, Already, Unready, Ticks}
+use Rattle.answers.specs.declared.Refusal.the-variants.{Length, Version, Range, Offset, Masks, Formula, Slots, Nodes, State, Finished, Nowhere, Outside, Already, Unready, Ticks, Text}
 use Rattle.answers.specs.declared.Verdict.{Verdict}
 use Rattle.answers.specs.declared.Verdict.the-variants.{False, True, Pending}
 use Rattle.answers.specs.declared.Outcome.{Outcome}
@@ -19,7 +19,7 @@ use Rattle.answers.specs.Said.{Said, accepted, refused, left, numberOf, 
 -- ---- the refusals by number
 named : List Refusal
 named =
-    Length ∷ Length ∷ Version ∷ Range ∷ Offset ∷ Masks ∷ Formula ∷ Slots ∷ Nodes ∷ State ∷ Finished ∷ Nowhere ∷ Outside ∷ Already ∷ Unready ∷ Ticks ∷ []
+    Length ∷ Length ∷ Version ∷ Range ∷ Offset ∷ Masks ∷ Formula ∷ Slots ∷ Nodes ∷ State ∷ Finished ∷ Nowhere ∷ Outside ∷ Already ∷ Unready ∷ Ticks ∷ Text ∷ []
 
 -- a refusal stands at its number, and no number is 0
 record Numbered (why : Refusal) : Type 0 where
@@ -43,6 +43,7 @@ numbered Outside = record { found = refl; some = omega arith }
 numbered Already = record { found = refl; some = omega arith }
 numbered Unready = record { found = refl; some = omega arith }
 numbered Ticks = record { found = refl; some = omega arith }
+numbered Text = record { found = refl; some = omega arith }
 
 pub number-injective : (a b : Refusal) → numberOf a ≡ numberOf b → a ≡ b
 number-injective a b e = sym (numbered a .found) ∙ ap (λ (n : ℕ). getD named n Length) e ∙ numbered b .found

@@ -6,7 +6,7 @@ use mathlib.Core.List.{List, [], _∷_}
 use lib.Dec.{eqb}
 use Rattle.lists.specs.Tests.{pick}
 use Rattle.answers.specs.declared.Refusal.{Refusal}
-use Rattle.answers.specs.declared.Refusal.the-variants.{Length, Version, Range, Offset, Masks, Formula, Slots, Nodes, State, Finished, Nowhere, Outside, Already, Unready, Ticks}
+use Rattle.answers.specs.declared.Refusal.the-variants.{Length, Version, Range, Offset, Masks, Formula, Slots, Nodes, State, Finished, Nowhere, Outside, Already, Unready, Ticks, Text}
 use Rattle.answers.specs.declared.Verdict.{Verdict}
 use Rattle.answers.specs.declared.Verdict.the-variants.{False, True, Pending}
 use Rattle.answers.specs.declared.Outcome.{Outcome}
@@ -20,9 +20,13 @@ pub record Said : Type 0 where
 abbrev pub accepted : List ℕ → Said
 accepted vs = record { number = 0; values = vs }
 
--- a refusal: its number, nothing else
+-- a refusal that answers its number, nothing else
 abbrev pub refused : ℕ → Said
 refused n = record { number = n; values = [] }
+
+-- a refusal that tells more: its number, and where what it refuses stands
+abbrev pub refusedWith : ℕ → List ℕ → Said
+refusedWith n vs = record { number = n; values = vs }
 
 -- what a lent buffer holds after the answer: an accepted call's output, and what it held before a refusal
 unfoldable pub left : Said → List ℕ → List ℕ → List ℕ
@@ -45,6 +49,7 @@ numberOf Outside = 12
 numberOf Already = 13
 numberOf Unready = 14
 numberOf Ticks = 15
+numberOf Text = 16
 
 -- the number of each verdict
 abbrev pub verdictNumber : Verdict → ℕ

@@ -2,7 +2,7 @@
 ghost use mathlib.Core.Path.{_≡_};
 ghost use Rattle.answers.specs.Said.{numberOf, verdictNumber};
 
-// Why a call was refused, in the order of the numbers 1 to 15.
+// Why a call was refused, in the order of the numbers 1 to 16.
 pub enum Refusal {
     Length,
     Version,
@@ -19,6 +19,7 @@ pub enum Refusal {
     Already,
     Unready,
     Ticks,
+    Text,
 }
 
 impl Refusal {
@@ -41,6 +42,7 @@ impl Refusal {
             Refusal::Already => 13,
             Refusal::Unready => 14,
             Refusal::Ticks => 15,
+            Refusal::Text => 16,
         }
     }
 }

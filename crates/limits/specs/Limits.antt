@@ -17,6 +17,10 @@ holderCodes = 64
 abbrev pub ruleNodesMost : ℕ
 ruleNodesMost = 1024
 
+-- the bytes of a buffer for a rule's text
+abbrev pub textLength : ℕ
+textLength = 8192
+
 -- the nodes of a formula that is progressed in one place, and of what it unfolds to
 abbrev pub centralNodesMost : ℕ
 centralNodesMost = 4096

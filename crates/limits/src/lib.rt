@@ -9,6 +9,9 @@ pub const PROPOSITIONS_MOST: usize = 64;
 // The most nodes of a rule's formula.
 pub const RULE_NODES_MOST: usize = 1024;
 
+// The bytes of a buffer for a rule's text: more than the print of any rule has.
+pub const TEXT_LENGTH: usize = 8192;
+
 // The most nodes of a formula that is progressed in one place, and of what it unfolds to.
 pub const CENTRAL_NODES_MOST: usize = 4096;
 
