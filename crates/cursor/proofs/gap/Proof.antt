@@ -1,0 +1,35 @@
+-- The invariant: what was passed so far is a gap. Assumes nothing.
+use mathlib.Core.Path.{sym, _∙_}
+use Prim.Native.Nat.{_-_}
+use lib.ListN.{length}
+use native.Mathlib.Omega.{arith}
+use borrow.Author.Needs.{needs}
+use Rattle.cursor.specs.Readers.{GapRead}
+use Rattle.cursor.proofs.Moving.{gap-none, gap-more}
+use Rattle.cursor.proofs.gap.Statement.{statement}
+use Rattle.cursor.proofs.gap.Tie as tie
+
+abbrev Inv-loop : tie.InvT-loop
+Inv-loop text cur₀ cur = GapRead text cur₀ cur
+
+abbrev μ-loop : tie.MeasureT-loop
+μ-loop text cur₀ cur = length text - cur .byte
+
+abbrev looped : tie.After-of Inv-loop μ-loop → tie.At-loop Inv-loop μ-loop
+looped c = c .before .before .before .before
+
+pub gap-spec : {M : Type 1} → statement M
+gap-spec =
+    tie.close
+    (tie.spec
+    Inv-loop
+    μ-loop
+    (λ c. gap-none (c .before .args .text .now) (c .before .args .c) (c .before .pre))
+    (λ c. search needs)
+    (λ c κs. search needs)
+    (λ c. search needs)
+    (λ c κs. (c .before .before .before .before .before .before .loop .inv .stands, omega arith))
+    (λ c. let e = c .past .ensures .next in omega arith)
+    (λ c. gap-more (looped (c .before .before .before) .loop .inv) (record { stands = looped (c .before .before .before) .loop .inv .stands; there = omega arith; is = sym (c .before .enum-told .given .1) ∙ c .before .before .before .of .ensures }) (c .past .ensures))
+    (λ c. c .before .before .before .before .before .loop .inv)
+    (λ c. c .before .before .loop .inv))

@@ -1,0 +1,2 @@
+-- A gap and then a sign.
+pub mod Following

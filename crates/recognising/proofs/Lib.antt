@@ -1,0 +1,3 @@
+-- Laws of one turn of the check, and of its loop.
+pub mod Turning
+pub mod Passing
