@@ -1,0 +1,3 @@
+-- The laws of signs that wait.
+pub mod Pops
+pub mod Pushes

@@ -1,0 +1,2 @@
+-- What the contracts of `popping` cite.
+pub mod Waits
