@@ -1,0 +1,4 @@
+-- The laws of `parse`.
+pub mod Parts
+pub mod Outcomes
+pub mod Determined

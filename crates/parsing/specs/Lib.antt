@@ -1,0 +1,3 @@
+-- What the contracts of `parsing` cite.
+pub mod Parse
+pub mod Building
