@@ -1,0 +1,4 @@
+-- Laws of printing.
+pub mod Texts
+pub mod Outcomes
+pub mod Determined

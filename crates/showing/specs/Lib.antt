@@ -1,0 +1,3 @@
+-- What the contracts of `showing` cite.
+pub mod Dues
+pub mod Shows
