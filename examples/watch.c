@@ -1,6 +1,7 @@
-// A whole watch through the library: the rule "a until b", where board 0 sees a and board 1 sees b, over three events. It prints
-// the lines of the run program, ticks, verdict, slots and nodes after the load and after each tick, and then the verdict. Each
-// tick has its line, so each event is a capture of its own. Where nobody looks at the ticks between, one call takes all events.
+// A whole watch through the library: the rule "a until b", typed as p0 U p1, where board 0 sees a and board 1 sees b, over three
+// events. It prints the lines of the run program, ticks, verdict, slots and nodes after the load and after each tick, and then the
+// verdict. Each tick has its line, so each event is a capture of its own. Where nobody looks at the ticks between, one call takes
+// all events.
 
 #include "../include/vydrulka.h"
 
@@ -12,7 +13,7 @@ enum { A, B, PROPOSITIONS };
 enum { BOARDS = 2 };
 
 static const uint64_t masks[BOARDS] = {1 << A, 1 << B};
-static const uint8_t formula[] = {VYDRULKA_NODE_UNTIL, VYDRULKA_NODE_PROP + A, VYDRULKA_NODE_PROP + B};
+static const char text[] = "p0 U p1";
 
 static const uint64_t events[] = {1 << A, 1 << A, 1 << B};
 enum { EVENTS = sizeof events / sizeof *events };
@@ -32,12 +33,24 @@ static void must_accept(const char *what, uint32_t answer)
     exit(EXIT_FAILURE);
 }
 
-// Writes the rule file and loads it.
+// Reads the rule as it is typed: the number of nodes. Where that is refused it tells the place.
+static uint64_t parse(uint8_t *formula)
+{
+    uint64_t nodes, line, byte;
+    uint32_t answer =
+        vydrulka_parse((const uint8_t *)text, sizeof text - 1, formula, VYDRULKA_RULE_NODES_MOST, &nodes, &line, &byte);
+    if (answer == VYDRULKA_REFUSED_TEXT)
+        fprintf(stderr, "line %" PRIu64 ", byte %" PRIu64 ": ", line, byte);
+    must_accept("parse", answer);
+    return nodes;
+}
+
+// Reads the rule, writes its file and loads that.
 static void load(uint8_t *state)
 {
-    uint8_t file[VYDRULKA_FILE_MOST];
-    uint64_t length;
-    must_accept("write", vydrulka_write(masks, BOARDS, PROPOSITIONS, formula, sizeof formula, file, sizeof file, &length));
+    uint8_t formula[VYDRULKA_RULE_NODES_MOST], file[VYDRULKA_FILE_MOST];
+    uint64_t length, nodes = parse(formula);
+    must_accept("write", vydrulka_write(masks, BOARDS, PROPOSITIONS, formula, nodes, file, sizeof file, &length));
     must_accept("load", vydrulka_load(file, length, state, VYDRULKA_STATE_LENGTH));
 }
 

@@ -3,7 +3,7 @@
 //
 // A call stands any bytes and numbers. It makes its checks in the order that its comment gives and answers the number of the
 // first that fails; then it has written nothing. Else it answers 0 and has stored its values behind the pointers to single
-// numbers. What it answers and writes follows from what it is given, and from nothing else. A capture that comes to an event which
+// numbers. Only 16 tells more than its number: vydrulka_parse has then stored the line and the byte. What it answers and writes follows from what it is given, and from nothing else. A capture that comes to an event which
 // is refused is accepted itself: it answers 0, stores where and why it stopped, and leaves what was closed before.
 //
 // Memory: a call allocates nothing and keeps nothing. It has no memory of its own but the stack. Load, close and capture take more
@@ -28,7 +28,7 @@
 
 // The version of this interface; CHANGES.md lists what changed. A call that is changed or taken away makes a new major version.
 #define VYDRULKA_VERSION_MAJOR 1
-#define VYDRULKA_VERSION_MINOR 4
+#define VYDRULKA_VERSION_MINOR 5
 
 #ifdef __cplusplus
 extern "C" {
@@ -40,6 +40,7 @@ enum {
     VYDRULKA_PROPOSITIONS_MOST = 64, // propositions of a rule
     VYDRULKA_RULE_NODES_MOST = 1024, // nodes of a rule's formula
     VYDRULKA_FILE_MOST = 1168,       // bytes of a rule file
+    VYDRULKA_TEXT_LENGTH = 8192,     // bytes of a buffer for a rule's text, always; a text that is read may be longer
     VYDRULKA_SLOTS_MOST = 64,        // slots of a network
     VYDRULKA_NODES_MOST = 4096,      // nodes of a network, and of a formula that central takes or unfolds
     VYDRULKA_STATE_LENGTH = 4768,    // bytes of a state, always
@@ -50,6 +51,8 @@ enum {
 enum {
     VYDRULKA_STACK_READ = 32768,      // 344
     VYDRULKA_STACK_WRITE = 32768,     // 104
+    VYDRULKA_STACK_PARSE = 32768,     // PARSE_BYTES, whatever the text
+    VYDRULKA_STACK_PRINT = 32768,     // PRINT_BYTES, whatever the formula
     VYDRULKA_STACK_CENTRAL = 32768,   // 20,856, whatever the formula
     VYDRULKA_STACK_LOAD = 1048576,    // 1,014,528, a rule of 1,023 nots
     VYDRULKA_STACK_SAMPLE = 32768,    // 520
@@ -93,6 +96,7 @@ enum vydrulka_refusal {
     VYDRULKA_REFUSED_ALREADY = 13,  // the board has sampled, or the slot is stepped, in this tick already
     VYDRULKA_REFUSED_UNREADY = 14,  // what must come before in this tick has not come
     VYDRULKA_REFUSED_TICKS = 15,    // the ticks stand at 4,294,967,295
+    VYDRULKA_REFUSED_TEXT = 16,     // not a rule as people type it; the line and the byte of the place are stored
 };
 
 enum vydrulka_verdict {
@@ -114,6 +118,24 @@ uint32_t vydrulka_read(const uint8_t *file, size_t file_len, uint64_t *masks, si
 // Refusals in order: 1, 3, 5, 6.
 uint32_t vydrulka_write(const uint64_t *masks, size_t masks_len, uint64_t propositions, const uint8_t *formula,
                         size_t formula_len, uint8_t *file, size_t file_len, uint64_t *written);
+
+// Reads a rule as people type it, of any length: true, false, p0 to p63, ! X F G in front of their operand, U & | between their
+// operands, and brackets. Prefix signs bind tightest, then U, then &, then |, and these group to the right. Blanks (space, tab, line
+// feed, carriage return) may stand between signs. The formula goes to the front of `formula`, of length VYDRULKA_RULE_NODES_MOST, and
+// zeros behind it. Gives the number of nodes. Where it answers 16, and only there, it gives the place where the text can go on no
+// more: the line, counted from 1 by line feeds, and the byte of the text, counted from 0; its end where something is missing there.
+// 3 is a text of more nodes than a rule may have.
+// Stack: VYDRULKA_STACK_PARSE.
+// Refusals in order: 1, 16, 3.
+uint32_t vydrulka_parse(const uint8_t *text, size_t text_len, uint8_t *formula, size_t formula_len, uint64_t *nodes,
+                        uint64_t *line, uint64_t *byte);
+
+// Prints a formula of 1 to VYDRULKA_RULE_NODES_MOST nodes as people type it, with the fewest brackets and no blanks, to the front of
+// `text`, of length VYDRULKA_TEXT_LENGTH, and zeros behind it. Gives the length of what was printed, at most four bytes a node and
+// one. Parsing these bytes gives the formula back.
+// Stack: VYDRULKA_STACK_PRINT.
+// Refusals in order: 1, 3, 6.
+uint32_t vydrulka_print(const uint8_t *formula, size_t formula_len, uint8_t *text, size_t text_len, uint64_t *length);
 
 // Progresses a formula of 1 to VYDRULKA_NODES_MOST nodes over an event, in one place: the outcome to the front of `output`, of
 // length VYDRULKA_NODES_MOST, and zeros behind it. Gives the outcome's verdict and nodes. The formula's constants are folded
@@ -186,6 +208,7 @@ static inline const char *vydrulka_refusal_words(uint32_t answer)
     case VYDRULKA_REFUSED_ALREADY: return "done in this tick already";
     case VYDRULKA_REFUSED_UNREADY: return "something must come first";
     case VYDRULKA_REFUSED_TICKS: return "ticks at their end";
+    case VYDRULKA_REFUSED_TEXT: return "not a rule's text";
     default: return "no answer of this library";
     }
 }

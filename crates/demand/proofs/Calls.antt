@@ -6,8 +6,9 @@ use Prim.Native.Nat.{ℕ}
 use Rattle.answers.specs.declared.Outcome.the-variants.{Done}
 use Rattle.watching.specs.Watch.{Calls, none, sample, step}
 use Rattle.watching.specs.Claims.{Accepted}
-use Rattle.demand.specs.Called.{Called, nothing, sampled, stepped, asked, closed, load-refused, close-refused, write-refused, central-refused, read-refused, capture-refused, capture-second-refused}
+use Rattle.demand.specs.Called.{Called, nothing, sampled, stepped, asked, closed, load-refused, close-refused, write-refused, parse-refused, print-refused, central-refused, read-refused, capture-refused, capture-second-refused}
 use Rattle.demand.specs.Claims.{AllAccepted}
+use Rattle.parsing.proofs.Outcomes.{parse-keeps}
 use Rattle.keeping.proofs.Refused.{refused-leaves}
 
 pub called : {s t : List ℕ} → Called s t → Calls s t
@@ -19,6 +20,8 @@ called (closed c second second′ answer p) = called c
 called {s} (load-refused {t = t} c file why p) = subst (λ (u : List ℕ). Calls s u) (sym (p .leaves ∙ refused-leaves why _ _ t (p .says))) (called c)
 called {s} (close-refused {t = t} c other why p) = subst (λ (u : List ℕ). Calls s u) (sym (p .leaves ∙ refused-leaves why _ _ t (p .says))) (called c)
 called {s} (write-refused {t = t} c masks q formula why p) = subst (λ (u : List ℕ). Calls s u) (sym (p .leaves ∙ refused-leaves why _ _ t (p .says))) (called c)
+called {s} (parse-refused c text answer r p) = subst (λ (u : List ℕ). Calls s u) (sym (parse-keeps p r)) (called c)
+called {s} (print-refused {t = t} c formula why p) = subst (λ (u : List ℕ). Calls s u) (sym (p .leaves ∙ refused-leaves why _ _ t (p .says))) (called c)
 called {s} (central-refused {t = t} c formula event why p) = subst (λ (u : List ℕ). Calls s u) (sym (p .leaves ∙ refused-leaves why _ _ t (p .says))) (called c)
 called {s} (read-refused {t = t} c file masks masks′ why p) = subst (λ (u : List ℕ). Calls s u) (sym (p .leaves-formula ∙ refused-leaves why _ _ t (p .says))) (called c)
 called {s} (capture-refused {t = t} c second second′ events why p) = subst (λ (u : List ℕ). Calls s u) (sym (p .leaves ∙ refused-leaves why _ _ t (p .says))) (called c)

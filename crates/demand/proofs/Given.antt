@@ -24,7 +24,8 @@ use Rattle.watching.specs.Watch.{Saw}
 use Rattle.watching.proofs.InTick.{InTick, boards-kept}
 use Rattle.watching.proofs.Started.{Started, started-laid}
 use Rattle.watching.proofs.Ticked.{started-in-tick}
-use Rattle.demand.specs.Called.{Called, nothing, sampled, stepped, asked, closed, load-refused, close-refused, write-refused, central-refused, read-refused, capture-refused, capture-second-refused, Gave, GivenBy}
+use Rattle.demand.specs.Called.{Called, nothing, sampled, stepped, asked, closed, load-refused, close-refused, write-refused, parse-refused, print-refused, central-refused, read-refused, capture-refused, capture-second-refused, Gave, GivenBy}
+use Rattle.parsing.proofs.Outcomes.{parse-keeps}
 use Rattle.keeping.proofs.Refused.{refused-not-done, refused-leaves}
 use Rattle.demand.proofs.Calls.{called}
 use Rattle.demand.proofs.Getting.{done-boards}
@@ -126,6 +127,8 @@ module _ (p : ℕ) (masks : List ℕ) (rule : Formula) (us : List Event) (s : Li
   holding (load-refused {t = t} c file why y) = subst (λ (u : List ℕ). Held u (Gave c)) (sym (y .leaves ∙ refused-leaves why _ _ t (y .says))) (holding c)
   holding (close-refused {t = t} c other why y) = subst (λ (u : List ℕ). Held u (Gave c)) (sym (y .leaves ∙ refused-leaves why _ _ t (y .says))) (holding c)
   holding (write-refused {t = t} c ms q formula why y) = subst (λ (u : List ℕ). Held u (Gave c)) (sym (y .leaves ∙ refused-leaves why _ _ t (y .says))) (holding c)
+  holding (parse-refused c text answer r y) = subst (λ (u : List ℕ). Held u (Gave c)) (sym (parse-keeps y r)) (holding c)
+  holding (print-refused {t = t} c formula why y) = subst (λ (u : List ℕ). Held u (Gave c)) (sym (y .leaves ∙ refused-leaves why _ _ t (y .says))) (holding c)
   holding (central-refused {t = t} c formula event why y) = subst (λ (u : List ℕ). Held u (Gave c)) (sym (y .leaves ∙ refused-leaves why _ _ t (y .says))) (holding c)
   holding (read-refused {t = t} c file ms masks′ why y) = subst (λ (u : List ℕ). Held u (Gave c)) (sym (y .leaves-formula ∙ refused-leaves why _ _ t (y .says))) (holding c)
   holding (capture-refused {t = t} c second second′ events why y) = subst (λ (u : List ℕ). Held u (Gave c)) (sym (y .leaves ∙ refused-leaves why _ _ t (y .says))) (holding c)

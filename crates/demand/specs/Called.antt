@@ -4,7 +4,7 @@
 use mathlib.Core.Path.{_≡_}
 use mathlib.Core.List.{List, [], _∷_, _++_}
 use mathlib.Core.Logic.{_⊎_}
-use Prim.Native.Nat.{ℕ}
+use Prim.Native.Nat.{ℕ, _<_}
 use Rattle.answers.specs.declared.Refusal.{Refusal}
 use Rattle.answers.specs.declared.Outcome.{Outcome}
 use Rattle.answers.specs.declared.Outcome.the-variants.{Refused, Done}
@@ -15,6 +15,10 @@ use Rattle.rules.specs.declared.ReadAnswer.the-variants as read-said
 use Rattle.rules.specs.declared.WriteAnswer.the-variants as write-said
 use Rattle.rules.specs.Read.{Reads}
 use Rattle.rules.specs.Write.{Writes}
+use Rattle.parsing.specs.declared.ParseAnswer.{ParseAnswer}
+use Rattle.parsing.specs.Parse.{saidParse, Parses}
+use Rattle.printing.specs.declared.PrintAnswer.the-variants as print-said
+use Rattle.printing.specs.Print.{Prints}
 use Rattle.central.specs.declared.CentralAnswer.the-variants as central-said
 use Rattle.central.specs.Central.{Centrally}
 use Rattle.telling.specs.declared.AskAnswer.{AskAnswer}
@@ -38,6 +42,8 @@ pub data Called (s : List ℕ) : List ℕ → Type 0 where
   load-refused : {t t′ : List ℕ} → Called s t → (file : List ℕ) (why : Refusal) → LoadsRule file t t′ (Refused why) → Called s t′
   close-refused : {t t′ : List ℕ} → Called s t → (other : List ℕ) (why : Refusal) → Closes other t t′ (Refused why) → Called s t′
   write-refused : {t t′ : List ℕ} → Called s t → (masks : List ℕ) (p : ℕ) (formula : List ℕ) (why : Refusal) → Writes masks p formula t t′ (write-said.Refused why) → Called s t′
+  parse-refused : {t t′ : List ℕ} → Called s t → (text : List ℕ) (answer : ParseAnswer) → 0 < saidParse answer .number → Parses text t t′ answer → Called s t′
+  print-refused : {t t′ : List ℕ} → Called s t → (formula : List ℕ) (why : Refusal) → Prints formula t t′ (print-said.Refused why) → Called s t′
   central-refused : {t t′ : List ℕ} → Called s t → (formula : List ℕ) (event : Event) (why : Refusal) → Centrally formula event t t′ (central-said.Refused why) → Called s t′
   read-refused : {t t′ : List ℕ} → Called s t → (file masks masks′ : List ℕ) (why : Refusal) → Reads file masks t masks′ t′ (read-said.Refused why) → Called s t′
   capture-refused : {t t′ : List ℕ} → Called s t → (second second′ events : List ℕ) (why : Refusal) → Captures t second events t′ second′ (capture-said.Refused why) → Called s t′
@@ -53,6 +59,8 @@ Gave (closed c second second′ answer p) b v = Gave c b v
 Gave (load-refused c file why p) b v = Gave c b v
 Gave (close-refused c other why p) b v = Gave c b v
 Gave (write-refused c masks q formula why p) b v = Gave c b v
+Gave (parse-refused c text answer r p) b v = Gave c b v
+Gave (print-refused c formula why p) b v = Gave c b v
 Gave (central-refused c formula event why p) b v = Gave c b v
 Gave (read-refused c file masks masks′ why p) b v = Gave c b v
 Gave (capture-refused c second second′ events why p) b v = Gave c b v

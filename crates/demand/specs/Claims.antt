@@ -22,7 +22,7 @@ use Rattle.taking.specs.Sample.{Samples}
 use Rattle.settling.specs.Step.{StepsSlot}
 use Rattle.closing.specs.Close.{Closes}
 use Rattle.loading.specs.Load.{ruleIn, startIn}
-use Rattle.demand.specs.Called.{Called, nothing, sampled, stepped, asked, closed, load-refused, close-refused, write-refused, central-refused, read-refused, capture-refused, capture-second-refused, GivenBy}
+use Rattle.demand.specs.Called.{Called, nothing, sampled, stepped, asked, closed, load-refused, close-refused, write-refused, parse-refused, print-refused, central-refused, read-refused, capture-refused, capture-second-refused, GivenBy}
 
 -- the call, by its promise of what it leaves and answers, gets this answer: it is allowed, and no other is
 pub record Gets (Promise : List ℕ → Outcome → Type 0) (wanted : Outcome) : Type 0 where
@@ -83,6 +83,8 @@ AllAccepted (closed c second second′ answer p) = ⊥
 AllAccepted (load-refused c file why p) = ⊥
 AllAccepted (close-refused c other why p) = ⊥
 AllAccepted (write-refused c masks q formula why p) = ⊥
+AllAccepted (parse-refused c text answer r p) = ⊥
+AllAccepted (print-refused c formula why p) = ⊥
 AllAccepted (central-refused c formula event why p) = ⊥
 AllAccepted (read-refused c file masks masks′ why p) = ⊥
 AllAccepted (capture-refused c second second′ events why p) = ⊥

@@ -6,7 +6,8 @@ use mathlib.Core.Logic.{inl, inr, ⊎-elim}
 use Prim.Native.Nat.{ℕ}
 use Rattle.answers.specs.Said.{Said, saidOutcome}
 use Rattle.ltl.specs.Meaning.{Event}
-use Rattle.demand.specs.Called.{Called, nothing, sampled, stepped, asked, closed, load-refused, close-refused, write-refused, central-refused, read-refused, capture-refused, capture-second-refused, Gave, Ticked, Watched, begun, ticked}
+use Rattle.demand.specs.Called.{Called, nothing, sampled, stepped, asked, closed, load-refused, close-refused, write-refused, parse-refused, print-refused, central-refused, read-refused, capture-refused, capture-second-refused, Gave, Ticked, Watched, begun, ticked}
+use Rattle.parsing.proofs.Outcomes.{parse-keeps}
 use Rattle.keeping.proofs.Refused.{refused-leaves}
 use Rattle.demand_c.specs.FromC as from
 use Rattle.demand_c.specs.FromC.{CalledFromC, GaveFromC, TickedFromC, WatchedFromC}
@@ -33,6 +34,8 @@ back-to-c (closed c second second′ answer p) = back-to-c c
 back-to-c {s} (load-refused {t = t} c file why p) = subst (λ (u : List ℕ). BackToC s u (Gave c)) (sym (p .leaves ∙ refused-leaves why _ _ t (p .says))) (back-to-c c)
 back-to-c {s} (close-refused {t = t} c other why p) = subst (λ (u : List ℕ). BackToC s u (Gave c)) (sym (p .leaves ∙ refused-leaves why _ _ t (p .says))) (back-to-c c)
 back-to-c {s} (write-refused {t = t} c masks q formula why p) = subst (λ (u : List ℕ). BackToC s u (Gave c)) (sym (p .leaves ∙ refused-leaves why _ _ t (p .says))) (back-to-c c)
+back-to-c {s} (parse-refused c text answer r p) = subst (λ (u : List ℕ). BackToC s u (Gave c)) (sym (parse-keeps p r)) (back-to-c c)
+back-to-c {s} (print-refused {t = t} c formula why p) = subst (λ (u : List ℕ). BackToC s u (Gave c)) (sym (p .leaves ∙ refused-leaves why _ _ t (p .says))) (back-to-c c)
 back-to-c {s} (central-refused {t = t} c formula event why p) = subst (λ (u : List ℕ). BackToC s u (Gave c)) (sym (p .leaves ∙ refused-leaves why _ _ t (p .says))) (back-to-c c)
 back-to-c {s} (read-refused {t = t} c file masks masks′ why p) = subst (λ (u : List ℕ). BackToC s u (Gave c)) (sym (p .leaves-formula ∙ refused-leaves why _ _ t (p .says))) (back-to-c c)
 back-to-c {s} (capture-refused {t = t} c second second′ events why p) = subst (λ (u : List ℕ). BackToC s u (Gave c)) (sym (p .leaves ∙ refused-leaves why _ _ t (p .says))) (back-to-c c)

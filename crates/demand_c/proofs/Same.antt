@@ -1,10 +1,11 @@
 -- Whatever an exported function's promise allows, the call's own promise allows, with an outcome of the same number: `sample-same`, `step-same`,
--- `close-same`, `load-same`, of an accepted capture `capture-same`; of a refusal `load-refusal`, `close-refusal`, `write-refusal`, `central-refusal`,
+-- `close-same`, `load-same`, of an accepted capture `capture-same`; of a refusal `load-refusal`, `close-refusal`, `write-refusal`, `parse-refusal`,
+-- `print-refusal`, `central-refusal`,
 -- `read-refusal`, `capture-refusal`. Assumes nothing.
 use mathlib.Core.Path.{_≡_, refl, sym, ap, _∙_, subst}
 use mathlib.Core.List.{List}
 use mathlib.Core.Logic.{⊎-elim}
-use Prim.Native.Nat.{ℕ}
+use Prim.Native.Nat.{ℕ, _<_}
 use native.Mathlib.Omega.{arith}
 use lib.ListN.{length}
 use Rattle.lists.specs.Tests.{pick}
@@ -23,12 +24,17 @@ use Rattle.rules.specs.declared.ReadAnswer.the-variants as read-said
 use Rattle.rules.specs.declared.WriteAnswer.the-variants as write-said
 use Rattle.rules.specs.Read.{readSays, Reads}
 use Rattle.rules.specs.Write.{writeSays, Writes}
+use Rattle.parsing.specs.declared.ParseAnswer.{ParseAnswer}
+use Rattle.parsing.specs.Parse.{saidParse, Parses}
+use Rattle.parsing.proofs.Outcomes.{parse-answers}
+use Rattle.printing.specs.declared.PrintAnswer.the-variants as print-said
+use Rattle.printing.specs.Print.{printSays, Prints}
 use Rattle.central.specs.declared.CentralAnswer.the-variants as central-said
 use Rattle.central.specs.Central.{centralSays, Centrally}
 use Rattle.capturing.specs.declared.Captured.{Captured}
 use Rattle.capturing.specs.declared.CaptureAnswer.the-variants as capture-said
 use Rattle.capturing.specs.Capture.{captureSays, Captures}
-use Rattle.exports.specs.Exported.{valueAt, ReadExported, WriteExported, CentralExported, LoadExported, SampleExported, StepExported, CloseExported, CaptureExported}
+use Rattle.exports.specs.Exported.{valueAt, ReadExported, WriteExported, ParseExported, PrintExported, CentralExported, LoadExported, SampleExported, StepExported, CloseExported, CaptureExported}
 use Rattle.demand.proofs.Allowed.{Either, order-either, sample-outcome, step-outcome, close-outcome, load-outcome}
 use Rattle.demand.proofs.Capturing.{CaptureCase, may-run, not-run, capture-case, capture-exists}
 use Rattle.demand_c.specs.FromC.{Refuses}
@@ -79,6 +85,17 @@ pub write-refusal : {masks : List ℕ} {p : ℕ} {formula file file′ : List �
 unfolding writeSays
 write-refusal {n = n} x refuses =
     let r = either-refused _ _ n (order-either _ ((Length, refl), ((Range, refl), ((Masks, refl), ((Formula, refl), tt)))) _) (x .says) refuses in
+    (r .0, record { says = r .1; leaves = x .leaves })
+
+pub parse-refusal : {text formula formula′ : List ℕ} {nodes line byte nodes′ line′ byte′ n : ℕ} → ParseExported text formula formula′ nodes line byte nodes′ line′ byte′ n
+    → Refuses n → (answer : ParseAnswer) × (0 < saidParse answer .number) × Parses text formula formula′ answer
+parse-refusal x refuses = parse-answers (x .parses) (λ e. refuses (x .says ∙ e))
+
+pub print-refusal : {formula text text′ : List ℕ} {count count′ n : ℕ} → PrintExported formula text text′ count count′ n → Refuses n
+    → (why : Refusal) × Prints formula text text′ (print-said.Refused why)
+unfolding printSays
+print-refusal {n = n} x refuses =
+    let r = either-refused _ _ n (order-either _ ((Length, refl), ((Range, refl), ((Formula, refl), tt))) _) (x .says) refuses in
     (r .0, record { says = r .1; leaves = x .leaves })
 
 pub central-refusal : {formula : List ℕ} {event : Event} {output output′ : List ℕ} {verdict nodes verdict′ nodes′ n : ℕ} → CentralExported formula event output output′ verdict nodes verdict′ nodes′ n

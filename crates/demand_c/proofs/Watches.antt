@@ -14,8 +14,8 @@ use Rattle.loading.specs.Load.{LoadsRule}
 use Rattle.closing.specs.Close.{Closes}
 use Rattle.demand.specs.Called as call
 use Rattle.demand.specs.Called.{Called, Gave, Ticked, Watched}
-use Rattle.demand_c.specs.FromC.{CalledFromC, nothing, sampled, stepped, asked, closed, load-refused, close-refused, write-refused, central-refused, read-refused, capture-refused, capture-second-refused, GaveFromC, TickedFromC, WatchedFromC, begun, ticked}
-use Rattle.demand_c.proofs.Same.{sample-same, step-same, close-same, load-same, load-refusal, close-refusal, write-refusal, central-refusal, read-refusal, capture-refusal}
+use Rattle.demand_c.specs.FromC.{CalledFromC, nothing, sampled, stepped, asked, closed, load-refused, close-refused, write-refused, parse-refused, print-refused, central-refused, read-refused, capture-refused, capture-second-refused, GaveFromC, TickedFromC, WatchedFromC, begun, ticked}
+use Rattle.demand_c.proofs.Same.{sample-same, step-same, close-same, load-same, load-refusal, close-refusal, write-refusal, parse-refusal, print-refusal, central-refusal, read-refusal, capture-refusal}
 
 -- asking changes nothing, so it may be left out
 abbrev pub from-c : {s t : List ℕ} → CalledFromC s t → Called s t
@@ -27,6 +27,8 @@ from-c (closed c second second′ n p) = let r = close-same p in call.closed (fr
 from-c (load-refused c file n refuses p) = let r = load-refusal p refuses in call.load-refused (from-c c) file (r .0) (r .1)
 from-c (close-refused c other n refuses p) = let r = close-refusal p refuses in call.close-refused (from-c c) other (r .0) (r .1)
 from-c (write-refused c masks q formula written written′ n refuses p) = let r = write-refusal p refuses in call.write-refused (from-c c) masks q formula (r .0) (r .1)
+from-c (parse-refused c text nodes line byte nodes′ line′ byte′ n refuses p) = let r = parse-refusal p refuses in call.parse-refused (from-c c) text (r .0) (r .1) (r .2)
+from-c (print-refused c formula count count′ n refuses p) = let r = print-refusal p refuses in call.print-refused (from-c c) formula (r .0) (r .1)
 from-c (central-refused c formula event verdict nodes verdict′ nodes′ n refuses p) = let r = central-refusal p refuses in call.central-refused (from-c c) formula event (r .0) (r .1)
 from-c (read-refused c file masks masks′ boards propositions nodes boards′ propositions′ nodes′ n refuses p) =
     let r = read-refusal p refuses in
@@ -48,6 +50,8 @@ gave-from-c (closed c second second′ n p) b v g = gave-from-c c b v g
 gave-from-c (load-refused c file n refuses p) b v g = gave-from-c c b v g
 gave-from-c (close-refused c other n refuses p) b v g = gave-from-c c b v g
 gave-from-c (write-refused c masks q formula written written′ n refuses p) b v g = gave-from-c c b v g
+gave-from-c (parse-refused c text nodes line byte nodes′ line′ byte′ n refuses p) b v g = gave-from-c c b v g
+gave-from-c (print-refused c formula count count′ n refuses p) b v g = gave-from-c c b v g
 gave-from-c (central-refused c formula event verdict nodes verdict′ nodes′ n refuses p) b v g = gave-from-c c b v g
 gave-from-c (read-refused c file masks masks′ boards propositions nodes boards′ propositions′ nodes′ n refuses p) b v g = gave-from-c c b v g
 gave-from-c (capture-refused c second second′ events count verdict stop count′ verdict′ stop′ n refuses p) b v g = gave-from-c c b v g

@@ -7,7 +7,7 @@ use Prim.Native.Nat.{ℕ}
 use Rattle.ltl.specs.Meaning.{Event}
 use Rattle.network.specs.Scores.{sampleOf}
 use Rattle.rules.specs.RuleFile.{masksInFile}
-use Rattle.exports.specs.Exported.{ReadExported, WriteExported, CentralExported, LoadExported, SampleExported, StepExported, CloseExported, AskExported, CaptureExported}
+use Rattle.exports.specs.Exported.{ReadExported, WriteExported, ParseExported, PrintExported, CentralExported, LoadExported, SampleExported, StepExported, CloseExported, AskExported, CaptureExported}
 
 -- the number is a refusal's
 abbrev pub Refuses : ℕ → Type 0
@@ -25,6 +25,8 @@ pub data CalledFromC (s : List ℕ) : List ℕ → Type 0 where
   load-refused : {t t′ : List ℕ} → CalledFromC s t → (file : List ℕ) (n : ℕ) → Refuses n → LoadExported file t t′ n → CalledFromC s t′
   close-refused : {t t′ : List ℕ} → CalledFromC s t → (other : List ℕ) (n : ℕ) → Refuses n → CloseExported other t t′ n → CalledFromC s t′
   write-refused : {t t′ : List ℕ} → CalledFromC s t → (masks : List ℕ) (p : ℕ) (formula : List ℕ) (written written′ n : ℕ) → Refuses n → WriteExported masks p formula t t′ written written′ n → CalledFromC s t′
+  parse-refused : {t t′ : List ℕ} → CalledFromC s t → (text : List ℕ) (nodes line byte nodes′ line′ byte′ n : ℕ) → Refuses n → ParseExported text t t′ nodes line byte nodes′ line′ byte′ n → CalledFromC s t′
+  print-refused : {t t′ : List ℕ} → CalledFromC s t → (formula : List ℕ) (count count′ n : ℕ) → Refuses n → PrintExported formula t t′ count count′ n → CalledFromC s t′
   central-refused : {t t′ : List ℕ} → CalledFromC s t → (formula : List ℕ) (event verdict nodes verdict′ nodes′ n : ℕ) → Refuses n → CentralExported formula event t t′ verdict nodes verdict′ nodes′ n → CalledFromC s t′
   read-refused : {t t′ : List ℕ} → CalledFromC s t → (file masks masks′ : List ℕ) (boards propositions nodes boards′ propositions′ nodes′ n : ℕ) → Refuses n → ReadExported file masks t masks′ t′ boards propositions nodes boards′ propositions′ nodes′ n → CalledFromC s t′
   capture-refused : {t t′ : List ℕ} → CalledFromC s t → (second second′ events : List ℕ) (count verdict stop count′ verdict′ stop′ n : ℕ) → Refuses n → CaptureExported t second events t′ second′ count verdict stop count′ verdict′ stop′ n → CalledFromC s t′
@@ -40,6 +42,8 @@ GaveFromC (closed c second second′ n p) b v = GaveFromC c b v
 GaveFromC (load-refused c file n r p) b v = GaveFromC c b v
 GaveFromC (close-refused c other n r p) b v = GaveFromC c b v
 GaveFromC (write-refused c masks q formula written written′ n r p) b v = GaveFromC c b v
+GaveFromC (parse-refused c text nodes line byte nodes′ line′ byte′ n r p) b v = GaveFromC c b v
+GaveFromC (print-refused c formula count count′ n r p) b v = GaveFromC c b v
 GaveFromC (central-refused c formula event verdict nodes verdict′ nodes′ n r p) b v = GaveFromC c b v
 GaveFromC (read-refused c file masks masks′ boards propositions nodes boards′ propositions′ nodes′ n r p) b v = GaveFromC c b v
 GaveFromC (capture-refused c second second′ events count verdict stop count′ verdict′ stop′ n r p) b v = GaveFromC c b v

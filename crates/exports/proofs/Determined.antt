@@ -1,8 +1,10 @@
 -- The promises of the exported calls leave no choice: any two outcomes that one allows of the same inputs are equal. Assumes nothing.
-use mathlib.Core.Path.{_≡_, sym, _∙_}
+use mathlib.Core.Path.{_≡_, sym, ap, _∙_}
 use mathlib.Core.List.{List}
 use Prim.Native.Nat.{ℕ}
-use Rattle.exports.specs.Exported.{ReadExported, WriteExported, CentralExported, LoadExported, SampleExported, StepExported, CloseExported, AskExported, CaptureExported}
+use Rattle.answers.specs.Said.{Said}
+use Rattle.parsing.proofs.Determined.{parse-one}
+use Rattle.exports.specs.Exported.{valueAt, toldAt, ReadExported, WriteExported, ParseExported, PrintExported, CentralExported, LoadExported, SampleExported, StepExported, CloseExported, AskExported, CaptureExported}
 
 pub read-determined : {file masks formula m m₂ f f₂ : List ℕ} {boards propositions nodes b b₂ p p₂ n n₂ a a₂ : ℕ}
     → ReadExported file masks formula m f boards propositions nodes b p n a → ReadExported file masks formula m₂ f₂ boards propositions nodes b₂ p₂ n₂ a₂
@@ -19,6 +21,22 @@ read-determined x y = (
 pub write-determined : {masks formula file f f₂ : List ℕ} {p written w w₂ a a₂ : ℕ}
     → WriteExported masks p formula file f written w a → WriteExported masks p formula file f₂ written w₂ a₂ → (a ≡ a₂) × (f ≡ f₂) × (w ≡ w₂)
 write-determined x y = (x .says ∙ sym (y .says), x .leaves ∙ sym (y .leaves), x .gives-length ∙ sym (y .gives-length))
+
+pub parse-determined : {text formula f f₂ : List ℕ} {nodes line byte n n₂ l l₂ b b₂ a a₂ : ℕ}
+    → ParseExported text formula f nodes line byte n l b a → ParseExported text formula f₂ nodes line byte n₂ l₂ b₂ a₂
+    → (a ≡ a₂) × (f ≡ f₂) × (n ≡ n₂) × (l ≡ l₂) × (b ≡ b₂)
+parse-determined {nodes = nodes} {line = line} {byte = byte} x y =
+    let (e, f) = parse-one (x .parses) (y .parses) in (
+      x .says ∙ ap (λ (s : Said). s .number) e ∙ sym (y .says),
+      f,
+      x .gives-nodes ∙ ap (λ (s : Said). valueAt s 0 nodes) e ∙ sym (y .gives-nodes),
+      x .gives-line ∙ ap (λ (s : Said). toldAt s 0 line) e ∙ sym (y .gives-line),
+      x .gives-byte ∙ ap (λ (s : Said). toldAt s 1 byte) e ∙ sym (y .gives-byte),
+    )
+
+pub print-determined : {formula text t t₂ : List ℕ} {count c c₂ a a₂ : ℕ}
+    → PrintExported formula text t count c a → PrintExported formula text t₂ count c₂ a₂ → (a ≡ a₂) × (t ≡ t₂) × (c ≡ c₂)
+print-determined x y = (x .says ∙ sym (y .says), x .leaves ∙ sym (y .leaves), x .gives-length ∙ sym (y .gives-length))
 
 pub central-determined : {formula output o o₂ : List ℕ} {event verdict nodes v v₂ n n₂ a a₂ : ℕ}
     → CentralExported formula event output o verdict nodes v n a → CentralExported formula event output o₂ verdict nodes v₂ n₂ a₂ → (a ≡ a₂) × (o ≡ o₂) × (v ≡ v₂) × (n ≡ n₂)

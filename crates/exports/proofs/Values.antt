@@ -1,15 +1,15 @@
--- What stands behind a reference after an accepted call and after a refusal. Assumes nothing.
+-- What stands behind a reference after an accepted call and after a refusal, also one that tells more than its number. Assumes nothing.
 use mathlib.Core.Path.{_≡_, refl, sym, ap, _∙_}
 use mathlib.Core.List.{List}
-use Prim.Native.Nat.{ℕ}
+use Prim.Native.Nat.{ℕ, _<_}
 use native.Mathlib.Omega.{arith}
 use lib.ListN.{getD}
 use borrow.Author.Tests.{ne-eqb}
 use Rattle.lists.specs.Tests.{pick}
 use Rattle.answers.specs.declared.Refusal.{Refusal}
-use Rattle.answers.specs.Said.{Said, accepted, refused, numberOf}
+use Rattle.answers.specs.Said.{Said, accepted, refused, refusedWith, numberOf}
 use Rattle.answers.proofs.Answers.{number-some}
-use Rattle.exports.specs.Exported.{valueAt}
+use Rattle.exports.specs.Exported.{valueAt, toldAt}
 
 kept : (why : Refusal) (i before : ℕ) → valueAt (refused (numberOf why)) i before ≡ before
 unfolding valueAt pick
@@ -24,3 +24,21 @@ value-refused why i before e = sym (kept why i before) ∙ ap (λ (x : Said). va
 
 pub value-accepted : {s : Said} (vs : List ℕ) (i before : ℕ) → accepted vs ≡ s → getD vs i 0 ≡ valueAt s i before
 value-accepted vs i before e = sym (given vs i before) ∙ ap (λ (x : Said). valueAt x i before) e
+
+-- a refusal that tells more gives no value
+pub value-with : (n : ℕ) (vs : List ℕ) (i before : ℕ) → 0 < n → before ≡ valueAt (refusedWith n vs) i before
+unfolding valueAt pick
+value-with n vs i before h = rw (ne-eqb n 0 (λ e. omega arith))
+
+-- ---- what a refusal tells
+pub told-refused : (why : Refusal) (i before : ℕ) → before ≡ toldAt (refused (numberOf why)) i before
+unfolding toldAt pick
+told-refused why i before = let n = number-some why in rw (ne-eqb (numberOf why) 0 (λ e. omega arith))
+
+pub told-with : (n : ℕ) (vs : List ℕ) (i before : ℕ) → 0 < n → getD vs i before ≡ toldAt (refusedWith n vs) i before
+unfolding toldAt pick
+told-with n vs i before h = rw (ne-eqb n 0 (λ e. omega arith))
+
+pub told-accepted : (vs : List ℕ) (i before : ℕ) → before ≡ toldAt (accepted vs) i before
+unfolding toldAt pick
+told-accepted vs i before = refl

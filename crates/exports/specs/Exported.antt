@@ -5,7 +5,7 @@ use Prim.Native.Nat.{ℕ}
 use mathlib.Core.List.{List}
 use lib.ListN.{length, getD}
 use lib.Dec.{eqb}
-use Rattle.limits.specs.Limits.{boardsMost, ruleNodesMost, centralNodesMost}
+use Rattle.limits.specs.Limits.{boardsMost, ruleNodesMost, textLength, centralNodesMost}
 use Rattle.lists.specs.Tests.{pick}
 use Rattle.lists.specs.Runs.{padded}
 use Rattle.answers.specs.Said.{Said, left}
@@ -14,6 +14,10 @@ use Rattle.ltl.specs.Progression.{progressed}
 use Rattle.rules.specs.RuleFile.{fileMost, masksInFile, formulaInFile, fileOf}
 use Rattle.rules.specs.Read.{readSays}
 use Rattle.rules.specs.Write.{writeSays}
+use Rattle.ltl.specs.Decode.{formulaOf}
+use Rattle.text.specs.Printing.{printed}
+use Rattle.parsing.specs.Parse.{ParseSays}
+use Rattle.printing.specs.Print.{printSays}
 use Rattle.central.specs.Central.{startOf, centralSays}
 use Rattle.state.specs.Form.{formIn}
 use Rattle.state.specs.Calls.{loadedState, askSays, sampleSays, sampleLeaves, stepSays, stepLeaves, closeSays, closeLeaves}
@@ -36,6 +40,23 @@ pub record WriteExported (masks : List ℕ) (p : ℕ) (formula file file′ : Li
   pub says : answer ≡ writeSays masks p formula (length file) .number
   pub leaves : file′ ≡ left (writeSays masks p formula (length file)) (padded fileMost (fileOf masks p formula)) file
   pub gives-length : written′ ≡ valueAt (writeSays masks p formula (length file)) 0 written
+
+-- what stands behind a reference that a refusal tells by afterwards: what it tells, and what stood there before every other answer
+unfoldable pub toldAt : Said → ℕ → ℕ → ℕ
+toldAt s i before = pick (eqb (s .number) 0) before (getD (s .values) i before)
+
+pub record ParseExported (text formula formula′ : List ℕ) (nodes line byte nodes′ line′ byte′ answer : ℕ) : Type 0 where
+  pub said : Said
+  pub parses : ParseSays text formula said formula′
+  pub says : answer ≡ said .number
+  pub gives-nodes : nodes′ ≡ valueAt said 0 nodes
+  pub gives-line : line′ ≡ toldAt said 0 line
+  pub gives-byte : byte′ ≡ toldAt said 1 byte
+
+pub record PrintExported (formula text text′ : List ℕ) (count count′ answer : ℕ) : Type 0 where
+  pub says : answer ≡ printSays formula (length text) .number
+  pub leaves : text′ ≡ left (printSays formula (length text)) (padded textLength (printed (formulaOf formula))) text
+  pub gives-length : count′ ≡ valueAt (printSays formula (length text)) 0 count
 
 pub record CentralExported (formula : List ℕ) (event : ℕ) (output output′ : List ℕ) (verdict nodes verdict′ nodes′ answer : ℕ) : Type 0 where
   pub says : answer ≡ centralSays formula event (length output) .number

@@ -1,11 +1,13 @@
 // The calls for programs in C and other languages: numbers and slices alone. Each answers 0 or the refusal's number, and writes
-// the values behind the references only where it answers 0.
+// the values behind the references only where it answers 0; `vydrulka_parse` writes line and byte only where it answers 16.
 ghost use mathlib.Core.Path.{_≡_};
 ghost use Rattle.answers.specs.Said.{saidOutcome};
-ghost use Rattle.exports.specs.Exported.{ReadExported, WriteExported, CentralExported, LoadExported, SampleExported, StepExported, CloseExported, AskExported, CaptureExported};
+ghost use Rattle.exports.specs.Exported.{ReadExported, WriteExported, ParseExported, PrintExported, CentralExported, LoadExported, SampleExported, StepExported, CloseExported, AskExported, CaptureExported};
 use answers::Outcome;
 use capturing::CaptureAnswer;
 use central::CentralAnswer;
+use parsing::ParseAnswer;
+use printing::PrintAnswer;
 use rules::ReadAnswer;
 use rules::WriteAnswer;
 use telling::AskAnswer;
@@ -48,6 +50,45 @@ pub extern "C" fn vydrulka_write(
         WriteAnswer::Refused(why) => why.number(),
         WriteAnswer::Written(n) => {
             *written = n as u64;
+            0
+        }
+    }
+}
+
+#[no_mangle]
+pub extern "C" fn vydrulka_parse(
+    text: &[u8],
+    formula: &mut [u8],
+    nodes: &mut u64,
+    line: &mut u64,
+    byte: &mut u64,
+) -> u32
+    ensures { λ r. ⌜ ParseExported (now (text .entry)) (now (formula .entry)) (now (formula .exit)) (now (nodes .entry)) (now (line .entry)) (now (byte .entry)) (now (nodes .exit)) (now (line .exit)) (now (byte .exit)) r ⌝ }
+{
+    let answer = parsing::parse(text, formula);
+    match answer {
+        ParseAnswer::Refused(why) => why.number(),
+        ParseAnswer::NoText(at) => {
+            *line = at.line as u64;
+            *byte = at.byte as u64;
+            16
+        }
+        ParseAnswer::Parsed(n) => {
+            *nodes = n as u64;
+            0
+        }
+    }
+}
+
+#[no_mangle]
+pub extern "C" fn vydrulka_print(formula: &[u8], text: &mut [u8], length: &mut u64) -> u32
+    ensures { λ r. ⌜ PrintExported (now (formula .entry)) (now (text .entry)) (now (text .exit)) (now (length .entry)) (now (length .exit)) r ⌝ }
+{
+    let answer = printing::print(formula, text);
+    match answer {
+        PrintAnswer::Refused(why) => why.number(),
+        PrintAnswer::Printed(n) => {
+            *length = n as u64;
             0
         }
     }
