@@ -7,6 +7,7 @@
 #include "million.h"
 #include "plain.h"
 #include "sides.h"
+#include "texts.h"
 
 #include <stdio.h>
 #include <string.h>
@@ -185,5 +186,5 @@ int main(void)
         times[i] = measured(&in, &ours);
         print_times(times, i, in.typical);
     }
-    return time_million();
+    return time_texts() || time_million();
 }

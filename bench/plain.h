@@ -1,6 +1,7 @@
 // The plain C version of the calls, by hand and for speed: the library's C interface under other names, as a yardstick for its
 // speed. Bytes in place, nothing allocated.
-// Each answers 0 or the refusal's number; what the pointers lead to is written only where the answer is 0.
+// Each answers 0 or the refusal's number; what the pointers lead to is written only where the answer is 0, and parse's line and
+// byte only where it is 16.
 
 #ifndef PLAIN_H
 #define PLAIN_H
@@ -29,5 +30,10 @@ uint32_t plain_ask(const uint8_t *state, size_t state_len, uint32_t *verdict, ui
 
 uint32_t plain_capture(uint8_t *state, size_t state_len, uint8_t *second, size_t second_len, const uint64_t *events,
                        size_t events_len, uint64_t *closed, uint32_t *verdict, uint32_t *stop);
+
+uint32_t plain_parse(const uint8_t *text, size_t text_len, uint8_t *formula, size_t formula_len, uint64_t *nodes, uint64_t *line,
+                     uint64_t *byte);
+
+uint32_t plain_print(const uint8_t *formula, size_t formula_len, uint8_t *text, size_t text_len, uint64_t *length);
 
 #endif

@@ -6,7 +6,8 @@
 #include <stdio.h>
 #include <string.h>
 
-enum { READ = 1, WRITE, CENTRAL, LOAD, SAMPLE, STEP, CLOSE, ASK, POKE, CAPTURE };
+enum { READ = 1, WRITE, CENTRAL, LOAD, SAMPLE, STEP, CLOSE, ASK, POKE, CAPTURE, PARSE, PRINT };
+enum { NO_TEXT = 16 }; // the refusal with a place
 enum { MOST_FILE = 4096, MOST_MASKS = 32, MOST_EVENTS = 256, MOST_BYTES = 8192 };
 
 struct request {
@@ -208,6 +209,36 @@ static int answer_capture(struct request r)
     return 1;
 }
 
+static int answer_parse(struct request r)
+{
+    uint64_t nodes, line, byte;
+    if (r.a > MOST_BYTES || r.c > MOST_BYTES || !take(given, r.a))
+        return 0;
+    fill_lent(r.c);
+    uint32_t number = plain_parse(given, r.a, lent, r.c, &nodes, &line, &byte);
+    printf("%" PRIu32, number);
+    if (number == 0)
+        printf(" %" PRIu64, nodes);
+    else if (number == NO_TEXT)
+        printf(" %" PRIu64 " %" PRIu64, line, byte);
+    print_bytes(lent, r.c);
+    return 1;
+}
+
+static int answer_print(struct request r)
+{
+    uint64_t length;
+    if (r.a > MOST_BYTES || r.c > MOST_BYTES || !take(given, r.a))
+        return 0;
+    fill_lent(r.c);
+    uint32_t number = plain_print(given, r.a, lent, r.c, &length);
+    printf("%" PRIu32, number);
+    if (number == 0)
+        printf(" %" PRIu64, length);
+    print_bytes(lent, r.c);
+    return 1;
+}
+
 static int answer(const uint8_t *header)
 {
     struct request r = {(uint32_t)little_endian(header, 4), (uint32_t)little_endian(header + 4, 4),
@@ -233,6 +264,10 @@ static int answer(const uint8_t *header)
         return answer_poke(r);
     case CAPTURE:
         return answer_capture(r);
+    case PARSE:
+        return answer_parse(r);
+    case PRINT:
+        return answer_print(r);
     default:
         return 0;
     }

@@ -15,6 +15,8 @@ struct side {
     uint32_t (*close)(const uint8_t *, size_t, uint8_t *, size_t);
     uint32_t (*ask)(const uint8_t *, size_t, uint32_t *, uint32_t *, uint64_t *, uint64_t *);
     uint32_t (*capture)(uint8_t *, size_t, uint8_t *, size_t, const uint64_t *, size_t, uint64_t *, uint32_t *, uint32_t *);
+    uint32_t (*parse)(const uint8_t *, size_t, uint8_t *, size_t, uint64_t *, uint64_t *, uint64_t *);
+    uint32_t (*print)(const uint8_t *, size_t, uint8_t *, size_t, uint64_t *);
 };
 
 extern const struct side library, plain;

@@ -1,4 +1,4 @@
-// Makes the formulas and states of deep.h.
+// Makes the formulas, states and texts of deep.h.
 
 #include "deep.h"
 
@@ -186,4 +186,12 @@ void state_of(uint8_t *state, const struct formula *formula, int stepped, size_t
         if (leaf && i + 1 < slots)
             *leaf = (uint8_t)(VYDRULKA_NODE_HOLD + i + 1);
     }
+}
+
+void put_bracketed(uint8_t text[BRACKETED_LENGTH])
+{
+    memset(text, '!', NOTS);
+    memset(text + NOTS, '(', BRACKETS);
+    memcpy(text + NOTS + BRACKETS, "p0", 2);
+    memset(text + NOTS + BRACKETS + 2, ')', BRACKETS);
 }

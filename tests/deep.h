@@ -1,4 +1,5 @@
-// Formulas that are nested as deep as their nodes allow, and states that hold them: what tests/stack.c measures stacks with.
+// Formulas that are nested as deep as their nodes allow, states that hold them, and a text with more brackets than nodes: what
+// tests/stack.c measures stacks with.
 
 #ifndef DEEP_H
 #define DEEP_H
@@ -48,5 +49,9 @@ size_t file_of(uint8_t *file, const struct formula *formula);
 // formula stands in each of them as far as it fits, with the place holder of the next slot for its first leaf: then it is nested
 // through all slots.
 void state_of(uint8_t *state, const struct formula *formula, int stepped, size_t slots);
+
+// The text of as many nots as a rule has room for, and a million brackets around its proposition.
+enum { NOTS = VYDRULKA_RULE_NODES_MOST - 1, BRACKETS = 1000000, BRACKETED_LENGTH = NOTS + BRACKETS + 2 + BRACKETS };
+void put_bracketed(uint8_t text[BRACKETED_LENGTH]);
 
 #endif

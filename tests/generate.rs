@@ -2,9 +2,9 @@
 //   generate SEED COUNT        writes the stream of COUNT requests
 //   generate SEED COUNT list   writes a line for each of them instead: its call, its offset in the stream, its length, its case
 //   generate SEED COUNT inputs ROOM   writes COUNT inputs of the run program into files ROOM/1, ROOM/2, .. and a line with the case of each
-// The worked values, examples of captures, the rules at the borders and the smallest formulas with constants come first; then the
-// cases below, for the calls without a state, and the episodes on the kept state take turns, so that a stream of some hundreds more
-// meets each of them often.
+// The worked values, named texts, examples of captures, the rules at the borders and the smallest formulas with constants come first;
+// then the cases below, for the calls without a state, and the episodes on the kept state take turns, so that a stream of some
+// hundreds more meets each of them often.
 
 #[path = "generate/borders.rs"]
 mod borders;
@@ -39,8 +39,12 @@ mod inputs;
 mod model;
 #[path = "generate/moments.rs"]
 mod moments;
+#[path = "generate/parsing.rs"]
+mod parsing;
 #[path = "generate/patterns.rs"]
 mod patterns;
+#[path = "generate/printing.rs"]
+mod printing;
 #[path = "generate/random.rs"]
 mod random;
 #[path = "generate/request.rs"]
@@ -57,12 +61,16 @@ mod spoilt_formulas;
 mod spoilt_records;
 #[path = "generate/spots.rs"]
 mod spots;
+#[path = "generate/texts.rs"]
+mod texts;
 #[path = "generate/watches.rs"]
 mod watches;
 #[path = "generate/worked.rs"]
 mod worked;
 #[path = "generate/worked_captures.rs"]
 mod worked_captures;
+#[path = "generate/worked_texts.rs"]
+mod worked_texts;
 #[path = "generate/worked_watches.rs"]
 mod worked_watches;
 #[path = "generate/write.rs"]
@@ -79,51 +87,72 @@ type Case = fn(&mut Random, bool) -> Request;
 
 const CASES: &[(&str, &str, Case)] = &[
     ("central", "small", central::small),
+    ("parse", "typed", parsing::any),
     ("read", "accepted", |random, large| files::of(&rules::rule(random, large)).read()),
     ("write", "accepted", |random, large| write::of(&rules::rule(random, large))),
+    ("print", "any", printing::any),
     ("central", "temporal", central::temporal),
     ("central", "plain", central::plain),
+    ("parse", "damaged", parsing::damaged_text),
     ("read", "smallest", |random, large| files::of(&rules::smallest(random, large)).read()),
     ("central", "left leaning", central::left_chain_of),
     ("central", "right leaning", central::right_chain_of),
+    ("print", "small", printing::small),
     ("read", "length", |random, large| files::length(random, large).read()),
     ("central", "constants", central::constants),
+    ("parse", "bare", parsing::bare),
     ("central", "member", central::member),
     ("read", "cut or extended", |random, large| files::cut_or_extended(random, large).read()),
     ("central", "no member", central::no_member),
+    ("parse", "cut", parsing::cut),
     ("central", "members", central::members),
     ("central", "folding: few constants", folding::few),
+    ("print", "chain", printing::chain),
     ("read", "version", |random, large| files::version(random, large).read()),
     ("central", "negations", central::negations),
     ("central", "unfold limit", central::unfold_limit),
+    ("parse", "spaced", parsing::spaced),
     ("central", "folding: many constants", folding::many),
     ("read", "range", |random, large| files::range(random, large).read()),
     ("central", "nested limit", central::nested_limit),
+    ("print", "damaged", printing::damaged),
     ("central", "far too large", central::far_too_large),
     ("central", "folding: around a formula", folding::around),
+    ("parse", "too many nodes", parsing::too_many_nodes),
     ("read", "offset", |random, large| files::offset(random, large).read()),
     ("central", "wrong size", central::wrong_size),
     ("central", "wrong lent", central::wrong_lent),
+    ("parse", "brackets", parsing::brackets),
     ("central", "folding: around a limit", folding::around_limit),
     ("read", "oversized", |random, large| files::oversized(random, large).read()),
     ("central", "damaged", central::damaged),
+    ("print", "longest", printing::longest),
     ("central", "damaged and large", central::damaged_and_large),
     ("central", "folding: decided", folding::decided),
+    ("parse", "any signs", parsing::signs),
     ("read", "masks", |random, large| files::of(&rules::bad_masks(random, large)).read()),
     ("central", "any bytes", central::any_bytes),
+    ("parse", "bracketed", parsing::bracketed),
     ("central", "folding: too large beside", folding::too_large_beside),
     ("write", "smallest", |random, large| write::of(&rules::smallest(random, large))),
     ("read", "formula", |random, large| files::of(&rules::bad_formula(random, large)).read()),
     ("write", "length", write::length),
+    ("print", "wrong size", printing::wrong_size),
     ("write", "range", write::range),
     ("central", "folding: true until", folding::true_until),
+    ("parse", "any bytes", parsing::bytes),
     ("read", "several", |random, large| files::several(random, large).read()),
     ("write", "masks", |random, large| write::of(&rules::bad_masks(random, large))),
+    ("parse", "damaged and long", parsing::damaged_and_long),
     ("write", "formula", |random, large| write::of(&rules::bad_formula(random, large))),
     ("central", "folding: damaged", folding::damaged),
+    ("print", "wrong lent", printing::wrong_lent),
     ("read", "wrongly lent", |random, large| files::wrongly_lent(random, large).read()),
+    ("parse", "wrong lent", parsing::wrong_lent),
+    ("print", "any bytes", printing::bytes),
     ("read", "flipped", |random, large| files::flipped(random, large).read()),
     ("write", "several", write::several),
+    ("parse", "twice", parsing::twice),
 ];
 
 // One round of the cases in so many asks for large requests.
@@ -132,13 +161,14 @@ const LARGE_EVERY: usize = 6;
 // What opens every stream.
 fn opening(script: &mut Script) -> Vec<Made> {
     let worked = worked::worked().into_iter().map(|(call, request)| (call, "worked value", request));
+    let texts = worked_texts::worked().into_iter().map(|(call, request)| (call, "worked value", request));
     let borders = borders::borders().into_iter().map(|(call, request)| (call, "border", request));
     let folded = folding::each_small().into_iter().map(|request| ("central", "folding: small", request));
     worked_watches::watched(script);
     worked_captures::captured(script);
     borders::loaded(script);
     folded_rules::loaded(script);
-    worked.chain(borders).chain(folded).chain(std::iter::from_fn(|| script.take())).collect()
+    worked.chain(texts).chain(borders).chain(folded).chain(std::iter::from_fn(|| script.take())).collect()
 }
 
 // Hands on the requests of a stream, one after the other.

@@ -1,8 +1,9 @@
-// The second program: the rules of document 01 once more (second/model.rs), in a program that shares no code with the crates.
+// The second program: the rules of document 01 once more, and the texts of 02 (second/model.rs), in a program that shares no code with
+// the crates.
 //   second        answers the requests of PROTOCOL.md from standard input, one line each
 //   second run    does what 01 says of the run program
 // tests/compare holds the Rattle program `replay` to it, tests/watches the Rattle program `run`, and tests/store keeps its answers.
-// `rustc --test` runs it on 01's worked values, on random watches and captures, and on formulas with constants.
+// `rustc --test` runs it on 01's worked values, on random watches and captures, on formulas with constants, and on texts.
 
 #[path = "second/model.rs"]
 mod model;
@@ -34,6 +35,12 @@ mod invariants;
 #[path = "second/meaning.rs"]
 mod meaning;
 #[cfg(test)]
+#[path = "second/oracle.rs"]
+mod oracle;
+#[cfg(test)]
+#[path = "second/printed.rs"]
+mod printed;
+#[cfg(test)]
 #[allow(dead_code)]
 #[path = "generate/random.rs"]
 mod random;
@@ -47,11 +54,21 @@ mod spots;
 #[path = "second/stops.rs"]
 mod stops;
 #[cfg(test)]
+#[allow(dead_code)]
+#[path = "generate/texts.rs"]
+mod texts;
+#[cfg(test)]
 #[path = "second/trying.rs"]
 mod trying;
 #[cfg(test)]
+#[path = "second/typed.rs"]
+mod typed;
+#[cfg(test)]
 #[path = "second/worked.rs"]
 mod worked;
+#[cfg(test)]
+#[path = "second/worked_texts.rs"]
+mod worked_texts;
 
 use std::io::{Read, Write};
 

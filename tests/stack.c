@@ -22,6 +22,9 @@ static uint64_t event, slot, events[EVENTS];
 static size_t file_length;
 static uint8_t file[VYDRULKA_FILE_MOST];
 static uint8_t state[VYDRULKA_STATE_LENGTH], second[VYDRULKA_STATE_LENGTH], third[VYDRULKA_STATE_LENGTH];
+static const uint8_t *text;
+static size_t text_length;
+static uint8_t printed[VYDRULKA_TEXT_LENGTH], bracketed[BRACKETED_LENGTH];
 
 // What the other outputs are; nobody looks at them.
 static uint64_t read_masks[VYDRULKA_BOARDS_MOST], numbers[3];
@@ -74,7 +77,17 @@ static void make_capture(void)
     answer = vydrulka_capture(second, sizeof second, third, sizeof third, events, EVENTS, &numbers[0], &words[0], &words[1]);
 }
 
-enum call { READ, WRITE, CENTRAL, LOAD, SAMPLE, STEP, CLOSE, ASK, CAPTURE, CALLS };
+static void make_parse(void)
+{
+    answer = vydrulka_parse(text, text_length, read_formula, sizeof read_formula, &numbers[0], &numbers[1], &numbers[2]);
+}
+
+static void make_print(void)
+{
+    answer = vydrulka_print(formula.bytes, formula.nodes, printed, sizeof printed, &numbers[0]);
+}
+
+enum call { READ, WRITE, CENTRAL, LOAD, SAMPLE, STEP, CLOSE, ASK, CAPTURE, PARSE, PRINT, CALLS };
 
 static const struct {
     const char *name;
@@ -90,6 +103,8 @@ static const struct {
     [CLOSE] = {"close", make_close, VYDRULKA_STACK_CLOSE},
     [ASK] = {"ask", make_ask, VYDRULKA_STACK_ASK},
     [CAPTURE] = {"capture", make_capture, VYDRULKA_STACK_CAPTURE},
+    [PARSE] = {"parse", make_parse, VYDRULKA_STACK_PARSE},
+    [PRINT] = {"print", make_print, VYDRULKA_STACK_PRINT},
 };
 
 // What is done with a call: it is measured, or made on a small stack.
@@ -194,7 +209,7 @@ static void limit(enum call call)
     count_input(call);
 }
 
-// Inputs. A formula goes to the calls as it is, in a rule file, and in states.
+// Inputs. A formula goes to the calls as it is, in a rule file, as its text, and in states.
 
 static void take_central(void)
 {
@@ -208,6 +223,27 @@ static void take_file(void)
     take(READ);
     take(WRITE);
     take(LOAD);
+}
+
+static void take_text(void)
+{
+    take(PRINT);
+    make_print();
+    text = printed;
+    text_length = numbers[0];
+    take(PARSE);
+}
+
+// A text far longer than any print, whole and without its last bracket.
+static void take_brackets(void)
+{
+    put_bracketed(bracketed);
+    text = bracketed;
+    for (size_t missing = 0; missing < 2; missing++) {
+        text_length = BRACKETED_LENGTH - missing;
+        snprintf(shape, sizeof shape, "a text of %zu bytes", text_length);
+        take(PARSE);
+    }
 }
 
 enum { SAMPLE_0 = 16 + 8, SAMPLED_0 = 16 + 16, SAMPLED_1 = SAMPLED_0 + 17 };
@@ -273,6 +309,7 @@ static void take_nest(const struct pattern *pattern, size_t most, int filled)
     nest(&formula, pattern, most / 4, filled);
     name_shape(pattern, 1);
     take_file();
+    take_text();
     for (size_t slots = 2; slots <= VYDRULKA_SLOTS_MOST && slots * 4 <= most; slots *= 2) {
         nest(&formula, pattern, most / slots, filled);
         name_shape(pattern, slots);
@@ -343,6 +380,7 @@ static void take_chances(struct chance *chance, size_t count)
         take_capture_later();
         any[i % 2](&formula, chance, 8 + below(chance, VYDRULKA_RULE_NODES_MOST - 8));
         take_file();
+        take_text();
         take_run(chance);
         take_watch(chance);
     }
@@ -358,6 +396,7 @@ static void *measure_all(void *given)
     struct chances *chances = given;
     take = measure;
     paint_all();
+    take_brackets();
     take_layers(32);
     take_pairs(32);
     take_chances(&chances->chance, chances->count);
@@ -397,6 +436,7 @@ static void hold_to_limits(void)
         must(pthread_attr_setstack(&attributes, stack, size) == 0, "pthread_attr_setstack");
         printf("%-8s", calls[limited].name);
         fflush(stdout);
+        take_brackets();
         take_layers(VYDRULKA_NODES_MOST);
         size_t most = used(stack, size);
         printf(" %7zu of %7zu bytes used, the thread's own with them; %zu of %zu inputs accepted\n", most, size,

@@ -53,6 +53,14 @@ impl Request {
         Request { call: 10, a: events.len(), b: state_lent, c: second_lent, v: 0, payload }
     }
 
+    pub fn parse(text: Vec<u8>, formula_lent: usize) -> Request {
+        Request { call: 11, a: text.len(), b: 0, c: formula_lent, v: 0, payload: text }
+    }
+
+    pub fn print(formula: Vec<u8>, text_lent: usize) -> Request {
+        Request { call: 12, a: formula.len(), b: 0, c: text_lent, v: 0, payload: formula }
+    }
+
     pub fn bytes(&self) -> Vec<u8> {
         let mut bytes = vec![self.call, 0, 0, 0];
         for number in [self.a, self.b, self.c] {

@@ -7,32 +7,13 @@ use crate::meaning::meets;
 use crate::model::central::{central, OUTPUT};
 use crate::model::folding::fold;
 use crate::model::formula::Formula::{self, *};
-use crate::model::formula::{always, and, bytes_of, eventually, next, not, or, parse_rule, until};
+use crate::model::formula::{bytes_of, parse_rule};
 use crate::model::progression::{resolve, unfold};
 use crate::model::refusal::Refusal;
 use crate::random::Random;
+use crate::trying::all_small;
 
 const PROPOSITIONS: usize = 2;
-
-// All formulas of up to so many nodes with these leaves.
-fn all_small(leaves: &[Formula], most: usize) -> Vec<Formula> {
-    let mut sizes: Vec<Vec<Formula>> = vec![Vec::new(), leaves.to_vec()];
-    for nodes in 2..=most {
-        let mut all = Vec::new();
-        for f in &sizes[nodes - 1] {
-            all.extend([not, next, eventually, always].map(|make| make(f.clone())));
-        }
-        for left in 1..nodes - 1 {
-            for f in &sizes[left] {
-                for g in &sizes[nodes - 1 - left] {
-                    all.extend([and, or, until].map(|make| make(f.clone(), g.clone())));
-                }
-            }
-        }
-        sizes.push(all);
-    }
-    sizes.concat()
-}
 
 // Each formula of up to five nodes, and larger ones by chance, with few constants and with many.
 fn formulas(random: &mut Random) -> Vec<Formula> {

@@ -131,7 +131,7 @@ fn encode(f: &Formula, out: &mut Vec<u8>) {
     f.operands().for_each(|operand| encode(operand, out));
 }
 
-fn code(f: &Formula) -> u8 {
+pub fn code(f: &Formula) -> u8 {
     match f {
         False => 0,
         True => 1,

@@ -1,5 +1,5 @@
-// The rules of document 01 once more, written from 01 alone, on trees and for clarity: what the second program answers by, and
-// what the generator knows valid states by.
+// The rules of document 01 once more, and the texts of 02, written from these alone, on trees and for clarity: what the second program
+// answers by, and what the generator knows valid states by.
 
 pub mod bytes;
 pub mod capture;
@@ -7,9 +7,13 @@ pub mod central;
 pub mod check;
 pub mod folding;
 pub mod formula;
+pub mod grammar;
+pub mod parse;
+pub mod print;
 pub mod progression;
 pub mod refusal;
 pub mod rule_file;
 pub mod splitting;
 pub mod state;
+pub mod text;
 pub mod watch;

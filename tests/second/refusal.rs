@@ -1,4 +1,4 @@
-// A refusal is its number in 01's table. Lent outputs are written by accepted calls alone.
+// A refusal is its number in 01's table, and in 02's. Lent outputs are written by accepted calls alone.
 
 #[derive(Clone, Copy, Debug, PartialEq)]
 pub enum Refusal {
@@ -17,6 +17,7 @@ pub enum Refusal {
     Already = 13,
     NotReady = 14,
     Ticks = 15,
+    Text = 16,
 }
 
 // The refusal where the condition fails.

@@ -3,6 +3,8 @@
 use crate::model::bytes::{front_and_rest, little_endian};
 use crate::model::capture::{capture, Captured};
 use crate::model::central::central;
+use crate::model::parse::{parse, NotParsed};
+use crate::model::print::print;
 use crate::model::refusal::Refusal;
 use crate::model::rule_file::{read, write};
 use crate::model::watch::{ask, close, load, sample, step};
@@ -17,6 +19,8 @@ const CLOSE: u64 = 7;
 const ASK: u64 = 8;
 const POKE: u64 = 9;
 const CAPTURE: u64 = 10;
+const PARSE: u64 = 11;
+const PRINT: u64 = 12;
 
 const KEPT: u64 = 8192;
 const MOST_LENT: u64 = 8192;
@@ -58,7 +62,7 @@ impl<'a> Request<'a> {
         let (good, length) = match call {
             READ => (within([4096, 32, MOST_LENT]), a),
             WRITE => (within([32, 8192, MOST_LENT]), 8 * a + b),
-            CENTRAL => (within([8192, ANY, MOST_LENT]), a),
+            CENTRAL | PARSE | PRINT => (within([8192, ANY, MOST_LENT]), a),
             LOAD => (within([4096, ANY, MOST_LENT]), a),
             SAMPLE => (within([ANY, KEPT, ANY]), 8),
             STEP | ASK => (within([ANY, KEPT, ANY]), 0),
@@ -85,7 +89,9 @@ impl<'a> Request<'a> {
             CLOSE => self.answer_close(kept),
             ASK => self.answer_ask(&kept[..self.b as usize]),
             POKE => self.answer_poke(kept),
-            _ => self.answer_capture(&mut kept[..self.b as usize]),
+            CAPTURE => self.answer_capture(&mut kept[..self.b as usize]),
+            PARSE => self.answer_parse(),
+            _ => self.answer_print(),
         }
     }
 
@@ -93,7 +99,7 @@ impl<'a> Request<'a> {
         let (mut masks, mut formula) = (lent_masks(self.b), lent_bytes(self.c));
         let result = read(self.payload, &mut masks, &mut formula);
         let values = result.map(|counts| vec![counts.boards, counts.propositions, counts.nodes]);
-        Answer { values, hashes: vec![hash(&bytes_of_masks(&masks)), hash(&formula)] }
+        Answer { values, behind: vec![hash(&bytes_of_masks(&masks)), hash(&formula)] }
     }
 
     fn answer_write(&self) -> Answer {
@@ -101,14 +107,14 @@ impl<'a> Request<'a> {
         let masks = numbers_of(masks);
         let mut file = lent_bytes(self.c);
         let result = write(&masks, self.v, formula, &mut file);
-        Answer { values: result.map(|length| vec![length]), hashes: vec![hash(&file)] }
+        Answer { values: result.map(|length| vec![length]), behind: vec![hash(&file)] }
     }
 
     fn answer_central(&self) -> Answer {
         let mut output = lent_bytes(self.c);
         let result = central(self.payload, self.v, &mut output);
         let values = result.map(|(verdict, length)| vec![verdict as u64, length]);
-        Answer { values, hashes: vec![hash(&output)] }
+        Answer { values, behind: vec![hash(&output)] }
     }
 
     fn answer_load(&self, kept: &mut [u8]) -> Answer {
@@ -117,39 +123,39 @@ impl<'a> Request<'a> {
         if result.is_ok() {
             kept[..state.len()].copy_from_slice(&state);
         }
-        Answer { values: result.map(|()| vec![]), hashes: vec![hash(&state)] }
+        Answer { values: result.map(|()| vec![]), behind: vec![hash(&state)] }
     }
 
     fn answer_sample(&self, state: &mut [u8]) -> Answer {
         let result = sample(state, little_endian(self.payload), self.v);
-        Answer { values: result.map(|()| vec![]), hashes: vec![hash(state)] }
+        Answer { values: result.map(|()| vec![]), behind: vec![hash(state)] }
     }
 
     fn answer_step(&self, state: &mut [u8]) -> Answer {
         let result = step(state, self.v);
-        Answer { values: result.map(|()| vec![]), hashes: vec![hash(state)] }
+        Answer { values: result.map(|()| vec![]), behind: vec![hash(state)] }
     }
 
     fn answer_close(&self, kept: &mut [u8]) -> Answer {
         let state = &kept[..self.b as usize];
         let mut second = lent_bytes(self.c);
         let result = close(state, &mut second);
-        let hashes = vec![hash(state), hash(&second)];
+        let behind = vec![hash(state), hash(&second)];
         if result.is_ok() {
             kept[..second.len()].copy_from_slice(&second);
         }
-        Answer { values: result.map(|()| vec![]), hashes }
+        Answer { values: result.map(|()| vec![]), behind }
     }
 
     fn answer_ask(&self, state: &[u8]) -> Answer {
         let values = ask(state).map(|standing| vec![standing.verdict as u64, standing.ticks, standing.slots, standing.nodes]);
-        Answer { values, hashes: vec![hash(state)] }
+        Answer { values, behind: vec![hash(state)] }
     }
 
     fn answer_poke(&self, kept: &mut [u8]) -> Answer {
         let offset = self.b as usize;
         kept[offset..offset + self.payload.len()].copy_from_slice(self.payload);
-        Answer { values: Ok(vec![]), hashes: vec![] }
+        Answer { values: Ok(vec![]), behind: vec![] }
     }
 
     fn answer_capture(&self, state: &mut [u8]) -> Answer {
@@ -157,7 +163,23 @@ impl<'a> Request<'a> {
         let result = capture(state, &mut second, &numbers_of(self.payload));
         let stop = |refusal: Option<Refusal>| refusal.map_or(0, |refusal| refusal as u64);
         let values = result.map(|Captured { closed, verdict, refusal }| vec![closed, verdict as u64, stop(refusal)]);
-        Answer { values, hashes: vec![hash(state), hash(&second)] }
+        Answer { values, behind: vec![hash(state), hash(&second)] }
+    }
+
+    fn answer_parse(&self) -> Answer {
+        let mut formula = lent_bytes(self.c);
+        let (values, place) = match parse(self.payload, &mut formula) {
+            Ok(nodes) => (Ok(vec![nodes]), vec![]),
+            Err(NotParsed::Refused(refusal)) => (Err(refusal), vec![]),
+            Err(NotParsed::NoText(place)) => (Err(Refusal::Text), vec![place.line, place.byte]),
+        };
+        Answer { values, behind: [place, vec![hash(&formula)]].concat() }
+    }
+
+    fn answer_print(&self) -> Answer {
+        let mut text = lent_bytes(self.c);
+        let result = print(self.payload, &mut text);
+        Answer { values: result.map(|length| vec![length]), behind: vec![hash(&text)] }
     }
 }
 
@@ -184,7 +206,7 @@ fn hash(bytes: &[u8]) -> u64 {
 
 struct Answer {
     values: Result<Vec<u64>, Refusal>,
-    hashes: Vec<u64>,
+    behind: Vec<u64>, // the place of a text that is none, and the hashes
 }
 
 impl Answer {
@@ -193,7 +215,7 @@ impl Answer {
             Ok(values) => [&[0], &values[..]].concat(),
             Err(refusal) => vec![*refusal as u64],
         };
-        fields.extend(&self.hashes);
+        fields.extend(&self.behind);
         let words: Vec<String> = fields.iter().map(u64::to_string).collect();
         words.join(" ") + "\n"
     }

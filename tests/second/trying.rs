@@ -1,10 +1,11 @@
 // What the tests of the second program share: what central leaves, rule files, watches moved along a tick at a time, states as someone
-// might hand them over, and room for deep formulas.
+// might hand them over, texts read, all small formulas, and room for deep ones.
 
 use crate::model::capture::{capture, Captured};
 use crate::model::central::{central, OUTPUT};
 use crate::model::check::network_of;
-use crate::model::formula::{bytes_of, parse_slot, Formula};
+use crate::model::formula::{always, and, bytes_of, eventually, next, not, or, parse_slot, until, Formula};
+use crate::model::parse::{parse, NotParsed, Place, FORMULA};
 use crate::model::refusal::Refusal;
 use crate::model::rule_file::write;
 use crate::model::state::{Board, Network, Slot, STATE};
@@ -99,6 +100,22 @@ pub fn formula(bytes: &[u8]) -> Formula {
     parse_slot(bytes).unwrap()
 }
 
+// The formula of a text. A refusal must write nothing, and behind the formula must be zeros.
+pub fn parsed(text: &[u8]) -> Result<Vec<u8>, NotParsed> {
+    let mut output = lent_bytes(FORMULA as u64);
+    let result = parse(text, &mut output);
+    match result {
+        Ok(nodes) => assert!(output.drain(nodes as usize..).all(|byte| byte == 0)),
+        Err(_) => assert_eq!(output, lent_bytes(FORMULA as u64)),
+    }
+    result.map(|_| output)
+}
+
+// That a text is none from this byte of this line on.
+pub fn no_text(line: u64, byte: usize) -> Result<Vec<u8>, NotParsed> {
+    Err(NotParsed::NoText(Place { line, byte: byte as u64 }))
+}
+
 // The rule file and the events, as the run program reads them.
 pub fn input(masks: &[u64], formula: &[u8], events: &[u64]) -> Vec<u8> {
     let mut input = file(masks, formula);
@@ -114,6 +131,26 @@ pub fn chain(count: usize, link: &[u8]) -> Vec<u8> {
 // The same of a or b.
 pub fn copies(count: usize) -> Vec<u8> {
     chain(count, &[4, 64, 65])
+}
+
+// All formulas of up to so many nodes with these leaves.
+pub fn all_small(leaves: &[Formula], most: usize) -> Vec<Formula> {
+    let mut sizes: Vec<Vec<Formula>> = vec![Vec::new(), leaves.to_vec()];
+    for nodes in 2..=most {
+        let mut all = Vec::new();
+        for f in &sizes[nodes - 1] {
+            all.extend([not, next, eventually, always].map(|make| make(f.clone())));
+        }
+        for left in 1..nodes - 1 {
+            for f in &sizes[left] {
+                for g in &sizes[nodes - 1 - left] {
+                    all.extend([and, or, until].map(|make| make(f.clone(), g.clone())));
+                }
+            }
+        }
+        sizes.push(all);
+    }
+    sizes.concat()
 }
 
 // Runs a test that walks down thousands of levels.

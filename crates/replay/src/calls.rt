@@ -2,11 +2,16 @@
 use answers::Outcome;
 use capturing::CaptureAnswer;
 use central::CentralAnswer;
+use cursor::TextCursor;
+use parsing::ParseAnswer;
+use printing::PrintAnswer;
 use requests::header::ASK;
 use requests::header::CAPTURE;
 use requests::header::CENTRAL;
 use requests::header::CLOSE;
 use requests::header::LOAD;
+use requests::header::PARSE;
+use requests::header::PRINT;
 use requests::header::READ;
 use requests::header::SAMPLE;
 use requests::header::STEP;
@@ -43,6 +48,28 @@ fn write(masks: &[u64], propositions: u64, formula: &[u8], file: &mut [u8]) -> A
     match answer {
         WriteAnswer::Refused(refusal) => Answered::refused(refusal),
         WriteAnswer::Written(length) => Answered::accepted(1, length as u64, 0, 0, 0),
+    }
+}
+
+// Of bytes that are no text: the place.
+fn no_text(at: TextCursor) -> Answered {
+    Answered::no_text(at.line as u64, at.byte as u64)
+}
+
+fn parse(text: &[u8], formula: &mut [u8]) -> Answered {
+    let answer = parsing::parse(text, formula);
+    match answer {
+        ParseAnswer::Refused(refusal) => Answered::refused(refusal),
+        ParseAnswer::NoText(at) => no_text(at),
+        ParseAnswer::Parsed(nodes) => Answered::accepted(1, nodes as u64, 0, 0, 0),
+    }
+}
+
+fn print(formula: &[u8], text: &mut [u8]) -> Answered {
+    let answer = printing::print(formula, text);
+    match answer {
+        PrintAnswer::Refused(refusal) => Answered::refused(refusal),
+        PrintAnswer::Printed(length) => Answered::accepted(1, length as u64, 0, 0, 0),
     }
 }
 
@@ -134,6 +161,8 @@ pub fn make(
     match call {
         READ => read(given, numbers, fresh),
         WRITE => write(numbers, value, given, fresh),
+        PARSE => parse(given, fresh),
+        PRINT => print(given, fresh),
         CENTRAL => central(given, value, fresh),
         LOAD => load(given, fresh),
         SAMPLE => sample(kept, given, value),

@@ -36,6 +36,10 @@ pub const POKE: u32 = 9;
 
 pub const CAPTURE: u32 = 10;
 
+pub const PARSE: u32 = 11;
+
+pub const PRINT: u32 = 12;
+
 // A board's number is the payload of sample.
 const BOARD_LENGTH: usize = 8;
 
@@ -103,6 +107,8 @@ fn request_of(call: u32, a: u32, b: u32, c: u32, v: u64) -> Request {
         ASK => asked(ASK, 0, 0, 0, 0, b as usize),
         POKE => asked(POKE, 0, 0, a as usize, 0, a as usize + b as usize),
         CAPTURE => asked(CAPTURE, 0, a as usize, 0, c as usize, b as usize),
+        PARSE => asked(PARSE, 0, 0, a as usize, c as usize, 0),
+        PRINT => asked(PRINT, 0, 0, a as usize, c as usize, 0),
         _ => none(),
     }
 }
@@ -141,6 +147,8 @@ pub fn lends_fresh(call: u32) -> bool {
         LOAD => true,
         CLOSE => true,
         CAPTURE => true,
+        PARSE => true,
+        PRINT => true,
         _ => false,
     }
 }

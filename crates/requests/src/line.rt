@@ -6,7 +6,7 @@ use crate::header;
 use crate::lent;
 use answers::Refusal;
 
-// What a call has answered: 0 or the refusal's number, and so many values.
+// What a call has answered: 0 or the refusal's number, and so many values; a refusal has them where bytes are no text.
 pub struct Answered {
     pub number: u64,
     pub count: usize,
@@ -34,6 +34,18 @@ impl Answered {
             count: 0,
             first: 0,
             second: 0,
+            third: 0,
+            fourth: 0,
+        }
+    }
+
+    // Bytes that are no text, with the place.
+    pub fn no_text(line: u64, byte: u64) -> Answered {
+        Answered {
+            number: Refusal::Text.number() as u64,
+            count: 2,
+            first: line,
+            second: byte,
             third: 0,
             fourth: 0,
         }
