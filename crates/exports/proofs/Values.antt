@@ -4,7 +4,7 @@ use mathlib.Core.List.{List}
 use Prim.Native.Nat.{ℕ, _<_}
 use native.Mathlib.Omega.{arith}
 use lib.ListN.{getD}
-use borrow.Author.Tests.{ne-eqb}
+use borrow.Author.Tests.{eq-eqb, ne-eqb}
 use Rattle.lists.specs.Tests.{pick}
 use Rattle.answers.specs.declared.Refusal.{Refusal}
 use Rattle.answers.specs.Said.{Said, accepted, refused, refusedWith, numberOf}
@@ -24,6 +24,11 @@ value-refused why i before e = sym (kept why i before) ∙ ap (λ (x : Said). va
 
 pub value-accepted : {s : Said} (vs : List ℕ) (i before : ℕ) → accepted vs ≡ s → getD vs i 0 ≡ valueAt s i before
 value-accepted vs i before e = sym (given vs i before) ∙ ap (λ (x : Said). valueAt x i before) e
+
+-- by the number alone
+pub value-zero : (s : Said) (i before : ℕ) → s .number ≡ 0 → valueAt s i before ≡ getD (s .values) i 0
+unfolding valueAt pick
+value-zero s i before e = rw (eq-eqb (s .number) 0 e)
 
 -- a refusal that tells more gives no value
 pub value-with : (n : ℕ) (vs : List ℕ) (i before : ℕ) → 0 < n → before ≡ valueAt (refusedWith n vs) i before

@@ -1,4 +1,5 @@
 -- Laws of printing.
 pub mod Texts
 pub mod Outcomes
+pub mod Told
 pub mod Determined

@@ -17,7 +17,7 @@ use Rattle.answers.specs.declared.Refusal.the-variants.{Length, Range, Formula}
 use Rattle.answers.specs.Said.{Said, accepted, refused, left, numberOf}
 use Rattle.answers.proofs.Answers.{left-refused, left-accepted, order-ok, order-refused, order-done, order-passed}
 use Rattle.ltl.specs.Formula as formula
-use Rattle.ltl.specs.Formula.{encode}
+use Rattle.ltl.specs.Formula.{encode, Within}
 use Rattle.ltl.specs.Decode.{decoded, formulaOf, isRule, someFormula}
 use Rattle.ltl.proofs.Decoding.{rule-is, decoded-of, wider}
 use Rattle.nodes.specs.Begins.{Front}
@@ -37,19 +37,23 @@ print-passed s room e =
     let q = order-passed _ _ (omega arith, (omega arith, (omega arith, tt))) e in
     record { space = q .0; count = q .1 .0; rule = q .1 .1 .0 }
 
--- the bytes of one formula
-record RuleBytes (s : List ℕ) : Type 0 where
-  formula-is : formula.Formula
-  front : Front s formula-is []
-  same : formulaOf s ≡ formula-is
+-- the bytes of one formula, a rule's
+pub record RuleBytes (s : List ℕ) : Type 0 where
+  pub formula-is : formula.Formula
+  pub within : Within propositionsMost 0 formula-is
+  pub bytes : s ≡ encode formula-is
+  pub front : Front s formula-is []
+  pub same : formulaOf s ≡ formula-is
 
-rule-bytes : (s : List ℕ) → isRule propositionsMost s ≡ true → RuleBytes s
+pub rule-bytes : (s : List ℕ) → isRule propositionsMost s ≡ true → RuleBytes s
 rule-bytes s e =
     let t = rule-is propositionsMost s e in
     let f = t .formula in
     let c = wider propositionsMost 0 propositionsMost holderCodes (omega arith) (omega arith) f (t .within) in
     record {
       formula-is = f;
+      within = t .within;
+      bytes = t .bytes;
       front = record { coded = c; bytes = t .bytes ∙ sym (append-nil (encode f)) };
       same = ap someFormula (ap decoded (t .bytes) ∙ decoded-of f c);
     }
@@ -87,7 +91,7 @@ module _ (s text : List ℕ) where
       unfolding printSays
       print-formula h = refusal Formula (order-ok 1 _ _ _ o₁ ∙ order-ok 3 _ _ _ o₂ ∙ order-refused 6 _ _ _ h)
 
-  says-printed : PrintPassed s (length text) → printSays s (length text) ≡ accepted (length (printed (formulaOf s)) ∷ [])
+  pub says-printed : PrintPassed s (length text) → printSays s (length text) ≡ accepted (length (printed (formulaOf s)) ∷ [])
   unfolding printSays
   says-printed o = order-ok 1 _ _ _ (o .space) ∙ order-ok 3 _ _ _ (o .count) ∙ order-ok 6 _ _ _ (o .rule) ∙ order-done _
 
