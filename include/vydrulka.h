@@ -51,8 +51,8 @@ enum {
 enum {
     VYDRULKA_STACK_READ = 32768,      // 344
     VYDRULKA_STACK_WRITE = 32768,     // 104
-    VYDRULKA_STACK_PARSE = 32768,     // PARSE_BYTES, whatever the text
-    VYDRULKA_STACK_PRINT = 32768,     // PRINT_BYTES, whatever the formula
+    VYDRULKA_STACK_PARSE = 32768,     // 9,368, whatever the text
+    VYDRULKA_STACK_PRINT = 32768,     // 2,136, whatever the formula
     VYDRULKA_STACK_CENTRAL = 32768,   // 20,856, whatever the formula
     VYDRULKA_STACK_LOAD = 1048576,    // 1,014,528, a rule of 1,023 nots
     VYDRULKA_STACK_SAMPLE = 32768,    // 520
