@@ -34,8 +34,8 @@ print-told s text {text′} {n} zero leaves told =
     let e = says-printed s text o in
     let long : n ≡ length (printed f) = told ∙ ap (λ (x : Said). getD (x .values) 0 0) e ∙ ap (λ (g : Formula). length (printed g)) (r .same) in
     let all : text′ ≡ printed f ++ replicate (textLength - length (printed f)) 0 =
-      leaves ∙ ap (λ (x : Said). left x (padded textLength (printed (formulaOf s))) text) e
-      ∙ left-accepted (length (printed (formulaOf s)) ∷ []) (padded textLength (printed (formulaOf s))) text ∙ ap (λ (g : Formula). padded textLength (printed g)) (r .same) in
+    leaves ∙ ap (λ (x : Said). left x (padded textLength (printed (formulaOf s))) text) e
+    ∙ left-accepted (length (printed (formulaOf s)) ∷ []) (padded textLength (printed (formulaOf s))) text ∙ ap (λ (g : Formula). padded textLength (printed g)) (r .same) in
     record {
       formula = f;
       within = r .within;

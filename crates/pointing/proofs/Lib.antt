@@ -1,0 +1,3 @@
+-- Laws of places that are shown.
+pub mod Windows
+pub mod Columns

@@ -1,0 +1,2 @@
+-- Laws of what the calls answer.
+pub mod Few

@@ -1,0 +1,23 @@
+// The file that the second argument names.
+ghost use lib.ListN.{length};
+ghost use Rattle.files.specs.Within.{Within};
+use crate::output;
+use files::FileAnswer;
+
+// Where the file's name stands among the arguments.
+const FILE_AT: usize = 2;
+
+// Reads the file to the front of the room. Where it cannot, that is told here.
+pub fn take(room: &mut [u8]) -> FileAnswer
+    ensures { λ r. ⌜ Within 0 (length (now (room .entry))) r ⌝ }
+{
+    let mut name = io::buffer();
+    let n = os::arg(FILE_AT, &mut name);
+    let answer = files::read(&name[0..n], room);
+    match answer {
+        FileAnswer::NotOpened => output::failed(b"failed open ", &name[0..n]),
+        FileAnswer::NotRead => output::failed(b"failed read ", &name[0..n]),
+        FileAnswer::Bytes(_) => {}
+    }
+    answer
+}

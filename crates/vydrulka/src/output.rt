@@ -1,0 +1,83 @@
+// What is written: the result to standard output, at once, and lines for people to standard error. A line that cannot be written is
+// lost: there is nobody left to tell.
+ghost use Prim.Native.Nat.{_≤_};
+ghost use lib.ListN.{length};
+use answers::Refusal;
+use cursor::TextCursor;
+use pointing::POINT_ROOM;
+use wording::accepted;
+use wording::accepted::RULE_ROOM;
+use wording::refusals;
+use wording::refusals::REFUSAL_ROOM;
+
+// Writes to standard error.
+fn tell(bytes: &[u8]) {
+    io::write_all(libc::STDERR_FILENO, bytes);
+}
+
+// Every word with its arguments.
+pub fn usage() {
+    tell(b"usage: vydrulka rule TEXT BOARD..   writes the rule file of the rule typed in TEXT\n");
+    tell(b"       vydrulka text RULE           prints the text and the boards of a rule file\n");
+    tell(
+        b"A file named - is standard input. A board is its propositions, as p0,p2, or - for none.\n",
+    );
+}
+
+// The whole result: whether it was written.
+pub fn result(bytes: &[u8]) -> bool {
+    let written = io::write_all(libc::STDOUT_FILENO, bytes);
+    if !written {
+        os::fail(b"failed write");
+    }
+    written
+}
+
+// What was written is a rule file.
+pub fn rule(nodes: u64, propositions: u64, boards: u64, length: u64) {
+    let mut line = [0u8; RULE_ROOM];
+    let end = accepted::rule(&mut line, nodes, propositions, boards, length);
+    tell(&line[0..end]);
+}
+
+// ---- refusals
+// A refusal, in words.
+pub fn refused(refusal: Refusal, words: &[u8])
+    requires { ⌜ length (now words) ≤ 100 ⌝ }
+{
+    let mut line = [0u8; REFUSAL_ROOM];
+    let end = refusals::refused(&mut line, refusal, words);
+    tell(&line[0..end]);
+}
+
+// A text that is no rule: the line in which the place is, the mark below it, and the refusal.
+pub fn no_rule(text: &[u8], place: TextCursor) {
+    let mut lines = [0u8; POINT_ROOM];
+    let shown = pointing::put(&mut lines, text, place.byte);
+    tell(&lines[0..shown]);
+    let mut line = [0u8; REFUSAL_ROOM];
+    let end = refusals::no_rule(&mut line, place.line as u64, place.byte as u64);
+    tell(&line[0..end]);
+}
+
+// An argument that is no board.
+pub fn no_board(board: u64, arg: &[u8]) {
+    let mut line = [0u8; REFUSAL_ROOM];
+    let end = refusals::no_board(&mut line, board, arg);
+    tell(&line[0..end]);
+}
+
+// ---- failures
+// The line ends with what errno says, so nothing may be called between the failure and this.
+pub fn failed(doing: &[u8], name: &[u8])
+    requires { ⌜ length (now doing) ≤ 100 ⌝ }
+{
+    let mut line = [0u8; REFUSAL_ROOM];
+    let end = refusals::failed(&mut line, doing, name);
+    os::fail(&line[0..end]);
+}
+
+// A text that there is no room for.
+pub fn too_long() {
+    tell(b"failed read: a text of more than 1,048,576 bytes\n");
+}

@@ -1,0 +1,4 @@
+-- Laws of the lines for people.
+pub mod Names
+pub mod Counted
+pub mod Boards

@@ -1,0 +1,3 @@
+-- What the contracts of `wording` cite.
+pub mod Refusals
+pub mod Accepted

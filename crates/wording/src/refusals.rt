@@ -1,0 +1,83 @@
+// The last line after a refusal, or where something failed.
+ghost use mathlib.Core.Path.{_≡_};
+ghost use Prim.Native.Nat.{_+_, _≤_, min};
+ghost use lib.ListN.{length};
+ghost use Rattle.lines.specs.Lines.{Adds, Line};
+ghost use Rattle.wording.specs.Refusals.{refusedText, refusedWords, noRule, shownMost, shownName, noBoard, failedText};
+use answers::Refusal;
+use pointing::shown;
+
+// The most bytes of a name or an argument that are shown.
+const SHOWN_MOST: usize = 200;
+
+// Room for the longest line.
+pub const REFUSAL_ROOM: usize = 300;
+
+fn least(a: usize, b: usize) -> usize
+    ensures { λ r. ⌜ r ≡ min a b ⌝ }
+{
+    if a < b { a } else { b }
+}
+
+// The word and the number, from the start of the line on.
+fn put_number(line: &mut [u8], refusal: Refusal) -> usize
+    requires { ⌜ 28 ≤ length (now line) ⌝ }
+    ensures { λ r. ⌜ Adds (refusedText refusal) (now (line .entry)) 0 (now (line .exit)) r × (r ≤ 28) ⌝ }
+{
+    let a = lines::text(line, 0, b"refused");
+    lines::field(line, a, refusal.number() as u64)
+}
+
+// A refusal, in words.
+pub fn refused(line: &mut [u8], refusal: Refusal, words: &[u8]) -> usize
+    requires { ⌜ 31 + length (now words) ≤ length (now line) ⌝ }
+    ensures { λ r. ⌜ Line (refusedWords refusal (now (words .entry))) (now (line .exit)) r ⌝ }
+{
+    let a = put_number(line, refusal);
+    let b = lines::text(line, a, b": ");
+    let c = lines::text(line, b, words);
+    lines::text(line, c, b"\n")
+}
+
+// A text that is no rule, with the place.
+pub fn no_rule(line: &mut [u8], row: u64, byte: u64) -> usize
+    requires { do ⌜ (← ⟦line.len()⟧) ≡ (← ⟦REFUSAL_ROOM⟧) ⌝ }
+    ensures { λ r. ⌜ Line (noRule row byte) (now (line .exit)) r ⌝ }
+{
+    let a = put_number(line, Refusal::Text);
+    let b = lines::text(line, a, b": line");
+    let c = lines::field(line, b, row);
+    let d = lines::text(line, c, b", byte");
+    let e = lines::field(line, d, byte);
+    lines::text(line, e, b": not a rule\n")
+}
+
+// Puts an argument or a name as it is shown, cut where it is very long.
+fn put_name(line: &mut [u8], at: usize, name: &[u8]) -> usize
+    requires { ⌜ at + shownMost ≤ length (now line) ⌝ }
+    ensures { λ r. ⌜ Adds (shownName (now (name .entry))) (now (line .entry)) at (now (line .exit)) r × (r ≤ at + shownMost) ⌝ }
+{
+    let n = least(name.len(), SHOWN_MOST);
+    shown::put_shown(line, at, &name[0..n])
+}
+
+// An argument that is no board.
+pub fn no_board(line: &mut [u8], board: u64, arg: &[u8]) -> usize
+    requires { do ⌜ (← ⟦line.len()⟧) ≡ (← ⟦REFUSAL_ROOM⟧) ⌝ }
+    ensures { λ r. ⌜ Line (noBoard board (now (arg .entry))) (now (line .exit)) r ⌝ }
+{
+    let a = lines::text(line, 0, b"refused: board");
+    let b = lines::field(line, a, board);
+    let c = lines::text(line, b, b": \"");
+    let d = put_name(line, c, arg);
+    lines::text(line, d, b"\" is not a list of propositions\n")
+}
+
+// What failed, without a line feed: why is told behind it.
+pub fn failed(line: &mut [u8], doing: &[u8], name: &[u8]) -> usize
+    requires { ⌜ shownMost + length (now doing) ≤ length (now line) ⌝ }
+    ensures { λ r. ⌜ Line (failedText (now (doing .entry)) (now (name .entry))) (now (line .exit)) r ⌝ }
+{
+    let a = lines::text(line, 0, doing);
+    put_name(line, a, name)
+}
