@@ -1,10 +1,10 @@
 -- How many nodes a text has: as many as it has signs that stand for one. This is said of any bytes, so that they can be counted before
 -- there is a formula. Others use `nodesIn`. Assumes nothing: these are definitions.
-use mathlib.Core.List.{List, [], _∷_}
-use Prim.Native.Nat.{ℕ, _+_}
+use mathlib.Core.List.{List}
+use Prim.Native.Nat.{ℕ}
 use Rattle.text.specs.declared.Sign.{Sign}
 use Rattle.text.specs.declared.Sign.the-variants.{Blank, Prefix, Infix, Open, Close, Word, Letter, Digit, Other}
-use Rattle.text.specs.Signs.{signOf}
+use Rattle.text.specs.Printing.{tally}
 
 -- 1 for the sign of a node
 abbrev pub nodeOf : Sign → ℕ
@@ -20,5 +20,4 @@ nodeOf Other = 0
 
 -- the nodes of a text
 abbrev pub nodesIn : List ℕ → ℕ
-nodesIn [] = 0
-nodesIn (c ∷ t) = nodeOf (signOf c) + nodesIn t
+nodesIn t = tally nodeOf t

@@ -11,9 +11,9 @@ use kinds::Kind;
 use kinds::Unary;
 use limits::PROPOSITIONS_MOST;
 use popping::Edges;
-use popping::LOOSEST;
 use popping::pop;
 use popping::push;
+use text::LOOSEST;
 use text::Sign;
 
 // Where the pass stands: what waits and where the bytes begin, the brackets that are open, the digits met as a number, and what the

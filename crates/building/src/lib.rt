@@ -13,8 +13,8 @@ use gathering::Midway;
 use gathering::take_in;
 use limits::RULE_NODES_MOST;
 use popping::Edges;
-use popping::LOOSEST;
 use popping::pop;
+use text::LOOSEST;
 use text::Sign;
 
 // How many nodes a sign is.

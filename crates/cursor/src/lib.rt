@@ -58,6 +58,10 @@ pub fn gap(text: &[u8], c: TextCursor) -> TextCursor
     let mut cur = c;
     while cur.byte < text.len() {
         let at = cur.byte;
+        // No blank is above a space: mostly there is none.
+        if 32 < text[at] {
+            return cur;
+        }
         let k = Sign::of(text[at]);
         match k {
             Sign::Blank => {

@@ -23,13 +23,13 @@ use Rattle.exports.specs.Exported.{ParseExported, PrintExported}
 use Rattle.exports.proofs.Values.{value-accepted, value-zero}
 
 -- what parsing the printed bytes says
-told-back : {s text′ d e : List ℕ} {n : ℕ} {x : Said} → PrintTold s text′ n → length d ≡ ruleNodesMost → ParseSays (take n text′) d x e
+told-back : {s text′ d e : List ℕ} {n : ℕ} {x : Said} → PrintTold s text′ n → length d ≡ ruleNodesMost → ParseSays ruleNodesMost (take n text′) d x e
     → (x ≡ accepted (length s ∷ [])) × (e ≡ padded ruleNodesMost s)
 told-back {s} {d = d} {e} {x = x} p room y =
     let f = p .formula in
     let l = p .few in
     let long : size f ≡ length s = sym (length-encode f) ∙ ap length (sym (p .bytes)) in
-    let z : ParseSays (printed f) d x e = subst (λ (t : List ℕ). ParseSays t d x e) (p .front) y in
+    let z : ParseSays ruleNodesMost (printed f) d x e = subst (λ (t : List ℕ). ParseSays ruleNodesMost t d x e) (p .front) y in
     let (q, r) = parse-one z (parsed room (printed-text f (p .within)) (omega arith)) in
     (q ∙ ap (λ (m : ℕ). accepted (m ∷ [])) long, r ∙ ap (padded ruleNodesMost) (sym (p .bytes)))
 

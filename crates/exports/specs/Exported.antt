@@ -47,7 +47,7 @@ toldAt s i before = pick (eqb (s .number) 0) before (getD (s .values) i before)
 
 pub record ParseExported (text formula formula′ : List ℕ) (nodes line byte nodes′ line′ byte′ answer : ℕ) : Type 0 where
   pub said : Said
-  pub parses : ParseSays text formula said formula′
+  pub parses : ParseSays ruleNodesMost text formula said formula′
   pub says : answer ≡ said .number
   pub gives-nodes : nodes′ ≡ valueAt said 0 nodes
   pub gives-line : line′ ≡ toldAt said 0 line

@@ -21,7 +21,7 @@ pub fn sum_ones(masks: &[u64]) -> u64
 }
 
 // The union of all masks.
-fn union(masks: &[u64]) -> u64
+pub fn union(masks: &[u64]) -> u64
     ensures { λ r. ⌜ r ≡ unionWith 0 (now (masks .entry)) ⌝ }
 {
     let mut all: u64 = 0;

@@ -6,7 +6,6 @@ use Prim.Native.Nat.{ℕ, _<_, _≤_}
 use native.Mathlib.Omega.{arith}
 use lib.ListN.{length, getD}
 use Rattle.lists.specs.Runs.{padded}
-use Rattle.limits.specs.Limits.{ruleNodesMost}
 use Rattle.answers.specs.Said.{Said, accepted, refused, refusedWith, numberOf}
 use Rattle.answers.proofs.Answers.{number-injective, number-some}
 use Rattle.ltl.specs.Formula.{Formula, size, encode}
@@ -19,11 +18,11 @@ use Rattle.parsing.specs.declared.ParseAnswer.the-variants.{Refused, NoT
 use Rattle.parsing.specs.Parse.{ParseSays, length-refused, text-refused, range-refused, parsed, saidParse, Parses}
 
 -- a text of more nodes than the limit is none of fewer
-too-many-not : {t : List ℕ} {f g : Formula} → Text t f → Text t g → ruleNodesMost < size f → size g ≤ ruleNodesMost → ⊥
+too-many-not : {most : ℕ} {t : List ℕ} {f g : Formula} → Text t f → Text t g → most < size f → size g ≤ most → ⊥
 too-many-not x y l m = let e = ap size (text-one x y) in omega arith
 
 -- ---- one answer, and one buffer
-pub parse-one : {t d e e₂ : List ℕ} {s s₂ : Said} → ParseSays t d s e → ParseSays t d s₂ e₂ → (s ≡ s₂) × (e ≡ e₂)
+pub parse-one : {most : ℕ} {t d e e₂ : List ℕ} {s s₂ : Said} → ParseSays most t d s e → ParseSays most t d s₂ e₂ → (s ≡ s₂) × (e ≡ e₂)
 parse-one (length-refused n) (length-refused m) = (refl, refl)
 parse-one (length-refused n) (text-refused l x) = absurd (n l)
 parse-one (length-refused n) (range-refused l x h) = absurd (n l)
@@ -39,8 +38,8 @@ parse-one (range-refused l x h) (parsed m y i) = absurd (too-many-not x y h i)
 parse-one (parsed l x h) (length-refused m) = absurd (m l)
 parse-one (parsed l x h) (text-refused m y) = absurd (y .none _ x)
 parse-one (parsed l x h) (range-refused m y i) = absurd (too-many-not y x i h)
-parse-one (parsed l x h) (parsed m y i) =
-    let e = text-one x y in (ap (λ (f : Formula). accepted (size f ∷ [])) e, ap (λ (f : Formula). padded ruleNodesMost (encode f)) e)
+parse-one {most} (parsed l x h) (parsed m y i) =
+    let e = text-one x y in (ap (λ (f : Formula). accepted (size f ∷ [])) e, ap (λ (f : Formula). padded most (encode f)) e)
 
 -- ---- an answer is known by its number and values
 pub saidParse-injective : (a b : ParseAnswer) → saidParse a ≡ saidParse b → a ≡ b

@@ -32,14 +32,14 @@ parse-as {t} {d} {e} h x = subst (λ (c : ParseAnswer). Parses t d e c) h x
 
 -- ---- refusals
 -- a refusal leaves the buffer
-pub parse-keeps : {t d e : List ℕ} {s : Said} → ParseSays t d s e → 0 < s .number → e ≡ d
+pub parse-keeps : {most : ℕ} {t d e : List ℕ} {s : Said} → ParseSays most t d s e → 0 < s .number → e ≡ d
 parse-keeps (length-refused n) h = refl
 parse-keeps (text-refused l x) h = refl
 parse-keeps (range-refused l x m) h = refl
 parse-keeps (parsed l x m) h = absurd (omega arith)
 
 -- every refusal is some answer's
-pub parse-answers : {t d e : List ℕ} {s : Said} → ParseSays t d s e → (s .number ≡ 0 → ⊥) → (answer : ParseAnswer) × (0 < saidParse answer .number) × Parses t d e answer
+pub parse-answers : {t d e : List ℕ} {s : Said} → ParseSays ruleNodesMost t d s e → (s .number ≡ 0 → ⊥) → (answer : ParseAnswer) × (0 < saidParse answer .number) × Parses t d e answer
 parse-answers (length-refused n) h = (Refused Length, omega arith, length-refused n)
 parse-answers {t = t} (text-refused {k = k} l x) h = (NoText (record { byte = k; line = lineAt t k }), omega arith, text-refused l x)
 parse-answers (range-refused l x m) h = (Refused Range, omega arith, range-refused l x m)
@@ -53,7 +53,7 @@ module _ {t d : List ℕ} (room : length d ≡ ruleNodesMost) where
   -- the machine died at the position, whose line is that of its byte
   pub no-text : (c : TextCursor) → Recognises t (Seen.Refused c) → Parses t d d (NoText c)
   no-text c (a, b, l) =
-      subst (λ (n : ℕ). ParseSays t d (refusedWith 16 (n ∷ c .byte ∷ [])) d) (sym l)
+      subst (λ (n : ℕ). ParseSays ruleNodesMost t d (refusedWith 16 (n ∷ c .byte ∷ [])) d) (sym l)
       (text-refused room (subst (λ (k : ℕ). RefusedAt t k) (sym b) (refused-at t a)))
 
   module _ (in-grammar : accepts t ≡ true) {n : ℕ} (count : n ≡ nodesIn t) where
@@ -68,5 +68,5 @@ module _ {t d : List ℕ} (room : length d ≡ ruleNodesMost) where
         let (f, x) = accepts-text t in-grammar in
         let same : size f ≡ n = sym (text-nodes x) ∙ sym count in
         let bytes : padded ruleNodesMost (encode f) ≡ e = ap (λ (m : ℕ). padded m (encode f)) (sym room) ∙ sym (built f x) in
-        subst (λ (m : ℕ). ParseSays t d (accepted (m ∷ [])) e) same
-        (subst (λ (b : List ℕ). ParseSays t d (accepted (size f ∷ [])) b) bytes (parsed room x (omega arith)))
+        subst (λ (m : ℕ). ParseSays ruleNodesMost t d (accepted (m ∷ [])) e) same
+        (subst (λ (b : List ℕ). ParseSays ruleNodesMost t d (accepted (size f ∷ [])) b) bytes (parsed room x (omega arith)))

@@ -2,32 +2,14 @@
 // open there in another. Where a sign has both operands its byte is put in front of theirs, so that a formula is written from its end.
 ghost use mathlib.Core.Path.{_≡_};
 ghost use Rattle.kinds.specs.Kinds.{binaryCode};
-ghost use Rattle.text.specs.Signs.{level};
 ghost use Rattle.popping.specs.Waits.{signAt, Room, Spare, Pops, Pushes};
 use kinds::Binary;
-use kinds::Join;
 use kinds::Kind;
-
-// The level of a whole text, looser than every infix sign.
-pub const LOOSEST: u8 = 3;
 
 // How many signs wait, and where the bytes begin.
 pub struct Edges {
     pub top: usize,
     pub at: usize,
-}
-
-// How tightly an infix sign binds.
-fn level_of(o: Binary) -> u8
-    ensures { λ r. ⌜ r ≡ level o ⌝ }
-{
-    match o {
-        Binary::Until => 0,
-        Binary::Joined(j) => match j {
-            Join::And => 1,
-            Join::Or => 2,
-        },
-    }
 }
 
 // The byte of the sign of a level.
@@ -76,7 +58,7 @@ pub fn push(
     requires { ⌜ Spare 1 (now levels) (now depths) (now out) x ⌝ }
     ensures { λ r. ⌜ Pushes o d (now (levels .entry)) (now (depths .entry)) (now (out .entry)) x (now (levels .exit)) (now (depths .exit)) (now (out .exit)) r ⌝ }
 {
-    let j = level_of(o);
+    let j = text::level_of(o);
     let p = pop(out, levels, depths, x, d, j + 1);
     let t = p.top;
     levels[t] = j;

@@ -3,7 +3,6 @@
 ghost use mathlib.Core.Path.{_≡_};
 ghost use Prim.Native.Nat.{_+_, _≤_};
 ghost use lib.ListN.{length, drop};
-ghost use Rattle.text.specs.Signs.{level};
 ghost use Rattle.text.specs.Printing.{unarySign, constantText, digits, leafText};
 ghost use Rattle.showing.specs.Dues.{signBefore, closesFirst};
 ghost use Rattle.showing.specs.Shows.{Puts, EndAsk, EndsOn, InfixAsk, InfixOn, NodeShows, NodesOn, ShowWithin, ShowAsk, Shows};
@@ -34,18 +33,6 @@ fn unary_sign(o: Unary) -> u8
         Unary::Ever(j) => match j {
             Join::Or => 70,
             Join::And => 71,
-        },
-    }
-}
-
-fn level_of(o: Binary) -> u8
-    ensures { λ r. ⌜ r ≡ level o ⌝ }
-{
-    match o {
-        Binary::Until => 0,
-        Binary::Joined(j) => match j {
-            Join::And => 1,
-            Join::Or => 2,
         },
     }
 }
@@ -156,7 +143,7 @@ fn put_pair(text: &mut [u8], at: usize, dues: &mut [u8], top: usize, level: u8, 
     requires { ⌜ InfixAsk o (now text) (now dues) at top level ⌝ }
     ensures { λ r. ⌜ InfixOn o (now (text .entry)) (now (dues .entry)) at top level (now (text .exit)) (now (dues .exit)) (r .at) (r .top) (r .level) ⌝ }
 {
-    let own = level_of(o);
+    let own = text::level_of(o);
     if own < level {
         dues[top - 1] = own + 1;
         return Pen {
@@ -208,7 +195,7 @@ fn show_with(formula: &[u8], text: &mut [u8], dues: &mut [u8]) -> usize
     let mut i: usize = 0;
     let mut at: usize = 0;
     let mut top = dues.len();
-    let mut level: u8 = 3;
+    let mut level: u8 = text::LOOSEST;
     while i < n {
         let p = show_node(text, at, dues, top, level, Kind::of(formula[i]));
         at = p.at;

@@ -2,8 +2,6 @@
 pub mod shown;
 pub mod typed;
 
-ghost use mathlib.Core.Path.{_≡_};
-ghost use Rattle.masks.specs.Masks.{unionWith};
 ghost use Rattle.spelling.specs.Count.{HighestSeen};
 use limits::PROPOSITIONS_MOST;
 
@@ -13,23 +11,11 @@ pub enum BoardAnswer {
     Sees(u64),
 }
 
-fn union(masks: &[u64]) -> u64
-    ensures { λ r. ⌜ r ≡ unionWith 0 (now (masks .entry)) ⌝ }
-{
-    let mut all: u64 = 0;
-    let mut i: usize = 0;
-    while i < masks.len() {
-        all = all | masks[i];
-        i += 1;
-    }
-    all
-}
-
 // One more than the highest proposition that any board sees, and 0 where none sees any.
 pub fn propositions(masks: &[u64]) -> u64
     ensures { λ r. ⌜ HighestSeen (now (masks .entry)) r ⌝ }
 {
-    let all = union(masks);
+    let all = masks::union(masks);
     let mut p: u64 = 0;
     while p < PROPOSITIONS_MOST as u64 {
         if all >> p == 0 {

@@ -1,9 +1,26 @@
-// Rules as people type them: what a byte of a text is. The grammar, the place of a refusal and the print are definitions in specs/.
+// Rules as people type them: what a byte of a text is, and how tightly an infix sign binds. The grammar, the place of a refusal and the
+// print are definitions in specs/.
 ghost use mathlib.Core.Path.{_≡_};
-ghost use Rattle.text.specs.Signs.{signOf, digitOf};
+ghost use Rattle.text.specs.Signs.{signOf, digitOf, level};
 use kinds::Binary;
 use kinds::Join;
 use kinds::Unary;
+
+// The level of a whole text, looser than every infix sign.
+pub const LOOSEST: u8 = 3;
+
+// How tightly an infix sign binds.
+pub fn level_of(o: Binary) -> u8
+    ensures { λ r. ⌜ r ≡ level o ⌝ }
+{
+    match o {
+        Binary::Until => 0,
+        Binary::Joined(j) => match j {
+            Join::And => 1,
+            Join::Or => 2,
+        },
+    }
+}
 
 // A blank, a sign in front of its operand, one between its operands, a bracket, the first letter of a constant, of a proposition, a
 // digit, or none of these.
