@@ -2,17 +2,19 @@
 -- `TypedAs`. Assumes nothing: these are definitions.
 use mathlib.Core.Path.{_≡_}
 use mathlib.Core.List.{List, [], _∷_, _++_, map}
-use Prim.Native.Nat.{ℕ, zero, suc, _+_, _<_, _/_, _%_, _^_}
-use lib.Dec.{ltb, eqb}
+use Prim.Native.Nat.{ℕ, zero, suc, _<_, _^_}
+use lib.Dec.{eqb}
 use Rattle.lists.specs.Tests.{pick, bit}
 use Rattle.limits.specs.Limits.{propositionsMost}
 use Rattle.masks.specs.Masks.{unionWith}
+use Rattle.kinds.specs.declared.Leaf.the-variants.{Prop}
+use Rattle.text.specs.Printing.{leafText}
 use Rattle.spelling.specs.declared.BoardAnswer.{BoardAnswer}
 use Rattle.spelling.specs.declared.BoardAnswer.the-variants.{NoBoard, Sees}
 
--- a proposition's name: the letter p, and its number in decimal digits without a zero in front
+-- a proposition's name, as in a rule's text: the letter p, and its number
 unfoldable pub nameOf : ℕ → List ℕ
-nameOf i = 112 ∷ pick (ltb i 10) ((48 + i) ∷ []) ((48 + i / 10) ∷ (48 + i % 10) ∷ [])
+nameOf i = leafText (Prop i)
 
 -- the names of further propositions, each behind a comma
 abbrev pub moreText : List ℕ → List ℕ
