@@ -66,7 +66,7 @@ read-few file masks formula masks′ formula′ a c is x =
     (omega arith, omega arith)
 
 -- ---- parse
-parsed-said : {t d e : List ℕ} {s : Said} → ParseSays t d s e → s .number ≡ 0 → first s ≤ ruleNodesMost
+parsed-said : {most : ℕ} {t d e : List ℕ} {s : Said} → ParseSays most t d s e → s .number ≡ 0 → first s ≤ most
 unfolding first
 parsed-said (length-refused h) z = absurd (omega arith)
 parsed-said (text-refused l x) z = absurd (omega arith)
