@@ -1,13 +1,13 @@
 -- What `central` answers and leaves, one law for each outcome, over plain lists. Assumes nothing.
 use mathlib.Core.Path.{_≡_, sym, ap, _∙_, subst}
 use mathlib.Core.Bool.{true, false}
-use mathlib.Core.List.{List, [], append-nil}
+use mathlib.Core.List.{List}
 use mathlib.Core.Option.{some}
 use Prim.Native.Nat.{ℕ, _+_, _<_, _≤_, min}
 use native.Mathlib.Omega.{arith}
 use lib.ListN.{length}
 use borrow.Author.Tests.{le-leb, lt-leb, leb-true, eqb-true}
-use Rattle.limits.specs.Limits.{propositionsMost, holderCodes, centralNodesMost, nodesRoom}
+use Rattle.limits.specs.Limits.{propositionsMost, centralNodesMost, nodesRoom}
 use Rattle.lists.specs.Runs.{padded}
 use Rattle.answers.specs.declared.Refusal.{Refusal}
 use Rattle.answers.specs.declared.Refusal.the-variants.{Length, Formula, Nodes}
@@ -18,10 +18,9 @@ use Rattle.ltl.specs.Formula.{size, encode}
 use Rattle.ltl.specs.Formula as formula
 use Rattle.ltl.specs.Meaning.{Event}
 use Rattle.ltl.specs.Progression.{unfolded, progressed, verdictOf}
-use Rattle.ltl.specs.Decode.{decoded, isRule, formulaOf, someFormula}
+use Rattle.ltl.specs.Decode.{isRule}
 use Rattle.lists.proofs.Tests.{both-0, both-1}
-use Rattle.ltl.proofs.Decoding.{rule-is, decoded-of, wider}
-use Rattle.nodes.specs.Begins.{Front}
+use Rattle.nodes.proofs.Wholes.{whole}
 use Rattle.folded.specs.Folding.{folded}
 use Rattle.central.specs.declared.CentralAnswer.the-variants.{Refused, Progressed}
 use Rattle.central.specs.declared.CentralAnswer.{CentralAnswer}
@@ -39,23 +38,6 @@ unfolding centralLengthsOk
 central-passed n room e =
     let a = both-1 _ _ e in
     record { some = leb-true _ _ (both-0 _ _ e); few = leb-true _ _ (both-0 _ _ a); room-is = eqb-true _ _ (both-1 _ _ a) }
-
--- the bytes of one formula
-pub record Whole (s : List ℕ) : Type 0 where
-  pub formula-is : formula.Formula
-  pub front : Front s formula-is []
-  pub same : formulaOf s ≡ formula-is
-
-pub whole : (s : List ℕ) → isRule propositionsMost s ≡ true → Whole s
-whole s e =
-    let t = rule-is propositionsMost s e in
-    let f = t .formula in
-    let c = wider propositionsMost 0 propositionsMost holderCodes (omega arith) (omega arith) f (t .within) in
-    record {
-      formula-is = f;
-      front = record { coded = c; bytes = t .bytes ∙ sym (append-nil (encode f)) };
-      same = ap someFormula (ap decoded (t .bytes) ∙ decoded-of f c);
-    }
 
 -- ---- a formula that is folded
 module _ (g : formula.Formula) (event : Event) (out : List ℕ) where

@@ -1,12 +1,12 @@
 -- The promise leaves no choice: a text has one formula at most, or one place where it is refused. Others use `parse-one`,
 -- `parses-determined`. Assumes nothing.
-use mathlib.Core.Path.{_≡_, refl, sym, ap, _∙_, subst}
+use mathlib.Core.Path.{_≡_, refl, ap}
 use mathlib.Core.List.{List, [], _∷_}
 use Prim.Native.Nat.{ℕ, _<_, _≤_}
 use native.Mathlib.Omega.{arith}
 use lib.ListN.{length, getD}
 use Rattle.lists.specs.Runs.{padded}
-use Rattle.answers.specs.Said.{Said, accepted, refused, refusedWith, numberOf}
+use Rattle.answers.specs.Said.{Said, accepted, refusedWith}
 use Rattle.answers.proofs.Answers.{number-injective, number-some}
 use Rattle.ltl.specs.Formula.{Formula, size, encode}
 use Rattle.text.specs.Grammar.{Text}

@@ -10,8 +10,7 @@ use Rattle.lists.specs.Runs.{padded}
 use Rattle.limits.specs.Limits.{ruleNodesMost}
 use Rattle.answers.specs.Said.{Said, accepted, refusedWith}
 use Rattle.answers.specs.declared.Refusal.the-variants.{Length, Range}
-use Rattle.ltl.specs.Formula.{Formula, size, encode}
-use Rattle.text.specs.Grammar.{Text}
+use Rattle.ltl.specs.Formula.{size, encode}
 use Rattle.text.specs.Places.{RefusedAt, lineAt}
 use Rattle.text.specs.Machine.{accepts}
 use Rattle.text.proofs.Derives.{accepts-text}

@@ -10,7 +10,8 @@ ghost use Rattle.pointing.specs.Points.{Points};
 // Room for the two lines: a window, a line feed, what stands before the place, the mark and a line feed.
 pub const POINT_ROOM: usize = 141;
 
-fn least(a: usize, b: usize) -> usize
+// The smaller of two numbers.
+pub fn least(a: usize, b: usize) -> usize
     ensures { λ r. ⌜ r ≡ min a b ⌝ }
 {
     if a < b { a } else { b }

@@ -2,13 +2,13 @@
 -- what an accepted call's checks told (`print-passed`), and the formula that it is lent then (`printable`). Assumes nothing.
 use mathlib.Core.Path.{_≡_, sym, ap, _∙_}
 use mathlib.Core.Bool.{true, false}
-use mathlib.Core.List.{List, [], _∷_, append-nil}
+use mathlib.Core.List.{List, [], _∷_}
 use Prim.Native.Nat.{ℕ}
 use native.Mathlib.Omega.{arith}
 use lib.ListN.{length}
 use lib.Dec.{eqb, leb}
 use borrow.Author.Tests.{eqb-true, leb-true}
-use Rattle.limits.specs.Limits.{propositionsMost, holderCodes, ruleNodesMost, textLength}
+use Rattle.limits.specs.Limits.{propositionsMost, ruleNodesMost, textLength}
 use Rattle.lists.specs.Tests.{inRange}
 use Rattle.lists.specs.Runs.{padded}
 use Rattle.lists.proofs.Tests.{both-1}
@@ -17,10 +17,8 @@ use Rattle.answers.specs.declared.Refusal.the-variants.{Length, Range, Formula}
 use Rattle.answers.specs.Said.{Said, accepted, refused, left, numberOf}
 use Rattle.answers.proofs.Answers.{left-refused, left-accepted, order-ok, order-refused, order-done, order-passed}
 use Rattle.ltl.specs.Formula as formula
-use Rattle.ltl.specs.Formula.{encode, Within}
-use Rattle.ltl.specs.Decode.{decoded, formulaOf, isRule, someFormula}
-use Rattle.ltl.proofs.Decoding.{rule-is, decoded-of, wider}
-use Rattle.nodes.specs.Begins.{Front}
+use Rattle.ltl.specs.Decode.{formulaOf, isRule}
+use Rattle.nodes.proofs.Wholes.{whole}
 use Rattle.text.specs.Printing.{printed}
 use Rattle.printing.specs.declared.PrintAnswer.the-variants.{Refused, Printed}
 use Rattle.printing.specs.Print.{printSays, Prints, Printable, PrintsTo}
@@ -37,30 +35,9 @@ print-passed s room e =
     let q = order-passed _ _ (omega arith, (omega arith, (omega arith, tt))) e in
     record { space = q .0; count = q .1 .0; rule = q .1 .1 .0 }
 
--- the bytes of one formula, a rule's
-pub record RuleBytes (s : List ℕ) : Type 0 where
-  pub formula-is : formula.Formula
-  pub within : Within propositionsMost 0 formula-is
-  pub bytes : s ≡ encode formula-is
-  pub front : Front s formula-is []
-  pub same : formulaOf s ≡ formula-is
-
-pub rule-bytes : (s : List ℕ) → isRule propositionsMost s ≡ true → RuleBytes s
-rule-bytes s e =
-    let t = rule-is propositionsMost s e in
-    let f = t .formula in
-    let c = wider propositionsMost 0 propositionsMost holderCodes (omega arith) (omega arith) f (t .within) in
-    record {
-      formula-is = f;
-      within = t .within;
-      bytes = t .bytes;
-      front = record { coded = c; bytes = t .bytes ∙ sym (append-nil (encode f)) };
-      same = ap someFormula (ap decoded (t .bytes) ∙ decoded-of f c);
-    }
-
 pub printable : {s : List ℕ} (text : List ℕ) → PrintPassed s (length text) → Printable s text
 printable {s} text o =
-    let b = rule-bytes s (o .rule) in
+    let b = whole s (o .rule) in
     record {
       formula = b .formula-is;
       front = b .front;
@@ -97,7 +74,7 @@ module _ (s text : List ℕ) where
 
   pub print-printed : PrintPassed s (length text) → {text′ : List ℕ} {n : ℕ} → PrintsTo s text′ n → Prints s text text′ (Printed n)
   print-printed o {text′} {n} p =
-      let b = rule-bytes s (o .rule) in
+      let b = whole s (o .rule) in
       let q = p (b .formula-is) (b .front) in
       let e = says-printed o in
       let l : n ≡ length (printed (formulaOf s)) = q .long ∙ ap (λ (f : formula.Formula). length (printed f)) (sym (b .same)) in

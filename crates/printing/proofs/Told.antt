@@ -9,13 +9,14 @@ use lib.Dec.{leb}
 use Rattle.limits.specs.Limits.{propositionsMost, ruleNodesMost, textLength}
 use Rattle.lists.specs.Runs.{padded}
 use Rattle.lists.proofs.Tests.{both-1}
-use Rattle.answers.specs.Said.{Said, accepted, left}
+use Rattle.answers.specs.Said.{Said, left}
 use Rattle.answers.proofs.Answers.{left-accepted}
 use Rattle.ltl.specs.Formula.{Formula, encode, Within}
 use Rattle.ltl.specs.Decode.{formulaOf}
+use Rattle.nodes.proofs.Wholes.{whole}
 use Rattle.text.specs.Printing.{printed}
 use Rattle.printing.specs.Print.{printSays}
-use Rattle.printing.proofs.Outcomes.{print-passed, rule-bytes, says-printed}
+use Rattle.printing.proofs.Outcomes.{print-passed, says-printed}
 
 pub record PrintTold (s text′ : List ℕ) (n : ℕ) : Type 0 where
   pub formula : Formula
@@ -29,7 +30,7 @@ pub print-told : (s text : List ℕ) {text′ : List ℕ} {n : ℕ} → printSay
     → n ≡ getD (printSays s (length text) .values) 0 0 → PrintTold s text′ n
 print-told s text {text′} {n} zero leaves told =
     let o = print-passed s (length text) zero in
-    let r = rule-bytes s (o .rule) in
+    let r = whole s (o .rule) in
     let f = r .formula-is in
     let e = says-printed s text o in
     let long : n ≡ length (printed f) = told ∙ ap (λ (x : Said). getD (x .values) 0 0) e ∙ ap (λ (g : Formula). length (printed g)) (r .same) in

@@ -13,7 +13,7 @@ use Rattle.ltl.specs.Formula.{Formula, encode}
 use Rattle.ltl.specs.Decode.{isRule, formulaOf}
 use Rattle.folded.specs.Folding.{folded}
 use Rattle.folding.specs.Folds.{FoldAsk, Folds}
-use Rattle.central.proofs.Outcomes.{whole}
+use Rattle.nodes.proofs.Wholes.{whole}
 
 module _ {s : List ℕ} (r : isRule propositionsMost s ≡ true) where
   pub first-ask : {p : List ℕ} → length s ≤ centralNodesMost → length p ≡ centralNodesMost → FoldAsk nodesRoom s p

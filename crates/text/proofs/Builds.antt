@@ -4,7 +4,7 @@
 use mathlib.Core.Path.{_≡_, refl, sym, ap, _∙_}
 use mathlib.Core.Bool.{Bool, true, false}
 use mathlib.Core.List.{List, [], _∷_, _++_, append-assoc, append-nil}
-use Prim.Native.Nat.{ℕ, zero, suc, _+_, _*_, _%_, _≤_, _<_}
+use Prim.Native.Nat.{ℕ, zero, suc, _+_, _*_, _%_, _≤_}
 use native.Mathlib.Nat.{add-assoc, mul-assoc, mul-left-comm, add-mul, suc-mul, zero-mul, add-mod, mod-add-mod, add-mod-mod}
 use native.Mathlib.Omega.{arith}
 use lib.Dec.{ltb, eqb}

@@ -19,7 +19,7 @@ use Rattle.ltl.specs.Formula.{Formula, leaf, one, two, constant}
 use Rattle.text.specs.declared.Sign.{Sign}
 use Rattle.text.specs.declared.Sign.the-variants.{Blank, Prefix, Infix, Open, Close, Word, Letter, Digit, Other}
 use Rattle.text.specs.Signs.{signOf, spelling, level, loosest}
-use Rattle.text.specs.Grammar.{Gap, none, more, Figures, first, further, Named, truth, proposition, Spells, word, prefixed, bracketed, alone, joined, Text}
+use Rattle.text.specs.Grammar.{Gap, none, more, Figures, first, further, truth, proposition, Spells, word, prefixed, bracketed, alone, joined, Text}
 use Rattle.text.specs.Machine.{Mode, want, got, number, figure, dead, spelt, closing, wanted, follows, numbered, figured, run, isZero, final, accepts}
 use Rattle.text.proofs.Signs.{digit-few, level-low}
 

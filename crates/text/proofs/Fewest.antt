@@ -7,7 +7,7 @@ use mathlib.Core.List.{List, [], _∷_, _++_}
 use Prim.Native.Nat.{ℕ, suc, _+_, _/_, _%_, _≤_, _<_}
 use native.Mathlib.Omega.{arith}
 use lib.Dec.{ltb}
-use borrow.Author.Tests.{ltb-true, ltb-false, lt-ltb}
+use borrow.Author.Tests.{ltb-true, lt-ltb}
 use Rattle.lists.specs.Tests.{pick, both}
 use Rattle.limits.specs.Limits.{propositionsMost}
 use Rattle.kinds.specs.declared.Leaf.{Leaf}
@@ -20,7 +20,7 @@ use Rattle.text.specs.declared.Sign.{Sign}
 use Rattle.text.specs.declared.Sign.the-variants.{Prefix, Infix, Open, Close, Word, Letter, Digit, Other}
 use Rattle.text.specs.Signs.{signOf, digitOf, spelling, level, loosest}
 use Rattle.text.specs.Grammar.{Gap, none, more, Figures, first, further, Named, truth, proposition, Spells, word, prefixed, bracketed, alone, joined, Text}
-use Rattle.text.specs.Printing.{unarySign, binarySign, openSign, closeSign, leafText, digits, shown, printed, tally, openOne, brackets, blankOne, blanks}
+use Rattle.text.specs.Printing.{binarySign, openSign, closeSign, leafText, digits, shown, printed, tally, openOne, brackets, blankOne, blanks}
 use Rattle.text.proofs.Signs.{unary-sign, binary-sign, open-sign, close-sign, letter-sign, digit-sign}
 
 -- what the brackets count that f needs at a place of level k, a pair counting c

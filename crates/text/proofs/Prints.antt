@@ -18,7 +18,7 @@ use Rattle.kinds.specs.Kinds.{leafWithin}
 use Rattle.ltl.specs.Formula.{Formula, leaf, one, two, constant, size, Within}
 use Rattle.text.specs.Signs.{signOf, level, loosest}
 use Rattle.text.specs.Grammar.{none, Figures, first, further, Named, truth, proposition, Spells, word, prefixed, bracketed, alone, joined, Text}
-use Rattle.text.specs.Printing.{unarySign, binarySign, openSign, closeSign, constantText, digits, leafText, shown, printed}
+use Rattle.text.specs.Printing.{binarySign, openSign, closeSign, constantText, digits, leafText, shown, printed}
 use Rattle.text.proofs.Signs.{unary-sign, binary-sign, open-sign, close-sign, letter-sign, digit-sign, level-low}
 use Rattle.text.proofs.Derives.{raised}
 use Rattle.text.proofs.Unique.{text-one}

@@ -11,7 +11,6 @@ use lib.Seq.{take-take}
 use lib.Dec.{ltb}
 use borrow.Author.Tests.{ltb-true, ltb-false, eq-eqb}
 use Rattle.lists.specs.Tests.{pick, both}
-use Rattle.ltl.specs.Formula.{Formula}
 use Rattle.text.specs.Signs.{signOf, digitOf}
 use Rattle.text.specs.Printing.{closeSign}
 use Rattle.text.specs.Grammar.{Text}

@@ -1,8 +1,7 @@
 -- What is gathered of a text from its end: infix signs that wait for their left operand, with the brackets that stand open there, and the
 -- formula's bytes, the last ones first. proofs/ shows that it comes to the formula's bytes. Assumes nothing: these are definitions.
-use mathlib.Core.Bool.{Bool}
 use mathlib.Core.List.{List, [], _∷_}
-use Prim.Native.Nat.{ℕ, zero, suc, _+_, _-_, _*_, _%_}
+use Prim.Native.Nat.{ℕ, suc, _+_, _-_, _*_, _%_}
 use lib.Dec.{ltb, eqb}
 use Rattle.lists.specs.Tests.{pick, both}
 use Rattle.limits.specs.Limits.{propositionsMost}

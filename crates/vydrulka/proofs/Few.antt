@@ -24,7 +24,8 @@ use Rattle.parsing.specs.Parse.{ParseSays, length-refused, text-refused, range-
 use Rattle.printing.specs.declared.PrintAnswer.{PrintAnswer}
 use Rattle.printing.specs.declared.PrintAnswer.the-variants.{Printed}
 use Rattle.printing.specs.Print.{printSays, Prints}
-use Rattle.printing.proofs.Outcomes.{print-passed, printable, rule-bytes, says-printed}
+use Rattle.nodes.proofs.Wholes.{whole}
+use Rattle.printing.proofs.Outcomes.{print-passed, printable, says-printed}
 use Rattle.ltl.specs.Formula.{Formula}
 use Rattle.nodes.proofs.Fronts.{front-length}
 use Rattle.text.specs.Printing.{printed}
@@ -85,7 +86,7 @@ printed-within s text text′ a n is x =
     let zero : printSays s (length text) .number ≡ 0 = sym (ap (λ (x : Said). x .number) (p .says)) in
     let o = print-passed s (length text) zero in
     let bytes = printable text o in
-    let r = rule-bytes s (o .rule) in
+    let r = whole s (o .rule) in
     let long = front-length s (r .formula-is) [] (r .front) in
     let few = bytes .few in
     let short = printed-few (r .formula-is) in

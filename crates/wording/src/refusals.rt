@@ -1,10 +1,11 @@
 // The last line after a refusal, or where something failed.
 ghost use mathlib.Core.Path.{_≡_};
-ghost use Prim.Native.Nat.{_+_, _≤_, min};
+ghost use Prim.Native.Nat.{_+_, _≤_};
 ghost use lib.ListN.{length};
 ghost use Rattle.lines.specs.Lines.{Adds, Line};
 ghost use Rattle.wording.specs.Refusals.{refusedText, refusedWords, noRule, shownMost, shownName, noBoard, failedText};
 use answers::Refusal;
+use pointing::least;
 use pointing::shown;
 
 // The most bytes of a name or an argument that are shown.
@@ -12,12 +13,6 @@ const SHOWN_MOST: usize = 200;
 
 // Room for the longest line.
 pub const REFUSAL_ROOM: usize = 300;
-
-fn least(a: usize, b: usize) -> usize
-    ensures { λ r. ⌜ r ≡ min a b ⌝ }
-{
-    if a < b { a } else { b }
-}
 
 // The word and the number, from the start of the line on.
 fn put_number(line: &mut [u8], refusal: Refusal) -> usize

@@ -1,7 +1,8 @@
 -- One law of proofs/Outcomes.antt for each way out. Assumes nothing.
 use mathlib.Core.Path.{sym, _∙_}
 use borrow.Author.Tests.{not-true, not-false}
-use Rattle.central.proofs.Outcomes.{central-passed, whole, refused-length, refused-formula, progressed-rule}
+use Rattle.nodes.proofs.Wholes.{whole}
+use Rattle.central.proofs.Outcomes.{central-passed, refused-length, refused-formula, progressed-rule}
 use borrow.Author.Needs.{needs}
 use Rattle.central.proofs.central.Statement.{statement}
 use Rattle.central.proofs.central.Tie as tie

@@ -1,6 +1,5 @@
 -- The first bytes of the buffer are lent on, and the rest is cleared. No loop. Assumes nothing.
 use mathlib.Core.Path.{sym}
-use native.Mathlib.Omega.{arith}
 use Rattle.parsing.proofs.Parts.{lent-long, lent-count, handed-long, built-into}
 use borrow.Author.Needs.{needs}
 use Rattle.parsing.proofs.build_into.Statement.{statement}
