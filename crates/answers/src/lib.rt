@@ -2,7 +2,7 @@
 ghost use mathlib.Core.Path.{_≡_};
 ghost use Rattle.answers.specs.Said.{numberOf, verdictNumber};
 
-// Why a call was refused, in the order of the numbers 1 to 16.
+// Why a call was refused, in the order of the numbers: 1 to 16, and 19. Those between belong to no call yet.
 pub enum Refusal {
     Length,
     Version,
@@ -20,6 +20,7 @@ pub enum Refusal {
     Unready,
     Ticks,
     Text,
+    Run,
 }
 
 impl Refusal {
@@ -43,6 +44,7 @@ impl Refusal {
             Refusal::Unready => 14,
             Refusal::Ticks => 15,
             Refusal::Text => 16,
+            Refusal::Run => 19,
         }
     }
 }

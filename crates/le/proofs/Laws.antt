@@ -1,5 +1,6 @@
 -- Laws of little-endian numbers, over the width. Others use `le-length`, `leAt-less`, `leAt-same`, `leAt-front`, `leAt-behind`,
--- `leAt-drop`, `leAt-le` (what was written is read back), `le-leAt` (what was read is written back) and `Bytes`. Assumes nothing.
+-- `leAt-drop`, `leAt-le` (what was written is read back), `le-leAt` (what was read is written back), `Bytes`, and of lists of bytes
+-- `bytes-both`, `le-bytes`, `number-bytes`. Assumes nothing.
 use mathlib.Core.Path.{_≡_, refl, sym, ap, ap₂, _∙_}
 use mathlib.Core.List.{List, [], _∷_, _++_}
 use Prim.Native.Nat.{ℕ, zero, suc, _+_, _-_, _*_, _/_, _%_, _^_, _<_, _≤_}
@@ -20,6 +21,21 @@ pub le-length : (n v : ℕ) → length (le n v) ≡ n
 unfolding le
 le-length zero v = refl
 le-length (suc n) v = ap suc (le-length n (v / 256))
+
+-- ---- lists of bytes: two together, the bytes of a number, and these before others
+pub bytes-both : (a b : List ℕ) → Bytes a → Bytes b → Bytes (a ++ b)
+bytes-both [] b h k i = k i
+bytes-both (x ∷ a) b h k zero = h 0
+bytes-both (x ∷ a) b h k (suc i) = bytes-both a b (λ j. h (suc j)) k i
+
+pub le-bytes : (n v : ℕ) → Bytes (le n v)
+unfolding le
+le-bytes zero v i = omega arith
+le-bytes (suc n) v zero = omega arith
+le-bytes (suc n) v (suc i) = le-bytes n (v / 256) i
+
+pub number-bytes : (n v : ℕ) (b : List ℕ) → Bytes b → Bytes (le n v ++ b)
+number-bytes n v b h = bytes-both (le n v) b (le-bytes n v) h
 
 -- ---- a number that is read looks at its own bytes alone
 pub leAt-same : (s t : List ℕ) (at n : ℕ) → ((j : ℕ) → at ≤ j → j < at + n → getD s j 0 ≡ getD t j 0) → leAt s at n ≡ leAt t at n

@@ -31,3 +31,11 @@ slotsRoom = 64
 
 abbrev pub nodesRoom : ℕ
 nodesRoom = 4096
+
+-- the runs of a list, and of the reports of two lists together
+abbrev pub runsMost : ℕ
+runsMost = 65536
+
+-- the rules that a list of runs may tell of
+abbrev pub rulesMost : ℕ
+rulesMost = 256

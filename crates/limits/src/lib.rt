@@ -20,3 +20,9 @@ pub const SLOTS_ROOM: usize = 64;
 
 // The most nodes of a network, whatever the form of its state: room for one byte a node.
 pub const NODES_ROOM: usize = 4096;
+
+// The most runs of a list, and of the reports of two lists together.
+pub const RUNS_MOST: usize = 65536;
+
+// How many rules a list of runs may tell of: their numbers are below this.
+pub const RULES_MOST: usize = 256;

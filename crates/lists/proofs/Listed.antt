@@ -1,7 +1,9 @@
--- The values of a function as a list: how many, each of them, and that equal values are an equal list. Assumes nothing.
-use mathlib.Core.Path.{_≡_, refl, ap, ap₂}
+-- The values of a function as a list: how many, each of them, that equal values are an equal list, and those below m and then n more.
+-- Assumes nothing.
+use mathlib.Core.Path.{_≡_, refl, sym, ap, ap₂, _∙_}
 use mathlib.Core.List.{List, _∷_, _++_}
-use Prim.Native.Nat.{ℕ, zero, suc, _<_}
+use Prim.Native.Nat.{ℕ, zero, suc, _+_, _<_}
+use native.Mathlib.Nat.{zero-add, suc-add}
 use native.Mathlib.Omega.{arith}
 use lib.ListN.{length, getD, take}
 use lib.Seq.{take-at}
@@ -26,3 +28,11 @@ listed-same f g (suc n) h = ap₂ _∷_ (h 0 (omega arith)) (listed-same (λ k. 
 -- in front of another list
 pub listed-front : {A : Type 0} (f : ℕ → A) (n : ℕ) (rest : List A) → take n (listed f n ++ rest) ≡ listed f n
 listed-front f n rest = take-at (listed f n) rest n (listed-length f n)
+
+-- in two parts
+pub listed-both : {A : Type 0} (f : ℕ → A) (m n : ℕ) → listed f (m + n) ≡ listed f m ++ listed (λ k. f (m + k)) n
+unfolding listed
+listed-both f zero n = ap (listed f) (zero-add n) ∙ listed-same f (λ k. f (0 + k)) n (λ k l. ap f (sym (zero-add k)))
+listed-both f (suc m) n =
+    ap (listed f) (suc-add m n)
+    ∙ ap (f 0 ∷_) (listed-both (λ k. f (suc k)) m n ∙ ap (listed (λ k. f (suc k)) m ++_) (listed-same _ _ n (λ k l. ap f (sym (suc-add m k)))))

@@ -53,6 +53,12 @@ unfolding pick
 pick-elim P true x y h k = h refl
 pick-elim P false x y h k = k refl
 
+-- a value picked and then worked on
+pub pick-ap : {A B : Type 0} (f : A → B) (b : Bool) (x y : A) → f (pick b x y) ≡ pick b (f x) (f y)
+unfolding pick
+pick-ap f true x y = refl
+pick-ap f false x y = refl
+
 -- no bit of 0 is 1
 pub no-bits : (i : ℕ) → bit 0 i ≡ false
 unfolding bit

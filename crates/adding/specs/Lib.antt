@@ -1,0 +1,2 @@
+-- What the contracts of `adding` cite.
+pub mod Add

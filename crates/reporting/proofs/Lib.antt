@@ -1,0 +1,4 @@
+-- Laws of the call.
+pub mod Outcomes
+pub mod Determined
+pub mod Told

@@ -1,0 +1,2 @@
+-- What the contracts of `reporting` cite.
+pub mod Report

@@ -1,0 +1,4 @@
+-- Laws of a row's bytes and numbers.
+pub mod Fields
+pub mod Agreed
+pub mod Written

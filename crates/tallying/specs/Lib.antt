@@ -1,0 +1,2 @@
+-- What the contracts of `tallying` cite.
+pub mod Tables
