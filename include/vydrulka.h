@@ -3,8 +3,9 @@
 //
 // A call stands any bytes and numbers. It makes its checks in the order that its comment gives and answers the number of the
 // first that fails; then it has written nothing. Else it answers 0 and has stored its values behind the pointers to single
-// numbers. Only 16 tells more than its number: vydrulka_parse has then stored the line and the byte. What it answers and writes follows from what it is given, and from nothing else. A capture that comes to an event which
-// is refused is accepted itself: it answers 0, stores where and why it stopped, and leaves what was closed before.
+// numbers. Only 16 and 19 tell more than their number: vydrulka_parse has then stored the line and the byte, and vydrulka_report
+// the place. What a call answers and writes follows from what it is given, and from nothing else. A capture that comes to an event
+// which is refused is accepted itself: it answers 0, stores where and why it stopped, and leaves what was closed before.
 //
 // Memory: a call allocates nothing and keeps nothing. It has no memory of its own but the stack. Load, close and capture take more
 // of it the deeper a formula is nested, the others the same small amount. On the deepest inputs that are known a thread with 1 MiB
@@ -28,7 +29,7 @@
 
 // The version of this interface; CHANGES.md lists what changed. A call that is changed or taken away makes a new major version.
 #define VYDRULKA_VERSION_MAJOR 1
-#define VYDRULKA_VERSION_MINOR 5
+#define VYDRULKA_VERSION_MINOR 6
 
 #ifdef __cplusplus
 extern "C" {
@@ -44,6 +45,11 @@ enum {
     VYDRULKA_SLOTS_MOST = 64,        // slots of a network
     VYDRULKA_NODES_MOST = 4096,      // nodes of a network, and of a formula that central takes or unfolds
     VYDRULKA_STATE_LENGTH = 4768,    // bytes of a state, always
+    VYDRULKA_RUNS_MOST = 65536,      // runs of a list, and of two reports together
+    VYDRULKA_RULES_MOST = 256,       // rules that a list of runs may tell of: their numbers are below this
+    VYDRULKA_RUN_LENGTH = 12,        // bytes of a run
+    VYDRULKA_ROW_LENGTH = 32,        // bytes of a report's row
+    VYDRULKA_REPORT_LENGTH = 8192,   // bytes of a report, always: a row for each rule number
 };
 
 // Stack: a thread of so many bytes can make the call. Measured and rounded up, not proved: behind each stands what the deepest
@@ -60,6 +66,8 @@ enum {
     VYDRULKA_STACK_CLOSE = 4194304,   // 3,953,536, a slot of 4,095 nots
     VYDRULKA_STACK_ASK = 32768,       // 536
     VYDRULKA_STACK_CAPTURE = 4194304, // 3,952,656, a slot of 4,094 nots
+    VYDRULKA_STACK_REPORT = 32768,    // 7,240, whatever the runs
+    VYDRULKA_STACK_ADD = 32768,       // 152
 };
 
 // A formula has one byte a node: the node's, then its operands, the left one before the right one.
@@ -83,8 +91,10 @@ enum vydrulka_refusal {
     VYDRULKA_ACCEPTED = 0,
     VYDRULKA_REFUSED_LENGTH = 1,    // a buffer is not as long as asked for, or a rule file not as long as its own total says
     VYDRULKA_REFUSED_VERSION = 2,   // the rule file's version is not 1
-    VYDRULKA_REFUSED_RANGE = 3,     // boards, propositions or nodes of a rule are none or more than the limit
-    VYDRULKA_REFUSED_OFFSET = 4,    // an offset or the total is not the one that the rule file's counts give
+    VYDRULKA_REFUSED_RANGE = 3,     // boards, propositions or nodes of a rule are none or more than the limit; or two reports have
+                                    // more runs together than the limit
+    VYDRULKA_REFUSED_OFFSET = 4,    // an offset or the total is not the one that the rule file's counts give; or the numbers of a
+                                    // report do not agree, so that no list of runs has it
     VYDRULKA_REFUSED_MASKS = 5,     // a proposition is in no mask or in two, or a mask has a bit that is no proposition
     VYDRULKA_REFUSED_FORMULA = 6,   // not one whole formula, or it has a place holder, or a proposition that the rule does not count
     VYDRULKA_REFUSED_SLOTS = 7,     // the layout would have more slots than the limit
@@ -97,6 +107,7 @@ enum vydrulka_refusal {
     VYDRULKA_REFUSED_UNREADY = 14,  // what must come before in this tick has not come
     VYDRULKA_REFUSED_TICKS = 15,    // the ticks stand at 4,294,967,295
     VYDRULKA_REFUSED_TEXT = 16,     // not a rule as people type it; the line and the byte of the place are stored
+    VYDRULKA_REFUSED_RUN = 19,      // a run's rule number or verdict is out of range; the run's place in the list is stored
 };
 
 enum vydrulka_verdict {
@@ -188,6 +199,58 @@ uint32_t vydrulka_ask(const uint8_t *state, size_t state_len, uint32_t *verdict,
 uint32_t vydrulka_capture(uint8_t *state, size_t state_len, uint8_t *second, size_t second_len, const uint64_t *events,
                           size_t events_len, uint64_t *closed, uint32_t *verdict, uint32_t *stop);
 
+// Counts a list of runs, rule by rule, into `report`, of length VYDRULKA_REPORT_LENGTH, and writes that whole. A run is one watch
+// as triage counts it, VYDRULKA_RUN_LENGTH bytes of `runs`: at offset 0 the number of its rule, below VYDRULKA_RULES_MOST; at 4
+// its last verdict; at 8 its last tick; each in 4 bytes, the lowest first. There may be up to VYDRULKA_RUNS_MOST of them, also
+// none; more, or bytes that are left over, are 1. The row of rule r is the VYDRULKA_ROW_LENGTH bytes of the report from r times
+// VYDRULKA_ROW_LENGTH on: at offset 0 its runs, at 4 those that were false, at 8 those that were true, at 12 those that were
+// pending; then, of the runs that were false, at 16 the earliest tick, at 20 the latest and at 24 the sum of the ticks. The sum
+// has 8 bytes, the others have 4, the lowest first. A rule without a false says so by its count of false runs, 0: the three
+// numbers of ticks are then 0, and no ticks. A rule that did not run has a row of zeros. Where it answers 19, and only there, it
+// gives the place of the first run that has a rule number or a verdict out of range: its number in the list, counted from 0.
+// Stack: VYDRULKA_STACK_REPORT.
+// Refusals in order: 1, 19.
+uint32_t vydrulka_report(const uint8_t *runs, size_t runs_len, uint8_t *report, size_t report_len, uint64_t *place);
+
+// Adds the report `night` to the report `total`, both of length VYDRULKA_REPORT_LENGTH: the total becomes the report of both
+// lists of runs together, and is written whole. Zeros are the report of no runs, for a total to begin with. 3 is more than
+// VYDRULKA_RUNS_MOST runs in the rows of both, added up. 4 is a row of either that no list of runs has: its runs are not the
+// false, true and pending ones added up, or so many false runs cannot have its three numbers of ticks.
+// Stack: VYDRULKA_STACK_ADD.
+// Refusals in order: 1, 3, 4.
+uint32_t vydrulka_add(uint8_t *total, size_t total_len, const uint8_t *night, size_t night_len);
+
+// A report's row as numbers. Without a false run there are no ticks: earliest, latest and sum are then 0.
+struct vydrulka_row {
+    uint32_t runs, false_runs, true_runs, pending_runs;
+    uint32_t earliest, latest; // ticks of the false runs
+    uint64_t sum;              // of those ticks
+};
+
+// The number in so many bytes, the lowest first.
+static inline uint64_t vydrulka_number_at(const uint8_t *bytes, unsigned count)
+{
+    uint64_t number = 0;
+    while (count-- > 0)
+        number = number << 8 | bytes[count];
+    return number;
+}
+
+// The row of a rule, whose number is below VYDRULKA_RULES_MOST, in a report of VYDRULKA_REPORT_LENGTH bytes.
+static inline struct vydrulka_row vydrulka_report_row(const uint8_t *report, unsigned rule)
+{
+    const uint8_t *bytes = report + (size_t)VYDRULKA_ROW_LENGTH * rule;
+    struct vydrulka_row row;
+    row.runs = (uint32_t)vydrulka_number_at(bytes, 4);
+    row.false_runs = (uint32_t)vydrulka_number_at(bytes + 4, 4);
+    row.true_runs = (uint32_t)vydrulka_number_at(bytes + 8, 4);
+    row.pending_runs = (uint32_t)vydrulka_number_at(bytes + 12, 4);
+    row.earliest = (uint32_t)vydrulka_number_at(bytes + 16, 4);
+    row.latest = (uint32_t)vydrulka_number_at(bytes + 20, 4);
+    row.sum = vydrulka_number_at(bytes + 24, 8);
+    return row;
+}
+
 // A short phrase for an answer and a word for a verdict, for messages. Any number is allowed.
 static inline const char *vydrulka_refusal_words(uint32_t answer)
 {
@@ -196,7 +259,7 @@ static inline const char *vydrulka_refusal_words(uint32_t answer)
     case VYDRULKA_REFUSED_LENGTH: return "wrong length";
     case VYDRULKA_REFUSED_VERSION: return "unknown version";
     case VYDRULKA_REFUSED_RANGE: return "count out of range";
-    case VYDRULKA_REFUSED_OFFSET: return "wrong offset";
+    case VYDRULKA_REFUSED_OFFSET: return "wrong offset, or numbers that do not agree";
     case VYDRULKA_REFUSED_MASKS: return "masks do not fit";
     case VYDRULKA_REFUSED_FORMULA: return "not a formula";
     case VYDRULKA_REFUSED_SLOTS: return "too many slots";
@@ -209,6 +272,7 @@ static inline const char *vydrulka_refusal_words(uint32_t answer)
     case VYDRULKA_REFUSED_UNREADY: return "something must come first";
     case VYDRULKA_REFUSED_TICKS: return "ticks at their end";
     case VYDRULKA_REFUSED_TEXT: return "not a rule's text";
+    case VYDRULKA_REFUSED_RUN: return "not a valid run";
     default: return "no answer of this library";
     }
 }

@@ -6,9 +6,10 @@ use Prim.Native.Nat.{ℕ}
 use Rattle.answers.specs.declared.Outcome.the-variants.{Done}
 use Rattle.watching.specs.Watch.{Calls, none, sample, step}
 use Rattle.watching.specs.Claims.{Accepted}
-use Rattle.demand.specs.Called.{Called, nothing, sampled, stepped, asked, closed, load-refused, close-refused, write-refused, parse-refused, print-refused, central-refused, read-refused, capture-refused, capture-second-refused}
+use Rattle.demand.specs.Called.{Called, nothing, sampled, stepped, asked, closed, load-refused, close-refused, write-refused, parse-refused, print-refused, central-refused, read-refused, capture-refused, capture-second-refused, report-refused, add-refused}
 use Rattle.demand.specs.Claims.{AllAccepted}
 use Rattle.parsing.proofs.Outcomes.{parse-keeps}
+use Rattle.reporting.proofs.Outcomes.{report-keeps}
 use Rattle.keeping.proofs.Refused.{refused-leaves}
 
 pub called : {s t : List ℕ} → Called s t → Calls s t
@@ -26,6 +27,8 @@ called {s} (central-refused {t = t} c formula event why p) = subst (λ (u : List
 called {s} (read-refused {t = t} c file masks masks′ why p) = subst (λ (u : List ℕ). Calls s u) (sym (p .leaves-formula ∙ refused-leaves why _ _ t (p .says))) (called c)
 called {s} (capture-refused {t = t} c second second′ events why p) = subst (λ (u : List ℕ). Calls s u) (sym (p .leaves ∙ refused-leaves why _ _ t (p .says))) (called c)
 called {s} (capture-second-refused {t = t} c other other′ events why p) = subst (λ (u : List ℕ). Calls s u) (sym (p .leaves-second ∙ refused-leaves why _ _ t (p .says))) (called c)
+called {s} (report-refused c runs answer r p) = subst (λ (u : List ℕ). Calls s u) (sym (report-keeps p r)) (called c)
+called {s} (add-refused {t = t} c night why p) = subst (λ (u : List ℕ). Calls s u) (sym (p .leaves ∙ refused-leaves why _ _ t (p .says))) (called c)
 
 -- accepted calls over the definitions are allowed by the promises
 pub made : {s t : List ℕ} (c : Calls s t) → Accepted c → (d : Called s t) × AllAccepted d

@@ -29,6 +29,9 @@ use Rattle.closing.specs.Close.{Closes}
 use Rattle.loading.specs.Load.{LoadsRule}
 use Rattle.capturing.specs.declared.CaptureAnswer.the-variants as capture-said
 use Rattle.capturing.specs.Capture.{Captures}
+use Rattle.reporting.specs.declared.ReportAnswer.{ReportAnswer}
+use Rattle.reporting.specs.Report.{saidReport, Reports}
+use Rattle.adding.specs.Add.{AddsReport}
 
 -- any number of calls on one state, with any numbers and buffers, each with any outcome that its promise allows: samples and steps;
 -- asking and closing, which only read the state; and each call that was lent the state's buffer to write it and was refused. A refused
@@ -48,6 +51,8 @@ pub data Called (s : List ℕ) : List ℕ → Type 0 where
   read-refused : {t t′ : List ℕ} → Called s t → (file masks masks′ : List ℕ) (why : Refusal) → Reads file masks t masks′ t′ (read-said.Refused why) → Called s t′
   capture-refused : {t t′ : List ℕ} → Called s t → (second second′ events : List ℕ) (why : Refusal) → Captures t second events t′ second′ (capture-said.Refused why) → Called s t′
   capture-second-refused : {t t′ : List ℕ} → Called s t → (other other′ events : List ℕ) (why : Refusal) → Captures other t events other′ t′ (capture-said.Refused why) → Called s t′
+  report-refused : {t t′ : List ℕ} → Called s t → (runs : List ℕ) (answer : ReportAnswer) → 0 < saidReport answer .number → Reports runs t t′ answer → Called s t′
+  add-refused : {t t′ : List ℕ} → Called s t → (night : List ℕ) (why : Refusal) → AddsReport t night t′ (Refused why) → Called s t′
 
 -- board b was given the bits v: one of these calls was that sample, and it was accepted
 abbrev pub Gave : {s t : List ℕ} → Called s t → ℕ → ℕ → Type 0
@@ -65,6 +70,8 @@ Gave (central-refused c formula event why p) b v = Gave c b v
 Gave (read-refused c file masks masks′ why p) b v = Gave c b v
 Gave (capture-refused c second second′ events why p) b v = Gave c b v
 Gave (capture-second-refused c other other′ events why p) b v = Gave c b v
+Gave (report-refused c runs answer r p) b v = Gave c b v
+Gave (add-refused c night why p) b v = Gave c b v
 
 -- whatever a board was given was its part of the event: the bits of the event that are in the board's mask
 abbrev pub GivenBy : {s t : List ℕ} → List ℕ → Event → Called s t → Type 0

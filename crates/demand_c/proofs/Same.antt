@@ -1,6 +1,6 @@
 -- Whatever an exported function's promise allows, the call's own promise allows, with an outcome of the same number: `sample-same`, `step-same`,
 -- `close-same`, `load-same`, of an accepted capture `capture-same`; of a refusal `load-refusal`, `close-refusal`, `write-refusal`, `parse-refusal`,
--- `print-refusal`, `central-refusal`,
+-- `print-refusal`, `report-refusal`, `add-refusal`, `central-refusal`,
 -- `read-refusal`, `capture-refusal`. Assumes nothing.
 use mathlib.Core.Path.{_≡_, refl, sym, ap, _∙_, subst}
 use mathlib.Core.List.{List}
@@ -34,7 +34,11 @@ use Rattle.central.specs.Central.{centralSays, Centrally}
 use Rattle.capturing.specs.declared.Captured.{Captured}
 use Rattle.capturing.specs.declared.CaptureAnswer.the-variants as capture-said
 use Rattle.capturing.specs.Capture.{captureSays, Captures}
-use Rattle.exports.specs.Exported.{valueAt, ReadExported, WriteExported, ParseExported, PrintExported, CentralExported, LoadExported, SampleExported, StepExported, CloseExported, CaptureExported}
+use Rattle.reporting.specs.declared.ReportAnswer.{ReportAnswer}
+use Rattle.reporting.specs.Report.{saidReport, Reports}
+use Rattle.reporting.proofs.Outcomes.{report-answers}
+use Rattle.adding.specs.Add.{addSays, AddsReport}
+use Rattle.exports.specs.Exported.{valueAt, ReadExported, WriteExported, ParseExported, PrintExported, CentralExported, LoadExported, SampleExported, StepExported, CloseExported, CaptureExported, ReportExported, AddExported}
 use Rattle.demand.proofs.Allowed.{Either, order-either, sample-outcome, step-outcome, close-outcome, load-outcome}
 use Rattle.demand.proofs.Capturing.{CaptureCase, may-run, not-run, capture-case, capture-exists}
 use Rattle.demand_c.specs.FromC.{Refuses}
@@ -119,6 +123,18 @@ unfolding captureSays
 capture-refusal {n = n} x refuses =
     let r = either-refused _ _ n (order-either _ ((Length, refl), ((State, refl), ((Finished, refl), tt))) _) (x .says) refuses in
     (r .0, record { says = r .1; leaves = x .leaves; leaves-second = x .leaves-second })
+
+pub report-refusal : {runs report report′ : List ℕ} {place place′ n : ℕ} → ReportExported runs report report′ place place′ n → Refuses n
+    → (answer : ReportAnswer) × (0 < saidReport answer .number) × Reports runs report report′ answer
+report-refusal {runs} {report} x refuses =
+    let r = report-answers runs (length report) (λ e. refuses (x .says ∙ e)) in
+    (r .0, r .1, record { says = r .2; leaves = x .leaves })
+
+pub add-refusal : {total night total′ : List ℕ} {n : ℕ} → AddExported total night total′ n → Refuses n → (why : Refusal) × AddsReport total night total′ (Refused why)
+unfolding addSays
+add-refusal {n = n} x refuses =
+    let r = either-refused _ _ n (order-either _ ((Length, refl), ((Range, refl), ((Offset, refl), tt))) _) (x .says) refuses in
+    (r .0, record { says = r .1; leaves = x .leaves })
 
 -- ---- an accepted capture, and what it stored behind its pointers
 pub record CaptureSame (s second events s′ second′ : List ℕ) (count verdict stop : ℕ) : Type 0 where

@@ -7,7 +7,7 @@ use Prim.Native.Nat.{ℕ}
 use Rattle.ltl.specs.Meaning.{Event}
 use Rattle.network.specs.Scores.{sampleOf}
 use Rattle.rules.specs.RuleFile.{masksInFile}
-use Rattle.exports.specs.Exported.{ReadExported, WriteExported, ParseExported, PrintExported, CentralExported, LoadExported, SampleExported, StepExported, CloseExported, AskExported, CaptureExported}
+use Rattle.exports.specs.Exported.{ReadExported, WriteExported, ParseExported, PrintExported, CentralExported, LoadExported, SampleExported, StepExported, CloseExported, AskExported, CaptureExported, ReportExported, AddExported}
 
 -- the number is a refusal's
 abbrev pub Refuses : ℕ → Type 0
@@ -31,6 +31,8 @@ pub data CalledFromC (s : List ℕ) : List ℕ → Type 0 where
   read-refused : {t t′ : List ℕ} → CalledFromC s t → (file masks masks′ : List ℕ) (boards propositions nodes boards′ propositions′ nodes′ n : ℕ) → Refuses n → ReadExported file masks t masks′ t′ boards propositions nodes boards′ propositions′ nodes′ n → CalledFromC s t′
   capture-refused : {t t′ : List ℕ} → CalledFromC s t → (second second′ events : List ℕ) (count verdict stop count′ verdict′ stop′ n : ℕ) → Refuses n → CaptureExported t second events t′ second′ count verdict stop count′ verdict′ stop′ n → CalledFromC s t′
   capture-second-refused : {t t′ : List ℕ} → CalledFromC s t → (other other′ events : List ℕ) (count verdict stop count′ verdict′ stop′ n : ℕ) → Refuses n → CaptureExported other t events other′ t′ count verdict stop count′ verdict′ stop′ n → CalledFromC s t′
+  report-refused : {t t′ : List ℕ} → CalledFromC s t → (runs : List ℕ) (place place′ n : ℕ) → Refuses n → ReportExported runs t t′ place place′ n → CalledFromC s t′
+  add-refused : {t t′ : List ℕ} → CalledFromC s t → (night : List ℕ) (n : ℕ) → Refuses n → AddExported t night t′ n → CalledFromC s t′
 
 -- board b was given the bits v: one of these calls was that sample, and it answered 0
 abbrev pub GaveFromC : {s t : List ℕ} → CalledFromC s t → ℕ → ℕ → Type 0
@@ -48,6 +50,8 @@ GaveFromC (central-refused c formula event verdict nodes verdict′ nodes′ n r
 GaveFromC (read-refused c file masks masks′ boards propositions nodes boards′ propositions′ nodes′ n r p) b v = GaveFromC c b v
 GaveFromC (capture-refused c second second′ events count verdict stop count′ verdict′ stop′ n r p) b v = GaveFromC c b v
 GaveFromC (capture-second-refused c other other′ events count verdict stop count′ verdict′ stop′ n r p) b v = GaveFromC c b v
+GaveFromC (report-refused c runs place place′ n r p) b v = GaveFromC c b v
+GaveFromC (add-refused c night n r p) b v = GaveFromC c b v
 
 -- whatever a board was given was its part of the event
 abbrev pub GivenByC : {s t : List ℕ} → List ℕ → Event → CalledFromC s t → Type 0

@@ -4,7 +4,7 @@ use mathlib.Core.List.{List}
 use Prim.Native.Nat.{ℕ}
 use Rattle.answers.specs.Said.{Said}
 use Rattle.parsing.proofs.Determined.{parse-one}
-use Rattle.exports.specs.Exported.{valueAt, toldAt, ReadExported, WriteExported, ParseExported, PrintExported, CentralExported, LoadExported, SampleExported, StepExported, CloseExported, AskExported, CaptureExported}
+use Rattle.exports.specs.Exported.{valueAt, toldAt, ReadExported, WriteExported, ParseExported, PrintExported, CentralExported, LoadExported, SampleExported, StepExported, CloseExported, AskExported, CaptureExported, ReportExported, AddExported}
 
 pub read-determined : {file masks formula m m₂ f f₂ : List ℕ} {boards propositions nodes b b₂ p p₂ n n₂ a a₂ : ℕ}
     → ReadExported file masks formula m f boards propositions nodes b p n a → ReadExported file masks formula m₂ f₂ boards propositions nodes b₂ p₂ n₂ a₂
@@ -77,3 +77,10 @@ capture-determined x y = (
   x .gives-verdict ∙ sym (y .gives-verdict),
   x .gives-stop ∙ sym (y .gives-stop),
 )
+
+pub report-determined : {runs report e e₂ : List ℕ} {place p p₂ a a₂ : ℕ}
+    → ReportExported runs report e place p a → ReportExported runs report e₂ place p₂ a₂ → (a ≡ a₂) × (e ≡ e₂) × (p ≡ p₂)
+report-determined x y = (x .says ∙ sym (y .says), x .leaves ∙ sym (y .leaves), x .gives-place ∙ sym (y .gives-place))
+
+pub add-determined : {total night e e₂ : List ℕ} {a a₂ : ℕ} → AddExported total night e a → AddExported total night e₂ a₂ → (a ≡ a₂) × (e ≡ e₂)
+add-determined x y = (x .says ∙ sym (y .says), x .leaves ∙ sym (y .leaves))

@@ -2,3 +2,4 @@
 pub mod Values
 pub mod Determined
 pub mod PrintedBack
+pub mod Nights

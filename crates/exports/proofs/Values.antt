@@ -36,14 +36,20 @@ unfolding valueAt pick
 value-with n vs i before h = rw (ne-eqb n 0 (λ e. omega arith))
 
 -- ---- what a refusal tells
-pub told-refused : (why : Refusal) (i before : ℕ) → before ≡ toldAt (refused (numberOf why)) i before
+kept-told : (why : Refusal) (i before : ℕ) → toldAt (refused (numberOf why)) i before ≡ before
 unfolding toldAt pick
-told-refused why i before = let n = number-some why in rw (ne-eqb (numberOf why) 0 (λ e. omega arith))
+kept-told why i before = let n = number-some why in rw (ne-eqb (numberOf why) 0 (λ e. omega arith))
 
-pub told-with : (n : ℕ) (vs : List ℕ) (i before : ℕ) → 0 < n → getD vs i before ≡ toldAt (refusedWith n vs) i before
+given-told : (n : ℕ) (vs : List ℕ) (i before : ℕ) → 0 < n → toldAt (refusedWith n vs) i before ≡ getD vs i before
 unfolding toldAt pick
-told-with n vs i before h = rw (ne-eqb n 0 (λ e. omega arith))
+given-told n vs i before h = rw (ne-eqb n 0 (λ e. omega arith))
 
-pub told-accepted : (vs : List ℕ) (i before : ℕ) → before ≡ toldAt (accepted vs) i before
+pub told-refused : {s : Said} (why : Refusal) (i before : ℕ) → refused (numberOf why) ≡ s → before ≡ toldAt s i before
+told-refused why i before e = sym (kept-told why i before) ∙ ap (λ (x : Said). toldAt x i before) e
+
+pub told-with : {s : Said} (n : ℕ) (vs : List ℕ) (i before : ℕ) → 0 < n → refusedWith n vs ≡ s → getD vs i before ≡ toldAt s i before
+told-with n vs i before h e = sym (given-told n vs i before h) ∙ ap (λ (x : Said). toldAt x i before) e
+
+pub told-accepted : {s : Said} (vs : List ℕ) (i before : ℕ) → accepted vs ≡ s → before ≡ toldAt s i before
 unfolding toldAt pick
-told-accepted vs i before = refl
+told-accepted vs i before e = ap (λ (x : Said). toldAt x i before) e

@@ -23,6 +23,8 @@ use Rattle.state.specs.Form.{formIn}
 use Rattle.state.specs.Calls.{loadedState, askSays, sampleSays, sampleLeaves, stepSays, stepLeaves, closeSays, closeLeaves}
 use Rattle.loading.specs.Load.{startIn, loadSays}
 use Rattle.capturing.specs.Capture.{captureSays, captureLeaves, captureSecond}
+use Rattle.reporting.specs.Report.{reportSays, reportFor}
+use Rattle.adding.specs.Add.{addSays, sumFor}
 
 -- what stands behind a reference afterwards: an accepted call's value, and what stood there before a refusal
 unfoldable pub valueAt : Said → ℕ → ℕ → ℕ
@@ -94,3 +96,12 @@ pub record CaptureExported (state second events state′ second′ : List ℕ) (
   pub gives-closed : closed′ ≡ valueAt (captureSays state (length second) events) 0 closed
   pub gives-verdict : verdict′ ≡ valueAt (captureSays state (length second) events) 1 verdict
   pub gives-stop : stop′ ≡ valueAt (captureSays state (length second) events) 2 stop
+
+pub record ReportExported (runs report report′ : List ℕ) (place place′ answer : ℕ) : Type 0 where
+  pub says : answer ≡ reportSays runs (length report) .number
+  pub leaves : report′ ≡ left (reportSays runs (length report)) (reportFor runs) report
+  pub gives-place : place′ ≡ toldAt (reportSays runs (length report)) 0 place
+
+pub record AddExported (total night total′ : List ℕ) (answer : ℕ) : Type 0 where
+  pub says : answer ≡ addSays total night .number
+  pub leaves : total′ ≡ left (addSays total night) (sumFor total night) total

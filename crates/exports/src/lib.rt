@@ -1,13 +1,15 @@
 // The calls for programs in C and other languages: numbers and slices alone. Each answers 0 or the refusal's number, and writes
-// the values behind the references only where it answers 0; `vydrulka_parse` writes line and byte only where it answers 16.
+// the values behind the references only where it answers 0; `vydrulka_parse` writes line and byte only where it answers 16, and
+// `vydrulka_report` the place only where it answers 19.
 ghost use mathlib.Core.Path.{_≡_};
 ghost use Rattle.answers.specs.Said.{saidOutcome};
-ghost use Rattle.exports.specs.Exported.{ReadExported, WriteExported, ParseExported, PrintExported, CentralExported, LoadExported, SampleExported, StepExported, CloseExported, AskExported, CaptureExported};
+ghost use Rattle.exports.specs.Exported.{ReadExported, WriteExported, ParseExported, PrintExported, CentralExported, LoadExported, SampleExported, StepExported, CloseExported, AskExported, CaptureExported, ReportExported, AddExported};
 use answers::Outcome;
 use capturing::CaptureAnswer;
 use central::CentralAnswer;
 use parsing::ParseAnswer;
 use printing::PrintAnswer;
+use reporting::ReportAnswer;
 use rules::ReadAnswer;
 use rules::WriteAnswer;
 use telling::AskAnswer;
@@ -201,4 +203,26 @@ pub extern "C" fn vydrulka_capture(
             0
         }
     }
+}
+
+#[no_mangle]
+pub extern "C" fn vydrulka_report(runs: &[u8], report: &mut [u8], place: &mut u64) -> u32
+    ensures { λ r. ⌜ ReportExported (now (runs .entry)) (now (report .entry)) (now (report .exit)) (now (place .entry)) (now (place .exit)) r ⌝ }
+{
+    let answer = reporting::report(runs, report);
+    match answer {
+        ReportAnswer::Refused(why) => why.number(),
+        ReportAnswer::NoRun(at) => {
+            *place = at as u64;
+            19
+        }
+        ReportAnswer::Reported => 0,
+    }
+}
+
+#[no_mangle]
+pub extern "C" fn vydrulka_add(total: &mut [u8], night: &[u8]) -> u32
+    ensures { λ r. ⌜ AddExported (now (total .entry)) (now (night .entry)) (now (total .exit)) r ⌝ }
+{
+    number_of(adding::add(total, night))
 }

@@ -28,8 +28,8 @@ returns c = let a = c .before .before in let w = a .answer .given .0 .0 in
       parses = parse-as (a .answer .given .1) (refused a .parse .ensures);
       says = c .number .ensures;
       gives-nodes = value-refused w 0 _ refl;
-      gives-line = told-refused w 0 _;
-      gives-byte = told-refused w 1 _;
+      gives-line = told-refused w 0 _ refl;
+      gives-byte = told-refused w 1 _ refl;
     }
 
 returns-2 : tie.Need-returns-2
@@ -39,8 +39,8 @@ returns-2 c = let a = c .before in let at : TextCursor = a .answer2 .given .0 .0
       parses = parse-as (a .answer2 .given .1) (no-text a .parse .ensures);
       says = refl;
       gives-nodes = value-with 16 place 0 _ (omega arith);
-      gives-line = told-with 16 place 0 _ (omega arith);
-      gives-byte = told-with 16 place 1 _ (omega arith);
+      gives-line = told-with 16 place 0 _ (omega arith) refl;
+      gives-byte = told-with 16 place 1 _ (omega arith) refl;
     }
 
 returns-3 : tie.Need-returns-3
@@ -50,8 +50,8 @@ returns-3 c = let a = c .before in let n = a .answer3 .given .0 .0 in
       parses = parse-as (a .answer3 .given .1) (accepted a .parse .ensures);
       says = refl;
       gives-nodes = value-accepted (n ∷ []) 0 _ refl;
-      gives-line = told-accepted (n ∷ []) 0 _;
-      gives-byte = told-accepted (n ∷ []) 1 _;
+      gives-line = told-accepted (n ∷ []) 0 _ refl;
+      gives-byte = told-accepted (n ∷ []) 1 _ refl;
     }
 
 pub vydrulka-parse-spec : {M : Type 1} → statement M
