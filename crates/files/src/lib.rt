@@ -51,5 +51,7 @@ pub fn read(name: &[u8], room: &mut [u8]) -> FileAnswer
     if fd < 0 {
         return FileAnswer::NotOpened;
     }
-    read_all(fd, room)
+    let answer = read_all(fd, room);
+    libc::close(fd);
+    answer
 }

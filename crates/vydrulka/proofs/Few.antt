@@ -1,12 +1,16 @@
--- What an accepted call answers stays within the buffer that was lent to it. Assumes nothing.
+-- What a call answers stays within the buffer that it is about. Assumes nothing.
 use mathlib.Core.Path.{_≡_, refl, sym, ap, subst, _∙_}
 use mathlib.Core.List.{List, [], _∷_}
-use Prim.Native.Nat.{ℕ, _≤_}
+use Prim.Native.Nat.{ℕ, suc, _+_, _*_, _/_, _≤_, _<_}
 use native.Mathlib.Omega.{arith}
 use lib.ListN.{length, getD}
+use lib.Dec.{eqb}
+use borrow.Author.Tests.{eqb-false}
 use Rattle.lists.specs.Tests.{pick}
+use Rattle.lists.proofs.Tests.{pick-elim}
+use Rattle.lists.proofs.Listed.{listed-length}
 use Rattle.limits.specs.Limits.{boardsMost, ruleNodesMost, textLength}
-use Rattle.answers.specs.Said.{Said, accepted, inOrder}
+use Rattle.answers.specs.Said.{Said, accepted, refused, refusedWith, inOrder}
 use Rattle.rules.specs.declared.RuleCounts.{RuleCounts}
 use Rattle.rules.specs.declared.ReadAnswer.{ReadAnswer}
 use Rattle.rules.specs.declared.ReadAnswer.the-variants.{Rule}
@@ -30,6 +34,10 @@ use Rattle.ltl.specs.Formula.{Formula}
 use Rattle.nodes.proofs.Fronts.{front-length}
 use Rattle.text.specs.Printing.{printed}
 use Rattle.text.proofs.Prints.{printed-few}
+use Rattle.reports.specs.Runs.{Run, runLength, runAt, runCount, runsIn, isKnown, knownFront}
+use Rattle.reporting.specs.declared.ReportAnswer.{ReportAnswer}
+use Rattle.reporting.specs.declared.ReportAnswer.the-variants.{NoRun}
+use Rattle.reporting.specs.Report.{runLengthsOk, reportSays, Reports}
 
 -- ---- numbers and values of an answer
 first : Said → ℕ
@@ -91,4 +99,33 @@ printed-within s text text′ a n is x =
     let few = bytes .few in
     let short = printed-few (r .formula-is) in
     let e : n ≡ length (printed (r .formula-is)) = ap first (p .says ∙ says-printed s text o) ∙ ap (λ (f : Formula). length (printed f)) (r .same) in
+    omega arith
+
+-- ---- report
+front-few : (xs : List Run) → knownFront xs ≤ length xs
+unfolding knownFront
+front-few [] = omega arith
+front-few (x ∷ xs) =
+    pick-elim (λ (n : ℕ). n ≤ suc (length xs)) (isKnown x) (suc (knownFront xs)) 0 (λ q. let few = front-few xs in omega arith) (λ q. omega arith)
+
+-- a place that is told is that of a run
+place-said : (s : List ℕ) (room : ℕ) → reportSays s room .number ≡ 19 → first (reportSays s room) < length (runsIn s)
+unfolding reportSays inOrder first
+place-said s room =
+    pick-elim (λ (a : Said). a .number ≡ 19 → first a < length (runsIn s)) (runLengthsOk s room)
+    (pick (eqb (knownFront (runsIn s)) (length (runsIn s))) (accepted []) (refusedWith 19 (knownFront (runsIn s) ∷ []))) (refused 1)
+    (λ q.
+    pick-elim (λ (a : Said). a .number ≡ 19 → first a < length (runsIn s)) (eqb (knownFront (runsIn s)) (length (runsIn s))) (accepted [])
+    (refusedWith 19 (knownFront (runsIn s) ∷ [])) (λ e z. absurd (omega arith))
+    (λ e z. let few = front-few (runsIn s) in let less = eqb-false (knownFront (runsIn s)) (length (runsIn s)) e in omega arith))
+    (λ q z. absurd (omega arith))
+
+pub no-run-within : (runs report report′ : List ℕ) (a : ReportAnswer) (k : ℕ) → a ≡ NoRun k → Reports runs report report′ a → runLength * k + runLength ≤ length runs
+unfolding first
+no-run-within runs report report′ a k is x =
+    let r = subst (Reports runs report report′) is x in
+    let number : reportSays runs (length report) .number ≡ 19 = sym (ap (λ (s : Said). s .number) (r .says)) in
+    let place : k ≡ first (reportSays runs (length report)) = ap first (r .says) in
+    let less = place-said runs (length report) number in
+    let long : length (runsIn runs) ≡ length runs / runLength = listed-length (runAt runs) (runCount runs) in
     omega arith

@@ -1,18 +1,18 @@
-// The file that the second argument names.
+// The files that arguments name.
 ghost use lib.ListN.{length};
 ghost use Rattle.files.specs.Within.{Within};
 use crate::output;
 use files::FileAnswer;
 
-// Where the file's name stands among the arguments.
-const FILE_AT: usize = 2;
+// Where a file's name stands among the arguments, of a word that has one file.
+pub const FILE_AT: usize = 2;
 
-// Reads the file to the front of the room. Where it cannot, that is told here.
-pub fn take(room: &mut [u8]) -> FileAnswer
+// Reads the file that argument i names to the front of the room. Where it cannot, that is told here.
+pub fn take(i: usize, room: &mut [u8]) -> FileAnswer
     ensures { λ r. ⌜ Within 0 (length (now (room .entry))) r ⌝ }
 {
     let mut name = io::buffer();
-    let n = os::arg(FILE_AT, &mut name);
+    let n = os::arg(i, &mut name);
     let answer = files::read(&name[0..n], room);
     match answer {
         FileAnswer::NotOpened => output::failed(b"failed open ", &name[0..n]),

@@ -1,10 +1,13 @@
 // The program `vydrulka`: its first argument is a word that says what to do, and the other arguments are for that. Each word has a file
-// here. What a word is asked for goes to standard output, at once and only where everything was accepted; all else goes to standard
-// error, and its last line says what came of it.
+// here, and `report` and `csv` have one together. What a word is asked for goes to standard output, at once and only where everything
+// was accepted; all else goes to standard error, and its last line says what came of it.
 mod input;
 mod output;
+mod word_report;
 mod word_rule;
 mod word_text;
+
+use tables::Sheet;
 
 // Room for the longest word and one byte more, so that no longer one looks like it.
 const WORD_ROOM: usize = 16;
@@ -13,6 +16,8 @@ const WORD_ROOM: usize = 16;
 enum Word {
     Rule,
     Text,
+    Report,
+    Csv,
     Unknown,
 }
 
@@ -22,6 +27,12 @@ fn word_in(arg: &[u8]) -> Word {
     }
     if check::same(arg, b"text") {
         return Word::Text;
+    }
+    if check::same(arg, b"report") {
+        return Word::Report;
+    }
+    if check::same(arg, b"csv") {
+        return Word::Csv;
     }
     Word::Unknown
 }
@@ -34,6 +45,8 @@ fn main() {
     match word {
         Word::Rule => word_rule::run(count),
         Word::Text => word_text::run(count),
+        Word::Report => word_report::run(count, Sheet::Table),
+        Word::Csv => word_report::run(count, Sheet::Values),
         Word::Unknown => output::usage(),
     }
 }

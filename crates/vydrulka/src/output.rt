@@ -6,7 +6,7 @@ use answers::Refusal;
 use cursor::TextCursor;
 use pointing::POINT_ROOM;
 use wording::accepted;
-use wording::accepted::RULE_ROOM;
+use wording::accepted::ACCEPTED_ROOM;
 use wording::refusals;
 use wording::refusals::REFUSAL_ROOM;
 
@@ -19,6 +19,10 @@ fn tell(bytes: &[u8]) {
 pub fn usage() {
     tell(b"usage: vydrulka rule TEXT BOARD..   writes the rule file of the rule typed in TEXT\n");
     tell(b"       vydrulka text RULE           prints the text and the boards of a rule file\n");
+    tell(
+        b"       vydrulka report NIGHT..      prints the report of some nights' runs as a table\n",
+    );
+    tell(b"       vydrulka csv NIGHT..         prints it as comma-separated values\n");
     tell(
         b"A file named - is standard input. A board is its propositions, as p0,p2, or - for none.\n",
     );
@@ -35,8 +39,15 @@ pub fn result(bytes: &[u8]) -> bool {
 
 // What was written is a rule file.
 pub fn rule(nodes: u64, propositions: u64, boards: u64, length: u64) {
-    let mut line = [0u8; RULE_ROOM];
+    let mut line = [0u8; ACCEPTED_ROOM];
     let end = accepted::rule(&mut line, nodes, propositions, boards, length);
+    tell(&line[0..end]);
+}
+
+// What was written is the page of a report.
+pub fn report(runs: u64, rules: u64, nights: u64) {
+    let mut line = [0u8; ACCEPTED_ROOM];
+    let end = accepted::report(&mut line, runs, rules, nights);
     tell(&line[0..end]);
 }
 
@@ -47,6 +58,22 @@ pub fn refused(refusal: Refusal, words: &[u8])
 {
     let mut line = [0u8; REFUSAL_ROOM];
     let end = refusals::refused(&mut line, refusal, words);
+    tell(&line[0..end]);
+}
+
+// The same of a file.
+pub fn refused_file(refusal: Refusal, name: &[u8], words: &[u8])
+    requires { ⌜ length (now words) ≤ 80 ⌝ }
+{
+    let mut line = [0u8; REFUSAL_ROOM];
+    let end = refusals::refused_file(&mut line, refusal, name, words);
+    tell(&line[0..end]);
+}
+
+// A run that cannot be counted.
+pub fn no_run(name: &[u8], place: u64, rule: u64, verdict: u64) {
+    let mut line = [0u8; REFUSAL_ROOM];
+    let end = refusals::no_run(&mut line, name, place, rule, verdict);
     tell(&line[0..end]);
 }
 

@@ -3,6 +3,7 @@ ghost use Prim.Native.Nat.{_<_, _≤_};
 ghost use lib.ListN.{length};
 ghost use Rattle.limits.specs.Limits.{boardsMost};
 use crate::input;
+use crate::input::FILE_AT;
 use crate::output;
 use answers::Refusal;
 use files::FileAnswer;
@@ -98,7 +99,7 @@ fn parse(masks: &[u64], text: &[u8]) {
 
 // Reads the file with the text into the room.
 fn read_into(masks: &[u64], room: &mut [u8]) {
-    let answer = input::take(room);
+    let answer = input::take(FILE_AT, room);
     let FileAnswer::Bytes(n) = answer else {
         return;
     };

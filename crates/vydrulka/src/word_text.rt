@@ -3,6 +3,7 @@ ghost use mathlib.Core.Path.{_≡_};
 ghost use Prim.Native.Nat.{_≤_};
 ghost use Rattle.limits.specs.Limits.{boardsMost, textLength};
 use crate::input;
+use crate::input::FILE_AT;
 use crate::output;
 use answers::Refusal;
 use files::FileAnswer;
@@ -84,7 +85,7 @@ pub fn run(count: usize) {
         return;
     }
     let mut file = [0u8; FILE_ROOM];
-    let answer = input::take(&mut file);
+    let answer = input::take(FILE_AT, &mut file);
     let FileAnswer::Bytes(n) = answer else {
         return;
     };

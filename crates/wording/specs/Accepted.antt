@@ -1,4 +1,4 @@
--- The lines of an accepted rule, as bytes. Assumes nothing: these are definitions.
+-- The lines of an accepted rule or report, as bytes. Assumes nothing: these are definitions.
 use mathlib.Core.List.{List, [], _∷_, _++_}
 use Prim.Native.Nat.{ℕ, suc}
 use lib.Dec.{eqb}
@@ -10,15 +10,20 @@ use Rattle.spelling.specs.Typed.{boardText}
 unfoldable pub countedText : ℕ → List ℕ → List ℕ
 countedText n noun = decimalOf n ++ (32 ∷ (noun ++ pick (eqb n 1) [] (115 ∷ [])))
 
--- "rule of 7 nodes, 3 propositions"
-abbrev pub sizesText : ℕ → ℕ → List ℕ
-sizesText nodes propositions =
-    (114 ∷ 117 ∷ 108 ∷ 101 ∷ 32 ∷ 111 ∷ 102 ∷ 32 ∷ []) ++ (countedText nodes (110 ∷ 111 ∷ 100 ∷ 101 ∷ []) ++ ((44 ∷ 32 ∷ []) ++ countedText propositions (112 ∷ 114 ∷ 111 ∷ 112 ∷ 111 ∷ 115 ∷ 105 ∷ 116 ∷ 105 ∷ 111 ∷ 110 ∷ [])))
+-- how many there are of two things, behind a word: "rule of 7 nodes, 3 propositions"
+abbrev pub sizesText : List ℕ → ℕ → List ℕ → ℕ → List ℕ → List ℕ
+sizesText word m first n second = word ++ (countedText m first ++ ((44 ∷ 32 ∷ []) ++ countedText n second))
 
 -- "rule of 7 nodes, 3 propositions, 3 boards: 47 bytes"
 abbrev pub ruleLine : ℕ → ℕ → ℕ → ℕ → List ℕ
 ruleLine nodes propositions boards length =
-    sizesText nodes propositions ++ ((44 ∷ 32 ∷ []) ++ (countedText boards (98 ∷ 111 ∷ 97 ∷ 114 ∷ 100 ∷ []) ++ ((58 ∷ 32 ∷ []) ++ (countedText length (98 ∷ 121 ∷ 116 ∷ 101 ∷ []) ++ feed))))
+    sizesText (114 ∷ 117 ∷ 108 ∷ 101 ∷ 32 ∷ 111 ∷ 102 ∷ 32 ∷ []) nodes (110 ∷ 111 ∷ 100 ∷ 101 ∷ []) propositions (112 ∷ 114 ∷ 111 ∷ 112 ∷ 111 ∷ 115 ∷ 105 ∷ 116 ∷ 105 ∷ 111 ∷ 110 ∷ [])
+    ++ ((44 ∷ 32 ∷ []) ++ (countedText boards (98 ∷ 111 ∷ 97 ∷ 114 ∷ 100 ∷ []) ++ ((58 ∷ 32 ∷ []) ++ (countedText length (98 ∷ 121 ∷ 116 ∷ 101 ∷ []) ++ feed))))
+
+-- "report of 14 runs, 2 rules, 1 night"
+abbrev pub reportLine : ℕ → ℕ → ℕ → List ℕ
+reportLine runs rules nights =
+    sizesText (114 ∷ 101 ∷ 112 ∷ 111 ∷ 114 ∷ 116 ∷ 32 ∷ 111 ∷ 102 ∷ 32 ∷ []) runs (114 ∷ 117 ∷ 110 ∷ []) rules (114 ∷ 117 ∷ 108 ∷ 101 ∷ []) ++ ((44 ∷ 32 ∷ []) ++ (countedText nights (110 ∷ 105 ∷ 103 ∷ 104 ∷ 116 ∷ []) ++ feed))
 
 -- "board 1: p0,p2"
 abbrev pub boardLine : ℕ → ℕ → List ℕ

@@ -31,6 +31,27 @@ shownMost = 200
 abbrev pub shownName : List ℕ → List ℕ
 shownName name = map shownByte (take shownMost name)
 
+-- "refused N: FILE"
+abbrev pub aboutFile : Refusal → List ℕ → List ℕ
+aboutFile why name = refusedText why ++ ((58 ∷ 32 ∷ []) ++ shownName name)
+
+-- the most bytes of that: the word and a number, a colon and a space, and the name
+abbrev pub aboutMost : ℕ
+aboutMost = 230
+
+-- "refused N: FILE: words"
+abbrev pub refusedFile : Refusal → List ℕ → List ℕ → List ℕ
+refusedFile why name words = aboutFile why name ++ ((58 ∷ 32 ∷ []) ++ (words ++ feed))
+
+-- "refused 19: FILE: run P"
+abbrev pub aboutRun : List ℕ → ℕ → List ℕ
+aboutRun name place = aboutFile refusal.Run name ++ ((58 ∷ 32 ∷ 114 ∷ 117 ∷ 110 ∷ []) ++ fieldOf place)
+
+-- "refused 19: FILE: run P: rule R, verdict V"
+abbrev pub noRun : List ℕ → ℕ → ℕ → ℕ → List ℕ
+noRun name place rule verdict =
+    aboutRun name place ++ ((58 ∷ 32 ∷ 114 ∷ 117 ∷ 108 ∷ 101 ∷ []) ++ (fieldOf rule ++ ((44 ∷ 32 ∷ 118 ∷ 101 ∷ 114 ∷ 100 ∷ 105 ∷ 99 ∷ 116 ∷ []) ++ (fieldOf verdict ++ feed))))
+
 -- "refused: board N: "ARG" is not a list of propositions"
 abbrev pub noBoard : ℕ → List ℕ → List ℕ
 noBoard board arg =

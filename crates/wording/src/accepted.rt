@@ -1,13 +1,13 @@
-// The lines of a rule that was accepted.
+// The lines of a rule or a report that was accepted.
 ghost use mathlib.Core.Path.{_≡_};
 ghost use Prim.Native.Nat.{_+_, _*_, _≤_};
 ghost use lib.ListN.{length};
 ghost use Rattle.lines.specs.Lines.{Adds, Line};
-ghost use Rattle.wording.specs.Accepted.{countedText, sizesText, ruleLine, boardLine, boardLines, boardLineMost};
+ghost use Rattle.wording.specs.Accepted.{countedText, sizesText, ruleLine, reportLine, boardLine, boardLines, boardLineMost};
 use spelling::shown;
 
-// Room for the line of a rule.
-pub const RULE_ROOM: usize = 128;
+// Room for the line of a rule or a report.
+pub const ACCEPTED_ROOM: usize = 128;
 
 // Puts a number of things, of which the noun is for one.
 fn put_counted(line: &mut [u8], at: usize, n: u64, noun: &[u8]) -> usize
@@ -23,28 +23,46 @@ fn put_counted(line: &mut [u8], at: usize, n: u64, noun: &[u8]) -> usize
     lines::text(line, c, b"s")
 }
 
-// Puts the sizes of a rule at the start of its line.
-fn put_sizes(line: &mut [u8], nodes: u64, propositions: u64) -> usize
-    requires { ⌜ 69 ≤ length (now line) ⌝ }
-    ensures { λ r. ⌜ Adds (sizesText nodes propositions) (now (line .entry)) 0 (now (line .exit)) r × (r ≤ 69) ⌝ }
+// Puts how many there are of two things, behind a word at the start of the line.
+fn put_sizes(line: &mut [u8], word: &[u8], m: u64, first: &[u8], n: u64, second: &[u8]) -> usize
+    requires { ⌜ 46 + (length (now word) + length (now first) + length (now second)) ≤ length (now line) ⌝ }
+    ensures { λ r. ⌜ Adds (sizesText (now (word .entry)) m (now (first .entry)) n (now (second .entry))) (now (line .entry)) 0 (now (line .exit)) r × (r ≤ 46 + (length (now (word .entry)) + length (now (first .entry)) + length (now (second .entry)))) ⌝ }
 {
-    let a = lines::text(line, 0, b"rule of ");
-    let b = put_counted(line, a, nodes, b"node");
+    let a = lines::text(line, 0, word);
+    let b = put_counted(line, a, m, first);
     let c = lines::text(line, b, b", ");
-    put_counted(line, c, propositions, b"proposition")
+    put_counted(line, c, n, second)
 }
 
 // The line of a rule: what it has, and the length of its file.
 pub fn rule(line: &mut [u8], nodes: u64, propositions: u64, boards: u64, length: u64) -> usize
-    requires { do ⌜ (← ⟦line.len()⟧) ≡ (← ⟦RULE_ROOM⟧) ⌝ }
+    requires { do ⌜ (← ⟦line.len()⟧) ≡ (← ⟦ACCEPTED_ROOM⟧) ⌝ }
     ensures { λ r. ⌜ Line (ruleLine nodes propositions boards length) (now (line .exit)) r ⌝ }
 {
-    let a = put_sizes(line, nodes, propositions);
+    let a = put_sizes(
+        line,
+        b"rule of ",
+        nodes,
+        b"node",
+        propositions,
+        b"proposition",
+    );
     let b = lines::text(line, a, b", ");
     let c = put_counted(line, b, boards, b"board");
     let d = lines::text(line, c, b": ");
     let e = put_counted(line, d, length, b"byte");
     lines::text(line, e, b"\n")
+}
+
+// The line of a report: what it has, and of how many nights it is.
+pub fn report(line: &mut [u8], runs: u64, rules: u64, nights: u64) -> usize
+    requires { do ⌜ (← ⟦line.len()⟧) ≡ (← ⟦ACCEPTED_ROOM⟧) ⌝ }
+    ensures { λ r. ⌜ Line (reportLine runs rules nights) (now (line .exit)) r ⌝ }
+{
+    let a = put_sizes(line, b"report of ", runs, b"run", rules, b"rule");
+    let b = lines::text(line, a, b", ");
+    let c = put_counted(line, b, nights, b"night");
+    lines::text(line, c, b"\n")
 }
 
 // Puts a board's line.

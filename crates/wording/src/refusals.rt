@@ -3,7 +3,7 @@ ghost use mathlib.Core.Path.{_≡_};
 ghost use Prim.Native.Nat.{_+_, _≤_};
 ghost use lib.ListN.{length};
 ghost use Rattle.lines.specs.Lines.{Adds, Line};
-ghost use Rattle.wording.specs.Refusals.{refusedText, refusedWords, noRule, shownMost, shownName, noBoard, failedText};
+ghost use Rattle.wording.specs.Refusals.{refusedText, refusedWords, noRule, shownMost, shownName, aboutFile, aboutMost, refusedFile, aboutRun, noRun, noBoard, failedText};
 use answers::Refusal;
 use pointing::least;
 use pointing::shown;
@@ -12,7 +12,7 @@ use pointing::shown;
 const SHOWN_MOST: usize = 200;
 
 // Room for the longest line.
-pub const REFUSAL_ROOM: usize = 300;
+pub const REFUSAL_ROOM: usize = 320;
 
 // The word and the number, from the start of the line on.
 fn put_number(line: &mut [u8], refusal: Refusal) -> usize
@@ -54,6 +54,50 @@ fn put_name(line: &mut [u8], at: usize, name: &[u8]) -> usize
 {
     let n = least(name.len(), SHOWN_MOST);
     shown::put_shown(line, at, &name[0..n])
+}
+
+// The word, the number and the name of a file, from the start of the line on.
+fn put_about(line: &mut [u8], refusal: Refusal, name: &[u8]) -> usize
+    requires { ⌜ aboutMost ≤ length (now line) ⌝ }
+    ensures { λ r. ⌜ Adds (aboutFile refusal (now (name .entry))) (now (line .entry)) 0 (now (line .exit)) r × (r ≤ aboutMost) ⌝ }
+{
+    let a = put_number(line, refusal);
+    let b = lines::text(line, a, b": ");
+    put_name(line, b, name)
+}
+
+// A file that is refused, in words.
+pub fn refused_file(line: &mut [u8], refusal: Refusal, name: &[u8], words: &[u8]) -> usize
+    requires { ⌜ aboutMost + (3 + length (now words)) ≤ length (now line) ⌝ }
+    ensures { λ r. ⌜ Line (refusedFile refusal (now (name .entry)) (now (words .entry))) (now (line .exit)) r ⌝ }
+{
+    let a = put_about(line, refusal, name);
+    let b = lines::text(line, a, b": ");
+    let c = lines::text(line, b, words);
+    lines::text(line, c, b"\n")
+}
+
+// The same of a run that cannot be counted, and its place in the file.
+fn put_run(line: &mut [u8], name: &[u8], place: u64) -> usize
+    requires { ⌜ aboutMost + 26 ≤ length (now line) ⌝ }
+    ensures { λ r. ⌜ Adds (aboutRun (now (name .entry)) place) (now (line .entry)) 0 (now (line .exit)) r × (r ≤ aboutMost + 26) ⌝ }
+{
+    let a = put_about(line, Refusal::Run, name);
+    let b = lines::text(line, a, b": run");
+    lines::field(line, b, place)
+}
+
+// A run that cannot be counted, with the numbers that stand for its rule and its verdict.
+pub fn no_run(line: &mut [u8], name: &[u8], place: u64, rule: u64, verdict: u64) -> usize
+    requires { do ⌜ (← ⟦line.len()⟧) ≡ (← ⟦REFUSAL_ROOM⟧) ⌝ }
+    ensures { λ r. ⌜ Line (noRun (now (name .entry)) place rule verdict) (now (line .exit)) r ⌝ }
+{
+    let a = put_run(line, name, place);
+    let b = lines::text(line, a, b": rule");
+    let c = lines::field(line, b, rule);
+    let d = lines::text(line, c, b", verdict");
+    let e = lines::field(line, d, verdict);
+    lines::text(line, e, b"\n")
 }
 
 // An argument that is no board.

@@ -1,0 +1,4 @@
+-- What the contracts of `tables` cite.
+pub mod Cells
+pub mod Average
+pub mod Pages
