@@ -6,6 +6,7 @@
 #include "clock.h"
 #include "million.h"
 #include "plain.h"
+#include "reports.h"
 #include "sides.h"
 #include "texts.h"
 
@@ -186,5 +187,5 @@ int main(void)
         times[i] = measured(&in, &ours);
         print_times(times, i, in.typical);
     }
-    return time_texts() || time_million();
+    return time_texts() || time_reports() || time_million();
 }

@@ -1,7 +1,7 @@
 // The plain C version of the calls, by hand and for speed: the library's C interface under other names, as a yardstick for its
 // speed. Bytes in place, nothing allocated.
-// Each answers 0 or the refusal's number; what the pointers lead to is written only where the answer is 0, and parse's line and
-// byte only where it is 16.
+// Each answers 0 or the refusal's number; what the pointers lead to is written only where the answer is 0, parse's line and byte
+// only where it is 16, and report's place only where it is 19.
 
 #ifndef PLAIN_H
 #define PLAIN_H
@@ -35,5 +35,9 @@ uint32_t plain_parse(const uint8_t *text, size_t text_len, uint8_t *formula, siz
                      uint64_t *byte);
 
 uint32_t plain_print(const uint8_t *formula, size_t formula_len, uint8_t *text, size_t text_len, uint64_t *length);
+
+uint32_t plain_report(const uint8_t *runs, size_t runs_len, uint8_t *report, size_t report_len, uint64_t *place);
+
+uint32_t plain_add(uint8_t *total, size_t total_len, const uint8_t *night, size_t night_len);
 
 #endif

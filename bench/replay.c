@@ -6,16 +6,16 @@
 #include <stdio.h>
 #include <string.h>
 
-enum { READ = 1, WRITE, CENTRAL, LOAD, SAMPLE, STEP, CLOSE, ASK, POKE, CAPTURE, PARSE, PRINT };
-enum { NO_TEXT = 16 }; // the refusal with a place
-enum { MOST_FILE = 4096, MOST_MASKS = 32, MOST_EVENTS = 256, MOST_BYTES = 8192 };
+enum { READ = 1, WRITE, CENTRAL, LOAD, SAMPLE, STEP, CLOSE, ASK, POKE, CAPTURE, PARSE, PRINT, REPORT, ADD };
+enum { NO_TEXT = 16, NO_RUN = 19 }; // the refusals with a place
+enum { MOST_FILE = 4096, MOST_MASKS = 32, MOST_EVENTS = 256, MOST_BYTES = 8192, MOST_RUN_BYTES = 786456 };
 
 struct request {
     uint32_t call, a, b, c;
     uint64_t v;
 };
 
-static uint8_t given[MOST_BYTES], lent[MOST_BYTES], kept[MOST_BYTES];
+static uint8_t given[MOST_BYTES], lent[MOST_BYTES], kept[MOST_BYTES], runs[MOST_RUN_BYTES];
 static uint64_t masks[MOST_MASKS], events[MOST_EVENTS];
 
 static uint64_t little_endian(const uint8_t *bytes, int count)
@@ -120,7 +120,7 @@ static int answer_central(struct request r)
     return 1;
 }
 
-// What an accepted load or close left becomes the kept state.
+// What an accepted load, close or report left becomes the kept state.
 static void keep(uint32_t number, uint32_t count)
 {
     if (number == 0)
@@ -239,6 +239,33 @@ static int answer_print(struct request r)
     return 1;
 }
 
+// The call is given the payload so many times over.
+static int answer_report(struct request r)
+{
+    uint64_t length = (uint64_t)r.a * r.b, place;
+    if (r.a > MOST_BYTES || length > MOST_RUN_BYTES || r.c > MOST_BYTES || !take(given, r.a))
+        return 0;
+    for (size_t i = 0; i < length; i += r.a)
+        memcpy(runs + i, given, r.a);
+    fill_lent(r.c);
+    uint32_t number = plain_report(runs, length, lent, r.c, &place);
+    printf("%" PRIu32, number);
+    if (number == NO_RUN)
+        printf(" %" PRIu64, place);
+    print_bytes(lent, r.c);
+    keep(number, r.c);
+    return 1;
+}
+
+static int answer_add(struct request r)
+{
+    if (r.a > MOST_BYTES || r.b > MOST_BYTES || !take(given, r.a))
+        return 0;
+    printf("%" PRIu32, plain_add(kept, r.b, given, r.a));
+    print_bytes(kept, r.b);
+    return 1;
+}
+
 static int answer(const uint8_t *header)
 {
     struct request r = {(uint32_t)little_endian(header, 4), (uint32_t)little_endian(header + 4, 4),
@@ -268,6 +295,10 @@ static int answer(const uint8_t *header)
         return answer_parse(r);
     case PRINT:
         return answer_print(r);
+    case REPORT:
+        return answer_report(r);
+    case ADD:
+        return answer_add(r);
     default:
         return 0;
     }

@@ -17,6 +17,8 @@ struct side {
     uint32_t (*capture)(uint8_t *, size_t, uint8_t *, size_t, const uint64_t *, size_t, uint64_t *, uint32_t *, uint32_t *);
     uint32_t (*parse)(const uint8_t *, size_t, uint8_t *, size_t, uint64_t *, uint64_t *, uint64_t *);
     uint32_t (*print)(const uint8_t *, size_t, uint8_t *, size_t, uint64_t *);
+    uint32_t (*report)(const uint8_t *, size_t, uint8_t *, size_t, uint64_t *);
+    uint32_t (*add)(uint8_t *, size_t, const uint8_t *, size_t);
 };
 
 extern const struct side library, plain;

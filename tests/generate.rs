@@ -2,10 +2,12 @@
 //   generate SEED COUNT        writes the stream of COUNT requests
 //   generate SEED COUNT list   writes a line for each of them instead: its call, its offset in the stream, its length, its case
 //   generate SEED COUNT inputs ROOM   writes COUNT inputs of the run program into files ROOM/1, ROOM/2, .. and a line with the case of each
-// The worked values, named texts, examples of captures, the rules at the borders and the smallest formulas with constants come first;
-// then the cases below, for the calls without a state, and the episodes on the kept state take turns, so that a stream of some
-// hundreds more meets each of them often.
+// The worked values, named texts, examples of captures and reports, the rules at the borders and the smallest formulas with constants
+// come first; then the cases below, for the calls that keep nothing, and the episodes on the kept state take turns, so that a stream of
+// some hundreds more meets each of them often.
 
+#[path = "generate/adding.rs"]
+mod adding;
 #[path = "generate/borders.rs"]
 mod borders;
 #[path = "generate/capture_stops.rs"]
@@ -34,7 +36,9 @@ mod formulas;
 mod handed;
 #[path = "generate/inputs.rs"]
 mod inputs;
-#[allow(dead_code)] // the generator needs the watch's calls and the check
+#[path = "generate/lists.rs"]
+mod lists;
+#[allow(dead_code)] // the generator needs the calls on what is kept and the check
 #[path = "second/model.rs"]
 mod model;
 #[path = "generate/moments.rs"]
@@ -47,8 +51,12 @@ mod patterns;
 mod printing;
 #[path = "generate/random.rs"]
 mod random;
+#[path = "generate/reporting.rs"]
+mod reporting;
 #[path = "generate/request.rs"]
 mod request;
+#[path = "generate/rows.rs"]
+mod rows;
 #[path = "generate/rules.rs"]
 mod rules;
 #[path = "generate/script.rs"]
@@ -59,6 +67,8 @@ mod spoilt;
 mod spoilt_formulas;
 #[path = "generate/spoilt_records.rs"]
 mod spoilt_records;
+#[path = "generate/spoilt_rows.rs"]
+mod spoilt_rows;
 #[path = "generate/spots.rs"]
 mod spots;
 #[path = "generate/texts.rs"]
@@ -69,6 +79,8 @@ mod watches;
 mod worked;
 #[path = "generate/worked_captures.rs"]
 mod worked_captures;
+#[path = "generate/worked_reports.rs"]
+mod worked_reports;
 #[path = "generate/worked_texts.rs"]
 mod worked_texts;
 #[path = "generate/worked_watches.rs"]
@@ -166,12 +178,13 @@ fn opening(script: &mut Script) -> Vec<Made> {
     let folded = folding::each_small().into_iter().map(|request| ("central", "folding: small", request));
     worked_watches::watched(script);
     worked_captures::captured(script);
+    worked_reports::reported(script);
     borders::loaded(script);
     folded_rules::loaded(script);
     worked.chain(texts).chain(borders).chain(folded).chain(std::iter::from_fn(|| script.take())).collect()
 }
 
-// Hands on the requests of a stream, one after the other.
+// Hands on the requests of a stream, one after the other. Behind the opening four of nine are cases, and the others are of episodes.
 fn stream(seed: u64, count: usize, mut emit: impl FnMut(Made)) {
     let mut script = Script::new();
     let opening = opening(&mut script);
@@ -179,11 +192,13 @@ fn stream(seed: u64, count: usize, mut emit: impl FnMut(Made)) {
     opening.into_iter().take(count).for_each(&mut emit);
     let (mut random, mut episodes_random) = (Random::new(seed), Random::new(!seed));
     let mut episodes = Episodes::new();
+    let mut cases = 0;
     for i in 0..left {
-        if i % 2 == 0 {
-            let (call, case, make) = CASES[i / 2 % CASES.len()];
-            let large = i / 2 / CASES.len() % LARGE_EVERY == LARGE_EVERY - 1;
+        if i % 9 % 2 == 1 {
+            let (call, case, make) = CASES[cases % CASES.len()];
+            let large = cases / CASES.len() % LARGE_EVERY == LARGE_EVERY - 1;
             emit((call, case, make(&mut random, large)));
+            cases += 1;
         } else {
             emit(episodes.next(&mut script, &mut episodes_random));
         }

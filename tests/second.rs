@@ -1,9 +1,9 @@
-// The second program: the rules of document 01 once more, and the texts of 02 (second/model.rs), in a program that shares no code with
-// the crates.
+// The second program: the rules of document 01 once more, and the texts and reports of 02 (second/model.rs), in a program that shares no
+// code with the crates.
 //   second        answers the requests of PROTOCOL.md from standard input, one line each
 //   second run    does what 01 says of the run program
 // tests/compare holds the Rattle program `replay` to it, tests/watches the Rattle program `run`, and tests/store keeps its answers.
-// `rustc --test` runs it on 01's worked values, on random watches and captures, on formulas with constants, and on texts.
+// `rustc --test` runs it on 01's worked values, on random watches and captures, on formulas with constants, on texts, and on reports.
 
 #[path = "second/model.rs"]
 mod model;
@@ -12,6 +12,9 @@ mod replay;
 #[path = "second/run.rs"]
 mod run;
 
+#[cfg(test)]
+#[path = "second/added.rs"]
+mod added;
 #[cfg(test)]
 #[path = "second/captured.rs"]
 mod captured;
@@ -32,6 +35,10 @@ mod handed;
 #[path = "second/invariants.rs"]
 mod invariants;
 #[cfg(test)]
+#[allow(dead_code)]
+#[path = "generate/lists.rs"]
+mod lists;
+#[cfg(test)]
 #[path = "second/meaning.rs"]
 mod meaning;
 #[cfg(test)]
@@ -47,6 +54,16 @@ mod random;
 #[cfg(test)]
 #[path = "second/readings.rs"]
 mod readings;
+#[cfg(test)]
+#[path = "second/reported.rs"]
+mod reported;
+#[cfg(test)]
+#[allow(dead_code)]
+#[path = "generate/rows.rs"]
+mod rows;
+#[cfg(test)]
+#[path = "generate/spoilt_rows.rs"]
+mod spoilt_rows;
 #[cfg(test)]
 #[path = "generate/spots.rs"]
 mod spots;
@@ -66,6 +83,9 @@ mod typed;
 #[cfg(test)]
 #[path = "second/worked.rs"]
 mod worked;
+#[cfg(test)]
+#[path = "second/worked_reports.rs"]
+mod worked_reports;
 #[cfg(test)]
 #[path = "second/worked_texts.rs"]
 mod worked_texts;

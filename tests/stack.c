@@ -1,8 +1,8 @@
 // How much stack the calls take; the script `stack` builds and runs this. With SEED and COUNT it makes each call with inputs that
-// are nested deep, and with COUNT by chance, and prints the most bytes that a call took below the frame of the function that made
-// it. With `limits` it makes the calls on threads that have as much stack as the header names for the call, and no more: a call
-// that takes more ends the program by a signal, and its name is the last that was printed. So that this shows something, a call
-// that goes deep must use most of that stack.
+// are nested deep, or, where nothing is nested, as long as they may be, and with COUNT by chance, and prints the most bytes that a
+// call took below the frame of the function that made it. With `limits` it makes the calls on threads that have as much stack as
+// the header names for the call, and no more: a call that takes more ends the program by a signal, and its name is the last that
+// was printed. So that this shows something, a call that goes deep must use most of that stack.
 
 #define _GNU_SOURCE
 #include "deep.h"
@@ -15,7 +15,7 @@
 #include <sys/mman.h>
 
 // What the calls are given. A call that writes the state is given `second`, so that `state` stays for the next one; capture's own
-// second buffer is `third`.
+// second buffer is `third`. Add is given what report has written, as the report that it adds.
 enum { EVENTS = 4 };
 static struct formula formula;
 static uint64_t event, slot, events[EVENTS];
@@ -25,6 +25,9 @@ static uint8_t state[VYDRULKA_STATE_LENGTH], second[VYDRULKA_STATE_LENGTH], thir
 static const uint8_t *text;
 static size_t text_length;
 static uint8_t printed[VYDRULKA_TEXT_LENGTH], bracketed[BRACKETED_LENGTH];
+static size_t run_count;
+static uint8_t runs[VYDRULKA_RUNS_MOST * VYDRULKA_RUN_LENGTH];
+static uint8_t report[VYDRULKA_REPORT_LENGTH], total[VYDRULKA_REPORT_LENGTH];
 
 // What the other outputs are; nobody looks at them.
 static uint64_t read_masks[VYDRULKA_BOARDS_MOST], numbers[3];
@@ -87,7 +90,17 @@ static void make_print(void)
     answer = vydrulka_print(formula.bytes, formula.nodes, printed, sizeof printed, &numbers[0]);
 }
 
-enum call { READ, WRITE, CENTRAL, LOAD, SAMPLE, STEP, CLOSE, ASK, CAPTURE, PARSE, PRINT, CALLS };
+static void make_report(void)
+{
+    answer = vydrulka_report(runs, run_count * VYDRULKA_RUN_LENGTH, report, sizeof report, &numbers[0]);
+}
+
+static void make_add(void)
+{
+    answer = vydrulka_add(total, sizeof total, report, sizeof report);
+}
+
+enum call { READ, WRITE, CENTRAL, LOAD, SAMPLE, STEP, CLOSE, ASK, CAPTURE, PARSE, PRINT, REPORT, ADD, CALLS };
 
 static const struct {
     const char *name;
@@ -105,6 +118,8 @@ static const struct {
     [CAPTURE] = {"capture", make_capture, VYDRULKA_STACK_CAPTURE},
     [PARSE] = {"parse", make_parse, VYDRULKA_STACK_PARSE},
     [PRINT] = {"print", make_print, VYDRULKA_STACK_PRINT},
+    [REPORT] = {"report", make_report, VYDRULKA_STACK_REPORT},
+    [ADD] = {"add", make_add, VYDRULKA_STACK_ADD},
 };
 
 // What is done with a call: it is measured, or made on a small stack.
@@ -244,6 +259,44 @@ static void take_brackets(void)
         snprintf(shape, sizeof shape, "a text of %zu bytes", text_length);
         take(PARSE);
     }
+}
+
+// Runs of every rule, with every verdict. Their numbers are small, so that only the lowest byte of each is not 0.
+static void put_runs(size_t count)
+{
+    memset(runs, 0, sizeof runs);
+    for (size_t i = 0; i < count; i++) {
+        uint8_t *run = runs + VYDRULKA_RUN_LENGTH * i;
+        run[0] = (uint8_t)i;
+        run[4] = i % 3;
+        run[8] = (uint8_t)(i >> 8);
+    }
+    run_count = count;
+}
+
+// As many as a list may have, and the same with a last one that has no verdict.
+static void take_runs(void)
+{
+    put_runs(VYDRULKA_RUNS_MOST);
+    snprintf(shape, sizeof shape, "%zu runs", run_count);
+    take(REPORT);
+    runs[sizeof runs - VYDRULKA_RUN_LENGTH + 4] = 3;
+    snprintf(shape, sizeof shape, "%zu runs, and the last has no verdict", run_count);
+    take(REPORT);
+}
+
+// Two reports that have as many runs together as there may be, and the same where the last row counts a false too many.
+static void take_reports(void)
+{
+    put_runs(VYDRULKA_RUNS_MOST / 2);
+    make_report();
+    memcpy(total, report, sizeof total);
+    snprintf(shape, sizeof shape, "two reports of %zu runs", run_count);
+    take(ADD);
+    memcpy(total, report, sizeof total);
+    total[sizeof total - VYDRULKA_ROW_LENGTH + 4]++;
+    snprintf(shape, sizeof shape, "two reports of %zu runs, and the last row of one does not agree", run_count);
+    take(ADD);
 }
 
 enum { SAMPLE_0 = 16 + 8, SAMPLED_0 = 16 + 16, SAMPLED_1 = SAMPLED_0 + 17 };
@@ -397,6 +450,8 @@ static void *measure_all(void *given)
     take = measure;
     paint_all();
     take_brackets();
+    take_runs();
+    take_reports();
     take_layers(32);
     take_pairs(32);
     take_chances(&chances->chance, chances->count);
@@ -437,6 +492,8 @@ static void hold_to_limits(void)
         printf("%-8s", calls[limited].name);
         fflush(stdout);
         take_brackets();
+        take_runs();
+        take_reports();
         take_layers(VYDRULKA_NODES_MOST);
         size_t most = used(stack, size);
         printf(" %7zu of %7zu bytes used, the thread's own with them; %zu of %zu inputs accepted\n", most, size,

@@ -1,12 +1,13 @@
 // The cases on the kept state, by kind, and how the kinds take turns. An episode makes as many requests as it needs.
 
 use crate::files::{self, Handed};
+use crate::lists::Listed;
 use crate::model::state::Network;
 use crate::random::Random;
 use crate::rules::{self, Rule};
 use crate::script::{Made, Script};
 use crate::spoilt::SPOILS;
-use crate::{capture_stops, captures, closes, folded_rules, handed, moments, patterns, spoilt, watches};
+use crate::{adding, capture_stops, captures, closes, folded_rules, handed, moments, patterns, reporting, spoilt, spoilt_rows, watches};
 
 type Episode = Box<dyn Fn(&mut Script, &mut Random, bool)>;
 
@@ -216,6 +217,79 @@ fn runs_of_events() -> Kind {
     Kind::new(5, episodes)
 }
 
+// Some lists of a kind, one after the other.
+fn report(make: fn(&mut Random, bool) -> Listed) -> Episode {
+    Box::new(move |script, random, large| {
+        for _ in 0..random.within(1, 4) {
+            script.report(make(random, large));
+        }
+        script.leave_report();
+    })
+}
+
+// One alone, since a long list takes its time.
+fn long_report(make: fn(&mut Random, bool) -> Listed) -> Episode {
+    Box::new(move |script, random, large| {
+        script.report(make(random, large));
+        script.leave_report();
+    })
+}
+
+fn reports() -> Kind {
+    let episodes = vec![
+        ("report: few rules", report(reporting::few)),
+        ("report: bad run", report(reporting::bad_between)),
+        ("report: as many runs as there may be", long_report(reporting::most)),
+        ("report: many rules", report(reporting::many)),
+        ("report: broken length", report(reporting::broken)),
+        ("report: bad first run", report(reporting::bad_first)),
+        ("report: one run", report(reporting::one)),
+        ("report: too many runs", long_report(reporting::too_many)),
+        ("report: repeated", report(reporting::repeated)),
+        ("report: several bad runs", report(reporting::several_bad)),
+        ("report: wrong lent", report(reporting::wrong_lent)),
+        ("report: shifted", report(reporting::shifted)),
+        ("report: bad last run", report(reporting::bad_last)),
+        ("report: no runs", report(reporting::none)),
+        ("report: any numbers", report(reporting::numbers)),
+        ("report: bad run of many", long_report(reporting::most_bad)),
+    ];
+    Kind::new(5, episodes)
+}
+
+fn add(episode: fn(&mut Script, &mut Random, bool)) -> Episode {
+    Box::new(move |script, random, large| {
+        episode(script, random, large);
+        script.leave_report();
+    })
+}
+
+fn add_spoilt(spoil: spoilt_rows::Spoil) -> Episode {
+    Box::new(move |script, random, _| {
+        adding::spoilt(script, random, spoil);
+        script.leave_report();
+    })
+}
+
+fn adds() -> Kind {
+    let mut episodes = vec![
+        ("add: nights", add(adding::nights)),
+        ("add: same rules", add(adding::same_rules)),
+        ("add: as many runs as there may be", add(adding::most)),
+        ("add: too many runs", add(adding::too_many)),
+        ("add: false in one", add(adding::false_in_one)),
+        ("add: wrong lengths", add(adding::lengths)),
+        ("add: nothing", add(adding::nothing)),
+        ("add: growing", add(adding::growing)),
+        ("add: far too many runs", add(adding::far_too_many)),
+        ("add: any numbers", add(adding::any_numbers)),
+        ("add: too many runs and spoilt", add(adding::too_many_and_spoilt)),
+        ("add: to a state", add(adding::to_state)),
+    ];
+    episodes.extend(spoilt_rows::SPOILS.iter().map(|&(name, spoil)| (name, add_spoilt(spoil))));
+    Kind::new(5, episodes)
+}
+
 // The kinds by their places in Episodes.
 const LOAD: usize = 0;
 const WATCH: usize = 1;
@@ -223,8 +297,10 @@ const SPOILT: usize = 2;
 const CLOSE: usize = 3;
 const STRANGE: usize = 4;
 const CAPTURE: usize = 5;
+const REPORT: usize = 6;
+const ADD: usize = 7;
 
-// How they take turns, with runs of events between them: a load makes one request, a watch many.
+// How they take turns, with runs of events and with reports between them: a load makes one request, a watch many.
 const TURNS: &[usize] = &[
     SPOILT, LOAD, SPOILT, LOAD, CLOSE, SPOILT, LOAD, SPOILT, LOAD, WATCH, LOAD, SPOILT, LOAD, SPOILT, LOAD, CLOSE, SPOILT, LOAD, SPOILT,
     LOAD, STRANGE, LOAD, SPOILT, LOAD, SPOILT, LOAD, CLOSE, LOAD, SPOILT, LOAD, SPOILT, LOAD, WATCH, LOAD, SPOILT, LOAD, CLOSE, LOAD,
@@ -232,13 +308,14 @@ const TURNS: &[usize] = &[
 ];
 
 pub struct Episodes {
-    kinds: [Kind; 6],
+    kinds: [Kind; 8],
     turn: usize,
 }
 
 impl Episodes {
     pub fn new() -> Episodes {
-        Episodes { kinds: [loads(), whole_watches(), spoilt_states(), closes_at_limits(), strange_states(), runs_of_events()], turn: 0 }
+        let kinds = [loads(), whole_watches(), spoilt_states(), closes_at_limits(), strange_states(), runs_of_events(), reports(), adds()];
+        Episodes { kinds, turn: 0 }
     }
 
     // The next request; where none is waiting, the next episode makes its own.
@@ -247,7 +324,8 @@ impl Episodes {
             if let Some(made) = script.take() {
                 return made;
             }
-            let kind = if self.turn % 2 == 1 { CAPTURE } else { TURNS[self.turn / 2 % TURNS.len()] };
+            let round = self.turn / 3;
+            let kind = [TURNS[round % TURNS.len()], CAPTURE, [REPORT, ADD][round % 2]][self.turn % 3];
             self.kinds[kind].play(script, random);
             self.turn += 1;
         }

@@ -61,6 +61,14 @@ impl Request {
         Request { call: 12, a: formula.len(), b: 0, c: text_lent, v: 0, payload: formula }
     }
 
+    pub fn report(runs: Vec<u8>, repeats: usize, report_lent: usize) -> Request {
+        Request { call: 13, a: runs.len(), b: repeats, c: report_lent, v: 0, payload: runs }
+    }
+
+    pub fn add(total_lent: usize, night: Vec<u8>) -> Request {
+        Request { call: 14, a: night.len(), b: total_lent, c: 0, v: 0, payload: night }
+    }
+
     pub fn bytes(&self) -> Vec<u8> {
         let mut bytes = vec![self.call, 0, 0, 0];
         for number in [self.a, self.b, self.c] {

@@ -1,9 +1,13 @@
 // The requests on the kept state, in the order they are made, and that state as the second program's model leaves it: a case is
-// written as calls, and each says whether it is accepted.
+// written as calls, and each says whether it is accepted. What is kept may be a report too.
 
 use crate::files::{self, Handed};
+use crate::lists::Listed;
+use crate::model::add::add;
 use crate::model::capture::capture;
 use crate::model::check::network_of;
+use crate::model::report::report;
+use crate::model::row::ROW;
 use crate::model::state::{Network, STATE};
 use crate::model::watch;
 use crate::request::Request;
@@ -109,6 +113,25 @@ impl Script {
         capture(&mut self.kept[..lent], &mut vec![0; second_lent], events).is_ok()
     }
 
+    pub fn report(&mut self, listed: Listed) -> bool {
+        let mut output = vec![0; listed.lent];
+        let accepted = report(&listed.runs.repeat(listed.repeats), &mut output).is_ok();
+        if accepted {
+            self.kept.copy_from_slice(&output);
+        }
+        self.make("report", Request::report(listed.runs, listed.repeats, listed.lent));
+        accepted
+    }
+
+    pub fn add(&mut self, night: &[u8]) -> bool {
+        self.add_lent(KEPT, night)
+    }
+
+    pub fn add_lent(&mut self, lent: usize, night: &[u8]) -> bool {
+        self.make("add", Request::add(lent, night.to_vec()));
+        add(&mut self.kept[..lent], night).is_ok()
+    }
+
     pub fn poke(&mut self, offset: usize, bytes: &[u8]) {
         self.make("poke", Request::poke(offset, bytes));
         self.kept[offset..offset + bytes.len()].copy_from_slice(bytes);
@@ -126,6 +149,36 @@ impl Script {
         if !places.is_empty() {
             self.poke(places.start, &state[places.clone()]);
         }
+    }
+
+    // Pokes this report in, each row that differs, or all of it where many do.
+    pub fn become_report(&mut self, report: &[u8]) {
+        let used = report.chunks(ROW).filter(|row| row.iter().any(|&byte| byte != 0)).count();
+        if self.differing_rows(report).len() > used + 1 {
+            self.clear(); // something larger was left behind
+        }
+        let rows = self.differing_rows(report);
+        if rows.len() > 4 {
+            self.poke(0, report);
+        } else {
+            rows.iter().for_each(|&at| self.poke(at, &report[at..at + ROW]));
+        }
+    }
+
+    // The report of no runs is zeros.
+    pub fn clear(&mut self) {
+        self.report(Listed::of(&[]));
+    }
+
+    // Clears what a report has left behind the end of a state, so that one that is lent too long is wrong in nothing else.
+    pub fn leave_report(&mut self) {
+        if self.kept[STATE..].iter().any(|&byte| byte != 0) {
+            self.clear();
+        }
+    }
+
+    fn differing_rows(&self, report: &[u8]) -> Vec<usize> {
+        (0..KEPT).step_by(ROW).filter(|&at| self.kept[at..at + ROW] != report[at..at + ROW]).collect()
     }
 
     fn differing(&self, state: &[u8]) -> Range<usize> {

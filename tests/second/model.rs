@@ -1,6 +1,7 @@
-// The rules of document 01 once more, and the texts of 02, written from these alone, on trees and for clarity: what the second program
-// answers by, and what the generator knows valid states by.
+// The rules of document 01 once more, and the texts and reports of 02, written from these alone, on trees and lists and for clarity: what
+// the second program answers by, and what the generator knows valid states and what is kept by.
 
+pub mod add;
 pub mod bytes;
 pub mod capture;
 pub mod central;
@@ -12,7 +13,10 @@ pub mod parse;
 pub mod print;
 pub mod progression;
 pub mod refusal;
+pub mod report;
+pub mod row;
 pub mod rule_file;
+pub mod runs;
 pub mod splitting;
 pub mod state;
 pub mod text;

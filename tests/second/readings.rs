@@ -9,7 +9,7 @@ use crate::model::state::STATE;
 use crate::model::watch::{ask, close, load, sample, step};
 use crate::replay::{lent_bytes, lent_masks, replay};
 use crate::run::run;
-use crate::trying::{closed, copies, deep, file, formula, handed, input, layout, loaded, network, progressed, sampled, stepped};
+use crate::trying::{closed, copies, deep, file, formula, handed, input, layout, loaded, network, progressed, request, sampled, stepped};
 
 const TWO: &[u64] = &[1, 2];
 
@@ -245,12 +245,6 @@ fn the_run_program_refuses() {
     refused(&input(&[1], &[1], &[2]), "0 true 1 1\n");
 }
 
-// A header with this call and these numbers, v being 0, and the payload.
-fn request(call: u8, numbers: [u32; 3], payload: &[u8]) -> Vec<u8> {
-    let numbers: Vec<u8> = numbers.iter().flat_map(|number| number.to_le_bytes()).collect();
-    [&[call, 0, 0, 0], &numbers[..], &[0; 8], payload].concat()
-}
-
 #[test]
 fn the_replay_keeps_a_state() {
     let rule = file(&[1], &[8, 64]);
@@ -294,7 +288,16 @@ fn the_replay_knows_its_limits() {
         (12, [8193, 0, 8192], 8193),
         (12, [1, 0, 8193], 1),
         (12, [1, 0, 8192], 0),
-        (13, [0, 0, 0], 0),
+        (13, [12, 65_539, 8192], 12),
+        (13, [12, u32::MAX, 8192], 12),
+        (13, [1, 786_457, 8192], 1),
+        (13, [8193, 0, 8192], 8193),
+        (13, [12, 1, 8193], 12),
+        (13, [12, 1, 8192], 11),
+        (14, [8193, 8192, 0], 8193),
+        (14, [8192, 8193, 0], 8192),
+        (14, [8192, 8192, 0], 8191),
+        (15, [0, 0, 0], 0),
         (0, [0, 0, 0], 0),
     ] {
         assert_eq!(answer(call, numbers, payload), "bad request\n", "{call} {numbers:?}");

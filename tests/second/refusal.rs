@@ -18,6 +18,7 @@ pub enum Refusal {
     NotReady = 14,
     Ticks = 15,
     Text = 16,
+    Run = 19,
 }
 
 // The refusal where the condition fails.

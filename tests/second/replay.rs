@@ -1,11 +1,13 @@
 // The requests of PROTOCOL.md and their answer lines.
 
+use crate::model::add::add;
 use crate::model::bytes::{front_and_rest, little_endian};
 use crate::model::capture::{capture, Captured};
 use crate::model::central::central;
 use crate::model::parse::{parse, NotParsed};
 use crate::model::print::print;
 use crate::model::refusal::Refusal;
+use crate::model::report::{report, NotReported};
 use crate::model::rule_file::{read, write};
 use crate::model::watch::{ask, close, load, sample, step};
 
@@ -21,9 +23,12 @@ const POKE: u64 = 9;
 const CAPTURE: u64 = 10;
 const PARSE: u64 = 11;
 const PRINT: u64 = 12;
+const REPORT: u64 = 13;
+const ADD: u64 = 14;
 
 const KEPT: u64 = 8192;
 const MOST_LENT: u64 = 8192;
+const MOST_LISTED: u64 = 786_456; // bytes: two runs more than a list may have
 const ANY: u64 = u64::MAX;
 
 // All that the replay prints for a stream of requests.
@@ -69,6 +74,8 @@ impl<'a> Request<'a> {
             CLOSE => (within([ANY, KEPT, MOST_LENT]), 0),
             POKE => (a + b <= KEPT, a),
             CAPTURE => (within([256, KEPT, MOST_LENT]), 8 * a),
+            REPORT => (within([8192, ANY, MOST_LENT]) && a * b <= MOST_LISTED, a),
+            ADD => (within([8192, KEPT, ANY]), a),
             _ => (false, 0),
         };
         if !good {
@@ -91,7 +98,9 @@ impl<'a> Request<'a> {
             POKE => self.answer_poke(kept),
             CAPTURE => self.answer_capture(&mut kept[..self.b as usize]),
             PARSE => self.answer_parse(),
-            _ => self.answer_print(),
+            PRINT => self.answer_print(),
+            REPORT => self.answer_report(kept),
+            _ => self.answer_add(&mut kept[..self.b as usize]),
         }
     }
 
@@ -181,6 +190,24 @@ impl<'a> Request<'a> {
         let result = print(self.payload, &mut text);
         Answer { values: result.map(|length| vec![length]), behind: vec![hash(&text)] }
     }
+
+    fn answer_report(&self, kept: &mut [u8]) -> Answer {
+        let mut output = lent_bytes(self.c);
+        let (values, place) = match report(&self.payload.repeat(self.b as usize), &mut output) {
+            Ok(()) => (Ok(vec![]), vec![]),
+            Err(NotReported::Refused(refusal)) => (Err(refusal), vec![]),
+            Err(NotReported::BadRun(place)) => (Err(Refusal::Run), vec![place]),
+        };
+        if values.is_ok() {
+            kept[..output.len()].copy_from_slice(&output);
+        }
+        Answer { values, behind: [place, vec![hash(&output)]].concat() }
+    }
+
+    fn answer_add(&self, total: &mut [u8]) -> Answer {
+        let result = add(total, self.payload);
+        Answer { values: result.map(|()| vec![]), behind: vec![hash(total)] }
+    }
 }
 
 // Lent outputs start with a pattern, so that a byte missed or written by a refusal shows in the hash.
@@ -206,7 +233,7 @@ fn hash(bytes: &[u8]) -> u64 {
 
 struct Answer {
     values: Result<Vec<u64>, Refusal>,
-    behind: Vec<u64>, // the place of a text that is none, and the hashes
+    behind: Vec<u64>, // the place of a text that is none, or of a bad run, and the hashes
 }
 
 impl Answer {

@@ -1,12 +1,15 @@
 // What the tests of the second program share: what central leaves, rule files, watches moved along a tick at a time, states as someone
-// might hand them over, texts read, all small formulas, and room for deep ones.
+// might hand them over, texts read, runs counted, requests, all small formulas, and room for deep ones.
 
+use crate::lists::{bytes_of as bytes_of_runs, Run};
+use crate::model::add::add;
 use crate::model::capture::{capture, Captured};
 use crate::model::central::{central, OUTPUT};
 use crate::model::check::network_of;
 use crate::model::formula::{always, and, bytes_of, eventually, next, not, or, parse_slot, until, Formula};
 use crate::model::parse::{parse, NotParsed, Place, FORMULA};
 use crate::model::refusal::Refusal;
+use crate::model::report::{report, NotReported, REPORT};
 use crate::model::rule_file::write;
 use crate::model::state::{Board, Network, Slot, STATE};
 use crate::model::watch::{close, load, sample, step};
@@ -114,6 +117,28 @@ pub fn parsed(text: &[u8]) -> Result<Vec<u8>, NotParsed> {
 // That a text is none from this byte of this line on.
 pub fn no_text(line: u64, byte: usize) -> Result<Vec<u8>, NotParsed> {
     Err(NotParsed::NoText(Place { line, byte: byte as u64 }))
+}
+
+// The report of a list. A refusal must write nothing.
+pub fn reported(list: &[Run]) -> Result<Vec<u8>, NotReported> {
+    let mut output = lent_bytes(REPORT as u64);
+    let result = report(&bytes_of_runs(list), &mut output);
+    assert!(result.is_ok() || output == lent_bytes(REPORT as u64));
+    result.map(|()| output)
+}
+
+// A report with another one added to it. A refusal must write nothing.
+pub fn added(total: &[u8], night: &[u8]) -> Result<Vec<u8>, Refusal> {
+    let mut sum = total.to_vec();
+    let result = add(&mut sum, night);
+    assert!(result.is_ok() || sum == total);
+    result.map(|()| sum)
+}
+
+// A header with this call and these numbers, v being 0, and the payload.
+pub fn request(call: u8, numbers: [u32; 3], payload: &[u8]) -> Vec<u8> {
+    let numbers: Vec<u8> = numbers.iter().flat_map(|number| number.to_le_bytes()).collect();
+    [&[call, 0, 0, 0], &numbers[..], &[0; 8], payload].concat()
 }
 
 // The rule file and the events, as the run program reads them.

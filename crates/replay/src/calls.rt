@@ -5,6 +5,9 @@ use central::CentralAnswer;
 use cursor::TextCursor;
 use parsing::ParseAnswer;
 use printing::PrintAnswer;
+use reporting::ReportAnswer;
+use requests::RUNS_BYTES_MOST;
+use requests::header::ADD;
 use requests::header::ASK;
 use requests::header::CAPTURE;
 use requests::header::CENTRAL;
@@ -13,10 +16,12 @@ use requests::header::LOAD;
 use requests::header::PARSE;
 use requests::header::PRINT;
 use requests::header::READ;
+use requests::header::REPORT;
 use requests::header::SAMPLE;
 use requests::header::STEP;
 use requests::header::WRITE;
 use requests::line::Answered;
+use requests::payload;
 use rules::ReadAnswer;
 use rules::WriteAnswer;
 use telling::AskAnswer;
@@ -150,6 +155,27 @@ fn capture(state: &mut [u8], second: &mut [u8], events: &[u64]) -> Answered {
     }
 }
 
+// What is given, so many times over, is the runs.
+fn report_in(given: &[u8], times: u64, room: &mut [u8], report: &mut [u8]) -> Answered {
+    let n = payload::repeated(given, times, room);
+    let answer = reporting::report(&room[0..n], report);
+    match answer {
+        ReportAnswer::Refused(refusal) => Answered::refused(refusal),
+        ReportAnswer::NoRun(place) => Answered::no_run(place as u64),
+        ReportAnswer::Reported => done(),
+    }
+}
+
+// The room is made in a function of its own: it is too large to be looked at with what is done in it.
+fn report(given: &[u8], times: u64, report: &mut [u8]) -> Answered {
+    let mut room = [0u8; RUNS_BYTES_MOST];
+    report_in(given, times, &mut room, report)
+}
+
+fn add(total: &mut [u8], night: &[u8]) -> Answered {
+    outcome(adding::add(total, night))
+}
+
 pub fn make(
     call: u32,
     value: u64,
@@ -170,6 +196,8 @@ pub fn make(
         CLOSE => close(kept, fresh),
         ASK => ask(kept),
         CAPTURE => capture(kept, fresh, numbers),
+        REPORT => report(given, value, fresh),
+        ADD => add(kept, given),
         _ => poke(kept, given),
     }
 }

@@ -1,6 +1,7 @@
 // The header of a request: which call, and how much is given and lent to it.
 use crate::FILE_BYTES_MOST;
 use crate::MASKS_MOST;
+use crate::RUNS_BYTES_MOST;
 
 // Three numbers of 32 bits stand behind the call's, and one of 64 bits behind those.
 pub const HEADER_LENGTH: usize = 24;
@@ -39,6 +40,10 @@ pub const CAPTURE: u32 = 10;
 pub const PARSE: u32 = 11;
 
 pub const PRINT: u32 = 12;
+
+pub const REPORT: u32 = 13;
+
+pub const ADD: u32 = 14;
 
 // A board's number is the payload of sample.
 const BOARD_LENGTH: usize = 8;
@@ -95,6 +100,17 @@ fn on_masks(masks: usize, propositions: u64, formula: usize, fresh: usize) -> Re
     asked(WRITE, propositions, masks, formula, fresh, 0)
 }
 
+// The same of a report of so many bytes of runs, repeated so often. The number of times is the call's value.
+fn on_runs(runs: usize, times: usize, fresh: usize) -> Request {
+    if runs == 0 {
+        return asked(REPORT, 0, 0, 0, fresh, 0);
+    }
+    if RUNS_BYTES_MOST / runs < times {
+        return none();
+    }
+    asked(REPORT, times as u64, 0, runs, fresh, 0)
+}
+
 fn request_of(call: u32, a: u32, b: u32, c: u32, v: u64) -> Request {
     match call {
         READ => on_file(READ, a as usize, b as usize, c as usize),
@@ -109,6 +125,8 @@ fn request_of(call: u32, a: u32, b: u32, c: u32, v: u64) -> Request {
         CAPTURE => asked(CAPTURE, 0, a as usize, 0, c as usize, b as usize),
         PARSE => asked(PARSE, 0, 0, a as usize, c as usize, 0),
         PRINT => asked(PRINT, 0, 0, a as usize, c as usize, 0),
+        REPORT => on_runs(a as usize, b as usize, c as usize),
+        ADD => asked(ADD, 0, 0, a as usize, 0, b as usize),
         _ => none(),
     }
 }
@@ -135,6 +153,7 @@ pub fn lends_kept(call: u32) -> bool {
         CLOSE => true,
         ASK => true,
         CAPTURE => true,
+        ADD => true,
         _ => false,
     }
 }
@@ -149,6 +168,7 @@ pub fn lends_fresh(call: u32) -> bool {
         CAPTURE => true,
         PARSE => true,
         PRINT => true,
+        REPORT => true,
         _ => false,
     }
 }
@@ -158,6 +178,7 @@ pub fn keeps(call: u32) -> bool {
     match call {
         LOAD => true,
         CLOSE => true,
+        REPORT => true,
         _ => false,
     }
 }

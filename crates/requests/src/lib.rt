@@ -18,3 +18,6 @@ pub const MASKS_MOST: usize = 32;
 
 // The most events that are given. Masks have their place where events have theirs.
 pub const EVENTS_MOST: usize = 256;
+
+// The most bytes of runs, which are those given, repeated: two runs more than a list may have.
+pub const RUNS_BYTES_MOST: usize = 786456;

@@ -6,7 +6,8 @@ use crate::header;
 use crate::lent;
 use answers::Refusal;
 
-// What a call has answered: 0 or the refusal's number, and so many values; a refusal has them where bytes are no text.
+// What a call has answered: 0 or the refusal's number, and so many values; a refusal has them where bytes are no text, or a run is not
+// known.
 pub struct Answered {
     pub number: u64,
     pub count: usize,
@@ -46,6 +47,18 @@ impl Answered {
             count: 2,
             first: line,
             second: byte,
+            third: 0,
+            fourth: 0,
+        }
+    }
+
+    // A run that is not known, with its place.
+    pub fn no_run(place: u64) -> Answered {
+        Answered {
+            number: Refusal::Run.number() as u64,
+            count: 1,
+            first: place,
+            second: 0,
             third: 0,
             fourth: 0,
         }

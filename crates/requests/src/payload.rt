@@ -1,4 +1,6 @@
 // A request's payload, taken from standard input: whether it was not cut short.
+ghost use Prim.Native.Nat.{_≤_};
+ghost use lib.ListN.{length};
 use crate::header::CAPTURE;
 use crate::header::WRITE;
 
@@ -41,4 +43,22 @@ pub fn take(call: u32, numbers: &mut [u64], given: &mut [u8]) -> bool {
         return false;
     }
     take_bytes(given)
+}
+
+// The bytes that are given, so many times over, to the front of the room: how many they are then. There is always room for all; the test
+// spares a proof of that.
+pub fn repeated(given: &[u8], times: u64, room: &mut [u8]) -> usize
+    ensures { λ r. ⌜ r ≤ length (now (room .entry)) ⌝ }
+{
+    let mut end: usize = 0;
+    let mut k: u64 = 0;
+    while k < times {
+        if room.len() - end < given.len() {
+            return end;
+        }
+        buffers::copy(&mut room[end..], given);
+        end = end + given.len();
+        k += 1;
+    }
+    end
 }
