@@ -1,21 +1,20 @@
 -- What `add` comes to, over lists of runs. Of the reports of two lists it is the report of both, where they have no more than 65,536 runs
 -- together (`add-lists`), and else 3 (`add-too-many`). And it accepts nothing but reports of lists (`add-of-lists`). Assumes nothing.
-use mathlib.Core.Path.{_≡_, refl, sym, ap, ap₂, _∙_}
+use mathlib.Core.Path.{_≡_, sym, ap₂, _∙_}
 use mathlib.Core.Bool.{true}
 use mathlib.Core.List.{List, [], _∷_, _++_}
 use Prim.Native.Nat.{ℕ, _+_, _<_, _≤_}
 use native.Mathlib.Omega.{arith}
 use lib.ListN.{length}
-use lib.Dec.{eqb, leb}
 use borrow.Author.Tests.{eq-eqb, eqb-true, le-leb, leb-true, lt-leb}
 use Rattle.limits.specs.Limits.{runsMost, rulesMost}
 use Rattle.lists.proofs.Tests.{both-0, both-1, both-true}
 use Rattle.le.proofs.Laws.{Bytes}
-use Rattle.answers.specs.Said.{Said, accepted, refused, check}
+use Rattle.answers.specs.Said.{accepted, refused, check}
 use Rattle.answers.proofs.Answers.{order-ok, order-refused, order-done, order-passed}
 use Rattle.reports.specs.Runs.{Run}
 use Rattle.reports.specs.Report.{added, rowOf}
-use Rattle.reports.specs.Bytes.{reportLength, reportBytes, rowIn, rowsAgree, runsTold}
+use Rattle.reports.specs.Bytes.{reportBytes, runsTold}
 use Rattle.reports.specs.Nights.{Night, NightOf}
 use Rattle.reports.proofs.Adding.{report-both}
 use Rattle.reports.proofs.Agreeing.{lists-agree}

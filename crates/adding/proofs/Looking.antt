@@ -1,5 +1,5 @@
 -- The look over a report's rows: those below r have been looked at (`LookedTo`), and one more is (`look-more`). Assumes nothing.
-use mathlib.Core.Path.{_≡_, refl, sym, ap, ap₂, _∙_}
+use mathlib.Core.Path.{_≡_, refl, ap, ap₂, _∙_}
 use mathlib.Core.Bool.{Bool, true}
 use mathlib.Core.List.{List}
 use Prim.Native.Nat.{ℕ, _+_, _*_, _^_, _<_, _≤_}
@@ -9,7 +9,6 @@ use Rattle.limits.specs.Limits.{rulesMost}
 use Rattle.lists.specs.Tests.{both}
 use Rattle.reports.specs.declared.Row.{Row}
 use Rattle.reports.specs.Bytes.{rowLength, rowAt, rowAgrees, rowsAgree, runsTold}
-use Rattle.adding.specs.declared.Survey.{Survey}
 use Rattle.adding.specs.Add.{Surveyed}
 
 -- what is known of the rows below r

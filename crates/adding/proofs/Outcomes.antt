@@ -1,12 +1,11 @@
 -- One law for each way out of `add`: a length that is wrong (`total-wrong`, `night-wrong`), too many runs (`too-many`), numbers that do not
 -- agree (`disagree`), and the sum (`added-up`). Assumes nothing.
-use mathlib.Core.Path.{_≡_, refl, sym, ap, ap₂, _∙_}
+use mathlib.Core.Path.{_≡_, sym, ap, ap₂, _∙_}
 use mathlib.Core.Bool.{Bool, true, false}
 use mathlib.Core.List.{List, [], _∷_}
 use Prim.Native.Nat.{ℕ, _+_, _<_, _≤_}
 use native.Mathlib.Omega.{arith}
 use lib.ListN.{length}
-use lib.Dec.{eqb, leb}
 use borrow.Author.Tests.{eq-eqb, ne-eqb, le-leb, lt-leb}
 use Rattle.limits.specs.Limits.{runsMost, rulesMost}
 use Rattle.lists.specs.Tests.{both}
@@ -16,7 +15,7 @@ use Rattle.answers.specs.declared.Refusal.{Refusal}
 use Rattle.answers.specs.declared.Refusal.the-variants.{Length, Range, Offset}
 use Rattle.answers.specs.declared.Outcome.the-variants.{Refused, Done}
 use Rattle.answers.proofs.Answers.{order-ok, order-refused, order-done, left-refused, left-accepted}
-use Rattle.reports.specs.Bytes.{reportLength, rowsAgree, runsTold}
+use Rattle.reports.specs.Bytes.{reportLength, runsTold}
 use Rattle.adding.specs.declared.Survey.{Survey}
 use Rattle.adding.specs.Add.{reportsLong, runsTogether, bothAgree, addSays, sumFor, AddsReport, Surveyed, AddAsk}
 

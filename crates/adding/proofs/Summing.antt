@@ -1,17 +1,16 @@
 -- The rows of two reports, rule by rule: with no more than 65,536 runs together, and numbers that agree, their sums fit (`rows-fit`). A row's
 -- runs are no more than those of all rows, so its false ones are few, and its sum is at most that of as many ticks of 32 bits. Assumes nothing.
-use mathlib.Core.Path.{_≡_, sym, ap, ap₂, _∙_}
+use mathlib.Core.Path.{_≡_}
 use mathlib.Core.List.{List}
-use mathlib.Core.Logic.{⊎-elim}
-use Prim.Native.Nat.{ℕ, zero, suc, _+_, _-_, _*_, _^_, _<_, _≤_}
-use native.Mathlib.Nat.{mul-le-mul, eq-or-lt-of-le, le-of-suc-le-suc}
+use Prim.Native.Nat.{ℕ, _-_, _*_, _<_, _≤_}
+use native.Mathlib.Nat.{mul-le-mul}
 use native.Mathlib.Omega.{arith}
 use native.Mathlib.Decide.{ℕ-discrete}
 use Rattle.limits.specs.Limits.{runsMost, rulesMost}
 use Rattle.le.proofs.Laws.{Bytes}
 use Rattle.reports.specs.declared.Row.{Row}
 use Rattle.reports.specs.Bytes.{rowLength, rowIn, runsTold}
-use Rattle.reports.specs.Rows.{FitsRow, sumBelow}
+use Rattle.reports.specs.Rows.{FitsRow}
 use Rattle.reports.proofs.Sums.{sum-part}
 use Rattle.reports.proofs.ReadBack.{row-fits, agree-is, told-is}
 use Rattle.reports.proofs.Agrees.{Agrees, agrees-is}

@@ -1,7 +1,6 @@
 // The call `add`: a report added to another, row by row. One pass over each report looks whether it is one and how many runs it has;
 // only then is the first one written.
 ghost use mathlib.Core.Path.{_≡_};
-ghost use Prim.Native.Nat.{_<_};
 ghost use lib.ListN.{length};
 ghost use Rattle.lists.specs.Tests.{both};
 ghost use Rattle.reports.specs.Bytes.{reportLength};
@@ -13,17 +12,12 @@ use limits::RUNS_MOST;
 use reports::REPORT_LENGTH;
 use reports::ROW_LENGTH;
 use rows::agreeing;
+use rows::wide;
 
 // What all rows of a report say: how many runs there are, and whether the numbers of each row agree.
 struct Survey {
     runs: u64,
     agrees: bool,
-}
-
-fn wide(x: u32) -> u64
-    ensures { λ r. ⌜ (r ≡ x) × (r < 4294967296) ⌝ }
-{
-    x as u64
 }
 
 fn both_hold(a: bool, b: bool) -> bool

@@ -1,14 +1,14 @@
 -- Nights over the calls' promises. What `report` has left does not depend on the order of the runs (`reports-reordered`). What `add` leaves of two
 -- reports is what `report` leaves of the two lists, one behind the other, where they have no more than 65,536 runs together (`reports-added`),
 -- and else it is 3 (`reports-too-many`). From C the same (`c-reports-reordered`, `c-reports-added`, `c-reports-too-many`). Assumes nothing.
-use mathlib.Core.Path.{_≡_, refl, sym, ap, ap₂, subst, _∙_}
+use mathlib.Core.Path.{_≡_, sym, ap, ap₂, _∙_}
 use mathlib.Core.List.{List, [], _++_}
-use Prim.Native.Nat.{ℕ, _+_, _*_, _/_, _<_, _≤_}
+use Prim.Native.Nat.{ℕ, _+_, _/_, _<_, _≤_}
 use native.Mathlib.Omega.{arith}
 use lib.ListN.{length}
 use Rattle.limits.specs.Limits.{rulesMost, runsMost}
 use Rattle.le.proofs.Laws.{Bytes}
-use Rattle.answers.specs.Said.{Said, accepted, refused, left, saidOutcome}
+use Rattle.answers.specs.Said.{Said, accepted, refused, left}
 use Rattle.answers.specs.declared.Refusal.the-variants.{Range}
 use Rattle.answers.specs.declared.Outcome.{Outcome}
 use Rattle.answers.specs.declared.Outcome.the-variants.{Refused, Done}

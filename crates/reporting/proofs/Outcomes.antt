@@ -4,25 +4,25 @@
 use mathlib.Core.Path.{_≡_, refl, sym, ap, subst, _∙_}
 use mathlib.Core.Bool.{Bool, true, false}
 use mathlib.Core.List.{List, [], _∷_}
-use Prim.Native.Nat.{ℕ, _+_, _*_, _/_, _%_, _<_, _≤_}
+use Prim.Native.Nat.{ℕ, _*_, _%_, _<_, _≤_}
 use native.Mathlib.Omega.{arith}
-use lib.ListN.{length, take, replicate, length-replicate, getD-replicate}
+use lib.ListN.{length, replicate, length-replicate, getD-replicate}
 use lib.Seq.{take-all}
-use lib.Dec.{eqb, leb}
+use lib.Dec.{eqb}
 use borrow.Author.Tests.{eq-eqb, ne-eqb, le-leb, lt-leb}
 use Rattle.limits.specs.Limits.{rulesMost, runsMost}
 use Rattle.lists.specs.Tests.{pick, both}
 use Rattle.lists.proofs.Tests.{both-true}
 use Rattle.lists.proofs.Listed.{listed-length}
 use Rattle.lists.proofs.Stretches.{zeros-at}
-use Rattle.answers.specs.Said.{Said, verdictNumber, accepted, refused, refusedWith, check, inOrder, left}
+use Rattle.answers.specs.Said.{Said, verdictNumber, accepted, refused, refusedWith, left}
 use Rattle.answers.specs.declared.Refusal.the-variants.{Length}
 use Rattle.answers.proofs.Answers.{order-ok, order-refused, order-done, left-refused, left-accepted}
 use Rattle.reports.specs.Runs.{Run, runLength, runAt, runCount, runsIn, knownFront}
-use Rattle.reports.specs.Report.{those, ticksOf, chosen, summed, rowOf}
+use Rattle.reports.specs.Report.{those, chosen, summed}
 use Rattle.reports.specs.Bytes.{reportLength, reportBytes}
 use Rattle.reports.proofs.Known.{front-is}
-use Rattle.tallying.specs.Tables.{highestTick, countAt, chosenFrom, TablesLong, TalliedRuns, TallyAsk, Tallies, tableRow, RowsAsk}
+use Rattle.tallying.specs.Tables.{highestTick, countAt, chosenFrom, TablesLong, TalliedRuns, Tallies, tableRow, RowsAsk}
 use Rattle.tallying.proofs.TableRows.{counts-few, table-rows}
 use Rattle.reporting.specs.declared.ReportAnswer.{ReportAnswer}
 use Rattle.reporting.specs.declared.ReportAnswer.the-variants.{Refused, NoRun, Reported}

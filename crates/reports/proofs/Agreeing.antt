@@ -8,6 +8,7 @@ use mathlib.Core.List.{List, [], _∷_}
 use Prim.Native.Nat.{ℕ, _-_, _^_, _<_, _≤_, min, max}
 use native.Mathlib.Omega.{arith}
 use lib.ListN.{length}
+use Rattle.limits.specs.Limits.{runsMost}
 use Rattle.answers.specs.declared.Verdict.the-variants.{False, True, Pending}
 use Rattle.reports.specs.Runs.{Run}
 use Rattle.reports.specs.Report.{those, isOf, cameTo, ticksOf, chosen, summed, rowOf}
@@ -42,6 +43,11 @@ sum-few xs night r =
     let high = each-more (λ t. t < 2 ^ 32) (λ t. t ≤ 2 ^ 32 - 1) (λ t h. omega arith) ts (ticks-short r xs (night .short)) in
     let s = sum-most (2 ^ 32 - 1) ts high in
     omega (arith, night .few)
+
+-- no count is above that of all runs
+pub runs-few : (xs : List Run) → Night xs → (r : ℕ) → rowOf xs r .runs ≤ runsMost
+unfolding rowOf
+runs-few xs night r = let n = those-few (isOf r) xs in omega (arith, night .few)
 
 pub night-fits : (xs : List Run) → Night xs → (r : ℕ) → FitsRow (rowOf xs r)
 unfolding rowOf

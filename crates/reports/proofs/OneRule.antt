@@ -2,7 +2,7 @@
 -- 0, and the false ones at `ticksFor`. The row is that of the three parts added (`row-for`); of another rule it is empty (`row-elsewhere`). Each
 -- of the runs can be counted (`runs-for-known`), and has a tick of 32 bits where the row's latest has (`runs-for-short`). Assumes nothing.
 use mathlib.Core.Path.{_≡_, refl, sym, ap, ap₂, _∙_}
-use mathlib.Core.Bool.{Bool, true, false}
+use mathlib.Core.Bool.{true}
 use mathlib.Core.List.{List, [], _∷_, _++_, map}
 use Prim.Native.Nat.{ℕ, zero, suc, _+_, _^_, _<_, min, max}
 use native.Mathlib.Omega.{arith}

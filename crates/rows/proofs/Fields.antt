@@ -1,16 +1,15 @@
 -- A row's fields: read one after the other they are the row (`row-read`); put one behind the other they are its bytes (`row-put`);
 -- what is picked of two rows' ticks (`picked-is`), and their fields, added one by one, are the row of both (`row-added`). Assumes nothing.
 use mathlib.Core.Path.{_≡_, refl, sym, ap, _∙_}
-use mathlib.Core.List.{List, [], _++_, append-assoc}
+use mathlib.Core.List.{List, _++_, append-assoc}
 use Prim.Native.Nat.{ℕ, _+_, _≤_, min, max}
 use native.Mathlib.Omega.{arith}
-use lib.ListN.{length, take, drop, length-append, take-append-drop}
+use lib.ListN.{length, take, drop, length-append}
 use lib.Seq.{length-take-le}
 use lib.Dec.{eqb}
 use Rattle.lists.specs.Tests.{pick}
 use Rattle.lists.proofs.Stretches.{put-next}
 use Rattle.le.specs.Le.{le, leAt}
-use Rattle.le.proofs.Laws.{le-length}
 use Rattle.reports.specs.declared.Row.{Row}
 use Rattle.reports.specs.Report.{ofBoth, added}
 use Rattle.reports.specs.Bytes.{rowAt, rowBytes, rowLength}

@@ -2,13 +2,8 @@
 ghost use mathlib.Core.Path.{_≡_};
 ghost use Prim.Native.Nat.{_+_, _-_, _*_, _<_};
 ghost use Rattle.reports.specs.Bytes.{noSpan, spanOk, rowAgrees};
+use crate::wide;
 use reports::Row;
-
-fn wide(x: u32) -> u64
-    ensures { λ r. ⌜ r ≡ x ⌝ }
-{
-    x as u64
-}
 
 // The sum of one tick that is b and of all others that are a, where there are so many.
 fn sum_of(falses: u32, a: u32, b: u32) -> u64

@@ -1,7 +1,7 @@
 // A row of a report, read from its bytes, put there, and added to another; and whether its numbers agree.
 ghost use mathlib.Core.Path.{_≡_};
 ghost use mathlib.Core.List.{_++_};
-ghost use Prim.Native.Nat.{_+_, _≤_, min, max};
+ghost use Prim.Native.Nat.{_+_, _<_, _≤_, min, max};
 ghost use lib.ListN.{length, take, drop};
 ghost use lib.Dec.{eqb};
 ghost use Rattle.lists.specs.Tests.{pick};
@@ -11,6 +11,13 @@ ghost use Rattle.rows.specs.Sums.{RowsFit};
 use reports::Row;
 
 pub mod agreeing;
+
+// A number of a row among those of 64 bits.
+pub fn wide(x: u32) -> u64
+    ensures { λ r. ⌜ (r ≡ x) × (r < 4294967296) ⌝ }
+{
+    x as u64
+}
 
 // The row in the bytes at `at`.
 pub fn row_at(s: &[u8], at: usize) -> Row

@@ -2,4 +2,5 @@
 pub mod Averages
 pub mod Putting
 pub mod Rows
+pub mod Columns
 pub mod Worked

@@ -1,9 +1,9 @@
 -- A run counted into the tables: `counted-as`. A table keeps every number but the run's own (`moved-elim`). That goes on by one operation,
 -- with the run's tick where it was false and else with a number that changes nothing; so earliest, latest and sum are one law
 -- (`figure-more`). Assumes nothing.
-use mathlib.Core.Path.{_≡_, refl, sym, ap, ap₂, subst, _∙_}
+use mathlib.Core.Path.{_≡_, refl, sym, ap, subst, _∙_}
 use mathlib.Core.List.{List, [], _∷_, _++_}
-use Prim.Native.Nat.{ℕ, suc, _+_, _*_, _<_, _≤_, min, max}
+use Prim.Native.Nat.{ℕ, _+_, _*_, _<_, _≤_, min, max}
 use native.Mathlib.Decide.{ℕ-discrete}
 use native.Mathlib.Omega.{arith}
 use lib.ListN.{length, getD, set, length-append}

@@ -1,11 +1,10 @@
 -- One run more: which rule's counts and ticks it is among. It is one of rule r with verdict v where its numbers are these (`came-hit`), and
 -- not otherwise (`came-miss`). Assumes nothing.
-use mathlib.Core.Path.{_≡_, refl, ap, _∙_}
+use mathlib.Core.Path.{_≡_, ap, _∙_}
 use mathlib.Core.Bool.{true, false}
 use mathlib.Core.List.{List, [], _∷_, _++_, map, map-append}
 use Prim.Native.Nat.{ℕ}
 use native.Mathlib.Decide.{ℕ-discrete}
-use lib.Dec.{eqb}
 use borrow.Author.Tests.{eq-eqb, ne-eqb}
 use Rattle.lists.specs.Tests.{both}
 use Rattle.lists.proofs.Tests.{both-true}

@@ -1,24 +1,22 @@
 -- The rows of the tables: one of them from its numbers (`row-told`), and what they are where the tables hold known runs: the rows of these
 -- runs (`table-rows`). Assumes nothing.
 use mathlib.Core.Path.{_≡_, refl, sym, ap, ap₂, _∙_}
-use mathlib.Core.List.{List, [], _∷_, _++_, append-nil}
-use Prim.Native.Nat.{ℕ, suc, _+_, _*_, _<_, _≤_, min, max}
-use native.Mathlib.Numerals.{add-one}
+use mathlib.Core.List.{List, [], _∷_}
+use Prim.Native.Nat.{ℕ, _+_, _<_, _≤_, min, max}
 use native.Mathlib.Omega.{arith}
-use lib.ListN.{length, getD, take, drop, drop-of-length-le, length-map}
+use lib.ListN.{length, getD, length-map}
 use lib.Dec.{eqb}
 use borrow.Author.Tests.{ne-eqb}
 use Rattle.limits.specs.Limits.{runsMost, rulesMost}
 use Rattle.lists.specs.Tests.{pick}
-use Rattle.lists.proofs.Stretches.{put-next}
 use Rattle.answers.specs.declared.Verdict.the-variants.{False, True, Pending}
 use Rattle.reports.specs.declared.Row.{Row}
 use Rattle.reports.specs.Runs.{Run}
 use Rattle.reports.specs.Report.{those, cameTo, ticksOf, chosen, rowOf}
-use Rattle.reports.specs.Bytes.{rowLength, reportLength, rowBytes, rowsOf, reportBytes}
+use Rattle.reports.specs.Bytes.{reportBytes}
 use Rattle.reports.specs.Nights.{AllKnown}
 use Rattle.reports.proofs.Known.{runs-verdicts}
-use Rattle.reports.proofs.ReadBack.{rows-length, rows-same}
+use Rattle.reports.proofs.ReadBack.{rows-same}
 use Rattle.reports.proofs.Those.{those-few}
 use Rattle.tallying.specs.Tables.{highestTick, countAt, chosenFrom, TalliedRuns, CountsFew, tableRow}
 

@@ -1,6 +1,6 @@
 -- The loop over the runs: what the tables hold after i of them (`TalliedTo`), that one more may be counted (`run-asks`) and is (`turn-more`),
 -- and where it ends: at a run that is not known (`place-stops`, `part-stops`) or behind the last (`all-done`). Assumes nothing.
-use mathlib.Core.Path.{_≡_, refl, sym, ap, ap₂, subst, _∙_}
+use mathlib.Core.Path.{_≡_, refl, sym, ap, subst, _∙_}
 use mathlib.Core.Bool.{Bool, true, false}
 use mathlib.Core.List.{List, [], _∷_, _++_}
 use Prim.Native.Nat.{ℕ, zero, suc, _+_, _*_, _/_, _<_, _≤_}
@@ -19,7 +19,7 @@ use Rattle.answers.specs.Said.{verdictNumber}
 use Rattle.reports.specs.Runs.{Run, runAt, runCount, runsIn, isKnown, knownFront}
 use Rattle.reports.specs.Report.{cameTo}
 use Rattle.reports.proofs.Those.{those-few}
-use Rattle.tallying.specs.Tables.{highestTick, countAt, TablesLong, TalliedRuns, CountAsk, RunCounted, TallyAsk, Tallies}
+use Rattle.tallying.specs.Tables.{countAt, TablesLong, TalliedRuns, CountAsk, RunCounted, TallyAsk, Tallies}
 
 -- the first i runs are known, and counted
 pub record TalliedTo (s counts earliest latest sums : List ℕ) (i : ℕ) : Type 0 where

@@ -7,12 +7,7 @@ use crate::COUNTS_ROOM;
 use crate::HIGHEST_TICK;
 use limits::RULES_MOST;
 use reports::RUN_LENGTH;
-
-fn wide(x: u32) -> u64
-    ensures { λ r. ⌜ r ≡ x ⌝ }
-{
-    x as u64
-}
+use rows::wide;
 
 // The tick where the verdict is false, and else the other number.
 fn if_false(verdict: usize, tick: u32, other: u32) -> u32

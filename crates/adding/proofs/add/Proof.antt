@@ -1,9 +1,7 @@
 -- Each way out is one law of Outcomes, with what the two looks have found. No loop. Assumes nothing.
-use mathlib.Core.Path.{_≡_, sym, _∙_}
-use mathlib.Core.Bool.{true, false}
 use native.Mathlib.Omega.{arith}
 use borrow.Author.Tests.{not-true, not-false}
-use Rattle.adding.specs.Add.{AddsReport, AddAsk}
+use Rattle.adding.specs.Add.{AddAsk}
 use Rattle.adding.proofs.Outcomes.{total-wrong, night-wrong, too-many, disagree, add-asked, added-up}
 use borrow.Author.Needs.{needs}
 use Rattle.adding.proofs.add.Statement.{statement}

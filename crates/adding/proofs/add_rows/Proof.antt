@@ -1,12 +1,11 @@
 -- The sums of the rows below r stand in front, and behind them what stood there before, so the next row that is read is still the old one
 -- (`row-next`); the rules left fall. Assumes nothing.
-use mathlib.Core.Path.{_≡_, refl, sym, ap, ap₂, subst, _∙_}
+use mathlib.Core.Path.{_≡_, refl, sym, ap₂, subst, _∙_}
 use mathlib.Core.List.{_++_}
 use Prim.Native.Nat.{_*_, _-_, _≤_}
 use native.Mathlib.Omega.{arith}
 use lib.ListN.{length, drop}
 use Rattle.limits.specs.Limits.{rulesMost}
-use Rattle.le.proofs.Laws.{Bytes}
 use Rattle.reports.specs.declared.Row.{Row}
 use Rattle.reports.specs.Report.{added}
 use Rattle.reports.specs.Bytes.{rowLength, rowsOf, rowIn}
@@ -14,7 +13,6 @@ use Rattle.rows.specs.Sums.{RowsFit}
 use Rattle.rows.proofs.Written.{rows-none, rows-more, rows-done, row-next}
 use Rattle.adding.specs.Add.{sumRow}
 use Rattle.adding.proofs.Summing.{rows-fit}
-use borrow.Author.Needs.{needs}
 use Rattle.adding.proofs.add_rows.Statement.{statement}
 use Rattle.adding.proofs.add_rows.Tie as tie
 

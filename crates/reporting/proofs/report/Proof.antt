@@ -1,5 +1,4 @@
 -- Each way out is one law of Outcomes, or the promise of what it calls. No loop. Assumes nothing.
-use native.Mathlib.Omega.{arith}
 use Rattle.reporting.proofs.Outcomes.{room-wrong, not-whole, too-many}
 use borrow.Author.Needs.{needs}
 use Rattle.reporting.proofs.report.Statement.{statement}

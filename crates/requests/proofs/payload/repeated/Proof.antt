@@ -1,7 +1,6 @@
 -- What was copied ends within the room, which keeps its length; the times left fall. Assumes nothing.
 use mathlib.Core.Path.{_≡_}
 use Prim.Native.Nat.{_-_, _≤_}
-use native.Mathlib.Omega.{arith}
 use lib.ListN.{length}
 use borrow.Author.Needs.{needs}
 use Rattle.requests.proofs.payload.repeated.Statement.{statement}

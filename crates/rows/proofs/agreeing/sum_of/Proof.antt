@@ -12,7 +12,7 @@ entry c = c .before .before .before
 
 -- what is worked out
 product-is : (c : tie.After-wide3) → let a = entry c .args in c .before .wide2 .result * c .wide3 .result ≡ (a .falses - 1) * a .a
-product-is c = ap₂ _*_ (c .before .wide2 .ensures) (c .wide3 .ensures)
+product-is c = ap₂ _*_ (c .before .wide2 .ensures .0) (c .wide3 .ensures .0)
 
 pub sum-of-spec : {M : Type 1} → statement M
 sum-of-spec =
@@ -24,6 +24,6 @@ sum-of-spec =
     (λ c κs. search needs)
     (λ c. let a = entry c .args in let k = entry c .fits in let e = product-is c in
     let h = product-fits (a .falses) (a .a) (a .b) (omega arith) (omega arith) (omega arith) in omega arith)
-    (λ c. let a = entry c .args in let k = entry c .fits in let e = product-is c in let w = c .before .before .wide .ensures in
+    (λ c. let a = entry c .args in let k = entry c .fits in let e = product-is c in let w = c .before .before .wide .ensures .0 in
     let h = sum-fits (a .falses) (a .a) (a .b) (omega arith) (omega arith) (omega arith) in omega arith)
-    (λ c. ap₂ _+_ (c .before .before .wide .ensures) (product-is c)))
+    (λ c. ap₂ _+_ (c .before .before .wide .ensures .0) (product-is c)))

@@ -46,4 +46,4 @@ count-run-spec =
     (λ c xs held. let p = picked c in let f = p .before in let e = entry f in let k = e .fits in
     let known = f .before .before .before .before .slice-known2 .given (e .args .rule) in
     counted-as (e .pre .long) held (e .args .tick) (e .pre .rule-few) (e .pre .verdict-few) (e .pre .place-is) (omega arith) (omega arith)
-    (f .if-false .ensures) (p .if-false2 .ensures) (c .before .before .before .before .lower .ensures) (c .before .before .higher .ensures) (c .wide .ensures)))
+    (f .if-false .ensures) (p .if-false2 .ensures) (c .before .before .before .before .lower .ensures) (c .before .before .higher .ensures) (c .wide .ensures .0)))

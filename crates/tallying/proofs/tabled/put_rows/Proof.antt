@@ -8,7 +8,6 @@ use Rattle.limits.specs.Limits.{rulesMost}
 use Rattle.reports.specs.Bytes.{rowLength, rowsOf}
 use Rattle.tallying.specs.Tables.{tableRow}
 use Rattle.rows.proofs.Written.{rows-none, rows-more, rows-done}
-use borrow.Author.Needs.{needs}
 use Rattle.tallying.proofs.tabled.put_rows.Statement.{statement}
 use Rattle.tallying.proofs.tabled.put_rows.Tie as tie
 
