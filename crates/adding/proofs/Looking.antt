@@ -9,6 +9,7 @@ use Rattle.limits.specs.Limits.{rulesMost}
 use Rattle.lists.specs.Tests.{both}
 use Rattle.reports.specs.declared.Row.{Row}
 use Rattle.reports.specs.Bytes.{rowLength, rowAt, rowAgrees, rowsAgree, runsTold}
+use Rattle.reports.specs.Rows.{sumBelow}
 use Rattle.adding.specs.Add.{Surveyed}
 
 -- what is known of the rows below r
@@ -19,13 +20,13 @@ pub record LookedTo (s : List ℕ) (runs : ℕ) (agrees : Bool) (r : ℕ) : Type
   pub few : runs ≤ 4294967295 * r
 
 pub looked-none : (s : List ℕ) → LookedTo s 0 true 0
-unfolding runsTold rowsAgree
+unfolding sumBelow rowsAgree
 looked-none s = record { inside = omega arith; told = refl; agree = refl; few = omega arith }
 
 module _ {s : List ℕ} {runs r : ℕ} {agrees : Bool} (l : LookedTo s runs agrees r) where
   pub look-more : r < rulesMost → {w : Row} → w ≡ rowAt s (rowLength * r) → {x : ℕ} → x ≡ w .runs → x < 2 ^ 32 → {a b : Bool} → a ≡ rowAgrees w → b ≡ both agrees a
       → LookedTo s (runs + x) b (r + 1)
-  unfolding runsTold rowsAgree
+  unfolding sumBelow rowsAgree
   look-more h {w} row e fits agreed joined =
       let f = l .few in
       rw add-one

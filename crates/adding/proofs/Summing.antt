@@ -12,14 +12,14 @@ use Rattle.reports.specs.declared.Row.{Row}
 use Rattle.reports.specs.Bytes.{rowLength, rowIn, runsTold}
 use Rattle.reports.specs.Rows.{FitsRow}
 use Rattle.reports.proofs.Sums.{sum-part}
-use Rattle.reports.proofs.ReadBack.{row-fits, agree-is, told-is}
+use Rattle.reports.proofs.ReadBack.{row-fits, agree-is}
 use Rattle.reports.proofs.Agrees.{Agrees, agrees-is}
 use Rattle.rows.specs.Sums.{RowsFit}
 use Rattle.adding.specs.Add.{AddAsk}
 
 -- a row's runs are no more than those of all rows
 row-few : (s : List ℕ) (r : ℕ) → r < rulesMost → rowIn s r .runs ≤ runsTold s rulesMost
-row-few s r h = let e = told-is s rulesMost in let p = sum-part (λ k. rowIn s k .runs) rulesMost r h in omega arith
+row-few s r h = sum-part (λ k. rowIn s k .runs) rulesMost r h
 
 -- the sum of few ticks is small
 sum-small : (w : Row) → Agrees w → FitsRow w → w .runs ≤ runsMost → w .sum ≤ 4294967295 * runsMost

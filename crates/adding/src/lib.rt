@@ -45,7 +45,7 @@ fn look_over(report: &[u8]) -> Survey
     }
 }
 
-// AddsReport each row to the one of the same rule.
+// Adds each row to the one of the same rule.
 fn add_rows(total: &mut [u8], night: &[u8])
     requires { ⌜ AddAsk (now total) (now night) ⌝ }
     ensures { λ _. ⌜ now (total .exit) ≡ sumFor (now (total .entry)) (now (night .entry)) ⌝ }

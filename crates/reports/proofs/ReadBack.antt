@@ -1,7 +1,7 @@
 -- The bytes of a report, written and read. A row has its length (`row-length`), and so a report (`report-length`). What was written is read
 -- back where the numbers fit their bytes (`report-read`): a row that is read looks at its own bytes alone (`row-same`), so what stands before
 -- and behind does not matter, and number by number it is a law of `le`. What was read fits (`row-fits`), and is written back (`report-is`). What
--- `rowsAgree` and `runsTold` say of bytes is said of each row (`agree-is`, `agree-of`, `told-is`), and so of a function's rows where they are
+-- `rowsAgree` says of bytes is said of each row (`agree-is`, `agree-of`), and it and `runsTold` are so said of a function's rows where they are
 -- the bytes (`report-agree-of`, `report-agree-is`, `report-told`). Assumes nothing.
 use mathlib.Core.Path.{_≡_, refl, sym, ap, ap₂, _∙_}
 use mathlib.Core.Bool.{true}
@@ -193,11 +193,6 @@ unfolding rowsAgree
 agree-of s zero h = refl
 agree-of s (suc n) h = both-true _ _ (agree-of s n (λ r l. h r (omega arith))) (h n (omega arith))
 
-pub told-is : (s : List ℕ) (n : ℕ) → runsTold s n ≡ sumBelow (λ r. rowIn s r .runs) n
-unfolding runsTold sumBelow
-told-is s zero = refl
-told-is s (suc n) = ap (λ (k : ℕ). k + rowIn s n .runs) (told-is s n)
-
 -- and of a function's rows
 module _ (f : ℕ → Row) (fits : (r : ℕ) → r < rulesMost → FitsRow (f r)) where
   pub report-agree-of : ((r : ℕ) → r < rulesMost → rowAgrees (f r) ≡ true) → rowsAgree (reportBytes f) rulesMost ≡ true
@@ -207,4 +202,4 @@ module _ (f : ℕ → Row) (fits : (r : ℕ) → r < rulesMost → FitsRow (f r)
   report-agree-is h r l = sym (ap rowAgrees (report-read f r l (fits r l))) ∙ agree-is (reportBytes f) rulesMost h r l
 
   pub report-told : runsTold (reportBytes f) rulesMost ≡ sumBelow (λ r. f r .runs) rulesMost
-  report-told = told-is (reportBytes f) rulesMost ∙ sum-same _ _ rulesMost (λ r l. ap (λ (w : Row). w .runs) (report-read f r l (fits r l)))
+  report-told = sum-same _ _ rulesMost (λ r l. ap (λ (w : Row). w .runs) (report-read f r l (fits r l)))

@@ -23,7 +23,7 @@ use Rattle.reports.proofs.Each.{each-both}
 use Rattle.reports.proofs.Adding.{report-both, row-none, added-none, added-to-none}
 use Rattle.reports.proofs.Known.{runs-all}
 use Rattle.reports.proofs.Agrees.{Agrees, agrees-is}
-use Rattle.reports.proofs.ReadBack.{rows-same, row-fits, report-is, agree-is, told-is}
+use Rattle.reports.proofs.ReadBack.{rows-same, row-fits, report-is, agree-is}
 use Rattle.reports.proofs.OneRule.{runsFor, row-for, row-elsewhere, runs-for-known, runs-for-short}
 
 -- ---- the runs of rule after rule
@@ -88,4 +88,4 @@ some-list t bytes long agree few =
     short = night-each Short (runsBy t) rulesMost (λ r l. runs-for-short r (rowIn t r) (agrees r l) (row-fits t (rowLength * r) bytes .latest))
 
     told : length xs ≡ runsTold t rulesMost
-    told = sym (runs-all xs known) ∙ sum-same _ _ rulesMost (λ r l. ap (λ (w : Row). w .runs) (row r l)) ∙ sym (told-is t rulesMost)
+    told = sym (runs-all xs known) ∙ sum-same _ _ rulesMost (λ r l. ap (λ (w : Row). w .runs) (row r l))

@@ -1,11 +1,11 @@
--- What a function gives below n, added up: of equal functions (`sum-same`), of 0 (`sum-zero`), of two functions together (`sum-two`), one of them
--- and all (`sum-part`), and of
--- a function that is 1 at one place and else 0 (`sum-one`). Assumes nothing.
-use mathlib.Core.Path.{_≡_, refl, ap, ap₂, _∙_}
+-- What a function gives below n, added up: of equal functions (`sum-same`), with one more (`sum-more`), of 0 (`sum-zero`), of two functions
+-- together (`sum-two`), one of them and all (`sum-part`), and of a function that is 1 at one place and else 0 (`sum-one`). Assumes nothing.
+use mathlib.Core.Path.{_≡_, refl, sym, ap, ap₂, _∙_}
 use mathlib.Core.Bool.{Bool, true, false}
 use mathlib.Core.Logic.{⊎-elim}
 use Prim.Native.Nat.{ℕ, zero, suc, _+_, _<_, _≤_}
 use native.Mathlib.Nat.{eq-or-lt-of-le, le-of-suc-le-suc}
+use native.Mathlib.Numerals.{add-one}
 use native.Mathlib.Omega.{arith}
 use lib.Dec.{eqb}
 use borrow.Author.Tests.{eq-eqb, ne-eqb}
@@ -15,6 +15,10 @@ pub sum-same : (f g : ℕ → ℕ) (n : ℕ) → ((k : ℕ) → k < n → f k �
 unfolding sumBelow
 sum-same f g zero h = refl
 sum-same f g (suc n) h = ap₂ _+_ (sum-same f g n (λ k l. h k (omega arith))) (h n (omega arith))
+
+pub sum-more : (f : ℕ → ℕ) (n : ℕ) {t x : ℕ} → t ≡ sumBelow f n → x ≡ f n → t + x ≡ sumBelow f (n + 1)
+unfolding sumBelow
+sum-more f n e h = ap₂ _+_ e h ∙ ap (sumBelow f) (sym (add-one n))
 
 pub sum-zero : (n : ℕ) → sumBelow (λ k. 0) n ≡ 0
 unfolding sumBelow

@@ -8,6 +8,7 @@ use Rattle.limits.specs.Limits.{rulesMost}
 use Rattle.lists.specs.Tests.{pick, both}
 use Rattle.le.specs.Le.{le, leAt}
 use Rattle.reports.specs.declared.Row.{Row}
+use Rattle.reports.specs.Rows.{sumBelow}
 
 -- ---- written
 abbrev pub rowLength : ℕ
@@ -69,6 +70,5 @@ rowsAgree s zero = true
 rowsAgree s (suc n) = both (rowsAgree s n) (rowAgrees (rowIn s n))
 
 -- the runs that the rows of the rules below n have
-unfoldable pub runsTold : List ℕ → ℕ → ℕ
-runsTold s zero = 0
-runsTold s (suc n) = runsTold s n + rowIn s n .runs
+abbrev pub runsTold : List ℕ → ℕ → ℕ
+runsTold s n = sumBelow (λ r. rowIn s r .runs) n

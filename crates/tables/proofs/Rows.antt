@@ -1,6 +1,6 @@
 -- The rows of a report: what is said of a row's ticks (`ticks-none`, `ticks-some`), its line (`row-none`, `row-put`), the lines of the rows
 -- so far, whatever the sheet (`lines-none`, `lines-more`, `lines-all`), and what the rows come to in all. Assumes nothing.
-use mathlib.Core.Path.{_≡_, refl, sym, ap, ap₂, subst, _∙_}
+use mathlib.Core.Path.{_≡_, refl, sym, ap, subst, _∙_}
 use mathlib.Core.List.{List}
 use Prim.Native.Nat.{ℕ, _+_, _≤_}
 use native.Mathlib.Omega.{arith}
@@ -14,6 +14,8 @@ use Rattle.lines.specs.Lines.{Adds}
 use Rattle.lines.proofs.Adding.{adds-then}
 use Rattle.reports.specs.declared.Row.{Row}
 use Rattle.reports.specs.Bytes.{rowIn, runsTold}
+use Rattle.reports.specs.Rows.{sumBelow}
+use Rattle.reports.proofs.Sums.{sum-more}
 use Rattle.tables.specs.declared.Sheet.{Sheet}
 use Rattle.tables.specs.Pages.{noneText, spanText, ticksText, lineOf, rowLine, linesBelow, ranOnce, ranBelow}
 use Rattle.tables.proofs.Putting.{nothing-put}
@@ -57,17 +59,15 @@ module _ (sheet : Sheet) (s page : List ℕ) (at : ℕ) where
 -- ---- what they come to
 module _ (s : List ℕ) (n : ℕ) (row : Row) (is : row ≡ rowIn s n) where
   pub runs-more : (runs : ℕ) → runs ≡ runsTold s n → runs + row .runs ≡ runsTold s (n + 1)
-  unfolding runsTold
-  runs-more runs e = ap₂ _+_ e (ap (λ (x : Row). x .runs) is) ∙ ap (runsTold s) (sym (add-one n))
+  runs-more runs e = sum-more (λ r. rowIn s r .runs) n e (ap (λ (x : Row). x .runs) is)
 
   pub rules-more : (rules once : ℕ) → rules ≡ ranBelow s n → once ≡ ranOnce (row .runs) → rules + once ≡ ranBelow s (n + 1)
-  unfolding ranBelow
-  rules-more rules once e h = ap₂ _+_ e (h ∙ ap (λ (x : Row). ranOnce (x .runs)) is) ∙ ap (ranBelow s) (sym (add-one n))
+  rules-more rules once e h = sum-more (λ r. ranOnce (rowIn s r .runs)) n e (h ∙ ap (λ (x : Row). ranOnce (x .runs)) is)
 
 pub once-few : (runs once : ℕ) → once ≡ ranOnce runs → once ≤ 1
 unfolding ranOnce
 once-few runs once e = rw e (pick-elim (λ (k : ℕ). k ≤ 1) (eqb runs 0) 0 1 (λ q. omega arith) (λ q. omega arith))
 
 pub totals-none : (s : List ℕ) → (0 ≡ runsTold s 0) × (0 ≡ ranBelow s 0)
-unfolding runsTold ranBelow
+unfolding sumBelow
 totals-none s = (refl, refl)

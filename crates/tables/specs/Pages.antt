@@ -7,6 +7,7 @@ use Rattle.limits.specs.Limits.{rulesMost}
 use Rattle.lines.specs.Lines.{decimalOf, feed}
 use Rattle.reports.specs.declared.Row.{Row}
 use Rattle.reports.specs.Bytes.{rowIn}
+use Rattle.reports.specs.Rows.{sumBelow}
 use Rattle.tables.specs.declared.Sheet.{Sheet}
 use Rattle.tables.specs.declared.Sheet.the-variants.{Table, Values}
 use Rattle.tables.specs.Cells.{cellOf, furtherOf}
@@ -92,9 +93,8 @@ unfoldable pub ranOnce : ℕ → ℕ
 ranOnce runs = pick (eqb runs 0) 0 1
 
 -- how many of the rules below n ran
-unfoldable pub ranBelow : List ℕ → ℕ → ℕ
-ranBelow s zero = 0
-ranBelow s (suc n) = ranBelow s n + ranOnce (rowIn s n .runs)
+abbrev pub ranBelow : List ℕ → ℕ → ℕ
+ranBelow s n = sumBelow (λ r. ranOnce (rowIn s r .runs)) n
 
 -- ---- the most bytes
 -- of a rule's counts: five numbers, and a gap before each but the first

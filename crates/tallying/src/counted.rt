@@ -19,8 +19,8 @@ fn if_false(verdict: usize, tick: u32, other: u32) -> u32
     other
 }
 
-// A run, which is known, and its count's place. What to do does not depend on the verdict, which no processor can foresee: a run that was not false has ticks
-// that change nothing.
+// Counts a run, which is known and whose count stands at `place`. What to do does not depend on the verdict, which no processor can
+// foresee: a run that was not false has ticks that change nothing.
 fn count_run(
     rule: usize,
     verdict: usize,
