@@ -6,6 +6,7 @@
 #include "clock.h"
 #include "million.h"
 #include "plain.h"
+#include "recordings.h"
 #include "reports.h"
 #include "sides.h"
 #include "texts.h"
@@ -187,5 +188,5 @@ int main(void)
         times[i] = measured(&in, &ours);
         print_times(times, i, in.typical);
     }
-    return time_texts() || time_reports() || time_million();
+    return time_texts() || time_reports() || time_recordings() || time_million();
 }

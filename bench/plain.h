@@ -40,4 +40,9 @@ uint32_t plain_report(const uint8_t *runs, size_t runs_len, uint8_t *report, siz
 
 uint32_t plain_add(uint8_t *total, size_t total_len, const uint8_t *night, size_t night_len);
 
+uint32_t plain_mend(const uint8_t *recording, size_t recording_len, uint8_t *mended, size_t mended_len, uint8_t *marks,
+                    size_t marks_len, uint64_t *kept, uint64_t *first);
+
+uint32_t plain_stretch(const uint8_t *recording, size_t recording_len, uint64_t *events, size_t events_len, uint64_t *first);
+
 #endif

@@ -6,17 +6,17 @@
 #include <stdio.h>
 #include <string.h>
 
-enum { READ = 1, WRITE, CENTRAL, LOAD, SAMPLE, STEP, CLOSE, ASK, POKE, CAPTURE, PARSE, PRINT, REPORT, ADD };
+enum { READ = 1, WRITE, CENTRAL, LOAD, SAMPLE, STEP, CLOSE, ASK, POKE, CAPTURE, PARSE, PRINT, REPORT, ADD, MEND, STRETCH };
 enum { NO_TEXT = 16, NO_RUN = 19 }; // the refusals with a place
-enum { MOST_FILE = 4096, MOST_MASKS = 32, MOST_EVENTS = 256, MOST_BYTES = 8192, MOST_RUN_BYTES = 786456 };
+enum { MOST_FILE = 4096, MOST_MASKS = 32, MOST_EVENTS = 256, MOST_LENT_EVENTS = 1024, MOST_BYTES = 8192, MOST_RUN_BYTES = 786456 };
 
 struct request {
     uint32_t call, a, b, c;
     uint64_t v;
 };
 
-static uint8_t given[MOST_BYTES], lent[MOST_BYTES], kept[MOST_BYTES], runs[MOST_RUN_BYTES];
-static uint64_t masks[MOST_MASKS], events[MOST_EVENTS];
+static uint8_t given[MOST_BYTES], lent[MOST_BYTES], marks[MOST_BYTES], kept[MOST_BYTES], runs[MOST_RUN_BYTES];
+static uint64_t masks[MOST_MASKS], events[MOST_LENT_EVENTS];
 
 static uint64_t little_endian(const uint8_t *bytes, int count)
 {
@@ -26,16 +26,16 @@ static uint64_t little_endian(const uint8_t *bytes, int count)
     return value;
 }
 
-static void fill_lent(uint32_t count)
+static void fill_bytes(uint8_t *bytes, uint32_t count)
 {
     for (uint32_t i = 0; i < count; i++)
-        lent[i] = (uint8_t)(i % 251 + 1);
+        bytes[i] = (uint8_t)(i % 251 + 1);
 }
 
-static void fill_masks(uint32_t count)
+static void fill_numbers(uint64_t *numbers, uint32_t count)
 {
     for (uint32_t i = 0; i < count; i++)
-        masks[i] = (i + 1) * UINT64_C(72340172838076673);
+        numbers[i] = (i + 1) * UINT64_C(72340172838076673);
 }
 
 static uint64_t hashed(uint64_t hash, uint8_t byte)
@@ -51,11 +51,11 @@ static void print_bytes(const uint8_t *bytes, uint32_t count)
     printf(" %" PRIu64, hash);
 }
 
-static void print_masks(uint32_t count)
+static void print_numbers(const uint64_t *numbers, uint32_t count)
 {
     uint64_t hash = 1;
     for (uint32_t i = 0; i < 8 * count; i++)
-        hash = hashed(hash, (uint8_t)(masks[i / 8] >> i % 8 * 8));
+        hash = hashed(hash, (uint8_t)(numbers[i / 8] >> i % 8 * 8));
     printf(" %" PRIu64, hash);
 }
 
@@ -80,13 +80,13 @@ static int answer_read(struct request r)
     uint64_t boards, propositions, nodes;
     if (r.a > MOST_FILE || r.b > MOST_MASKS || r.c > MOST_BYTES || !take(given, r.a))
         return 0;
-    fill_masks(r.b);
-    fill_lent(r.c);
+    fill_numbers(masks, r.b);
+    fill_bytes(lent, r.c);
     uint32_t number = plain_read(given, r.a, masks, r.b, lent, r.c, &boards, &propositions, &nodes);
     printf("%" PRIu32, number);
     if (number == 0)
         printf(" %" PRIu64 " %" PRIu64 " %" PRIu64, boards, propositions, nodes);
-    print_masks(r.b);
+    print_numbers(masks, r.b);
     print_bytes(lent, r.c);
     return 1;
 }
@@ -96,7 +96,7 @@ static int answer_write(struct request r)
     uint64_t length;
     if (r.a > MOST_MASKS || r.b > MOST_BYTES || r.c > MOST_BYTES || !take_numbers(masks, r.a) || !take(given, r.b))
         return 0;
-    fill_lent(r.c);
+    fill_bytes(lent, r.c);
     uint32_t number = plain_write(masks, r.a, r.v, given, r.b, lent, r.c, &length);
     printf("%" PRIu32, number);
     if (number == 0)
@@ -111,7 +111,7 @@ static int answer_central(struct request r)
     uint64_t length;
     if (r.a > MOST_BYTES || r.c > MOST_BYTES || !take(given, r.a))
         return 0;
-    fill_lent(r.c);
+    fill_bytes(lent, r.c);
     uint32_t number = plain_central(given, r.a, r.v, lent, r.c, &verdict, &length);
     printf("%" PRIu32, number);
     if (number == 0)
@@ -131,7 +131,7 @@ static int answer_load(struct request r)
 {
     if (r.a > MOST_FILE || r.c > MOST_BYTES || !take(given, r.a))
         return 0;
-    fill_lent(r.c);
+    fill_bytes(lent, r.c);
     uint32_t number = plain_load(given, r.a, lent, r.c);
     printf("%" PRIu32, number);
     print_bytes(lent, r.c);
@@ -162,7 +162,7 @@ static int answer_close(struct request r)
 {
     if (r.b > MOST_BYTES || r.c > MOST_BYTES)
         return 0;
-    fill_lent(r.c);
+    fill_bytes(lent, r.c);
     uint32_t number = plain_close(kept, r.b, lent, r.c);
     printf("%" PRIu32, number);
     print_bytes(kept, r.b);
@@ -199,7 +199,7 @@ static int answer_capture(struct request r)
     uint32_t verdict, stop;
     if (r.a > MOST_EVENTS || r.b > MOST_BYTES || r.c > MOST_BYTES || !take_numbers(events, r.a))
         return 0;
-    fill_lent(r.c);
+    fill_bytes(lent, r.c);
     uint32_t number = plain_capture(kept, r.b, lent, r.c, events, r.a, &closed, &verdict, &stop);
     printf("%" PRIu32, number);
     if (number == 0)
@@ -214,7 +214,7 @@ static int answer_parse(struct request r)
     uint64_t nodes, line, byte;
     if (r.a > MOST_BYTES || r.c > MOST_BYTES || !take(given, r.a))
         return 0;
-    fill_lent(r.c);
+    fill_bytes(lent, r.c);
     uint32_t number = plain_parse(given, r.a, lent, r.c, &nodes, &line, &byte);
     printf("%" PRIu32, number);
     if (number == 0)
@@ -230,7 +230,7 @@ static int answer_print(struct request r)
     uint64_t length;
     if (r.a > MOST_BYTES || r.c > MOST_BYTES || !take(given, r.a))
         return 0;
-    fill_lent(r.c);
+    fill_bytes(lent, r.c);
     uint32_t number = plain_print(given, r.a, lent, r.c, &length);
     printf("%" PRIu32, number);
     if (number == 0)
@@ -247,7 +247,7 @@ static int answer_report(struct request r)
         return 0;
     for (size_t i = 0; i < length; i += r.a)
         memcpy(runs + i, given, r.a);
-    fill_lent(r.c);
+    fill_bytes(lent, r.c);
     uint32_t number = plain_report(runs, length, lent, r.c, &place);
     printf("%" PRIu32, number);
     if (number == NO_RUN)
@@ -263,6 +263,36 @@ static int answer_add(struct request r)
         return 0;
     printf("%" PRIu32, plain_add(kept, r.b, given, r.a));
     print_bytes(kept, r.b);
+    return 1;
+}
+
+static int answer_mend(struct request r)
+{
+    uint64_t records, first;
+    if (r.a > MOST_BYTES || r.b > MOST_BYTES || r.c > MOST_BYTES || !take(given, r.a))
+        return 0;
+    fill_bytes(lent, r.b);
+    fill_bytes(marks, r.c);
+    uint32_t number = plain_mend(given, r.a, lent, r.b, marks, r.c, &records, &first);
+    printf("%" PRIu32, number);
+    if (number == 0)
+        printf(" %" PRIu64 " %" PRIu64, records, first);
+    print_bytes(lent, r.b);
+    print_bytes(marks, r.c);
+    return 1;
+}
+
+static int answer_stretch(struct request r)
+{
+    uint64_t first;
+    if (r.a > MOST_BYTES || r.c > MOST_LENT_EVENTS || !take(given, r.a))
+        return 0;
+    fill_numbers(events, r.c);
+    uint32_t number = plain_stretch(given, r.a, events, r.c, &first);
+    printf("%" PRIu32, number);
+    if (number == 0)
+        printf(" %" PRIu64, first);
+    print_numbers(events, r.c);
     return 1;
 }
 
@@ -299,6 +329,10 @@ static int answer(const uint8_t *header)
         return answer_report(r);
     case ADD:
         return answer_add(r);
+    case MEND:
+        return answer_mend(r);
+    case STRETCH:
+        return answer_stretch(r);
     default:
         return 0;
     }

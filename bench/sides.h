@@ -19,6 +19,8 @@ struct side {
     uint32_t (*print)(const uint8_t *, size_t, uint8_t *, size_t, uint64_t *);
     uint32_t (*report)(const uint8_t *, size_t, uint8_t *, size_t, uint64_t *);
     uint32_t (*add)(uint8_t *, size_t, const uint8_t *, size_t);
+    uint32_t (*mend)(const uint8_t *, size_t, uint8_t *, size_t, uint8_t *, size_t, uint64_t *, uint64_t *);
+    uint32_t (*stretch)(const uint8_t *, size_t, uint64_t *, size_t, uint64_t *);
 };
 
 extern const struct side library, plain;

@@ -29,7 +29,7 @@
 
 // The version of this interface; CHANGES.md lists what changed. A call that is changed or taken away makes a new major version.
 #define VYDRULKA_VERSION_MAJOR 1
-#define VYDRULKA_VERSION_MINOR 6
+#define VYDRULKA_VERSION_MINOR 7
 
 #ifdef __cplusplus
 extern "C" {
@@ -50,6 +50,8 @@ enum {
     VYDRULKA_RUN_LENGTH = 12,        // bytes of a run
     VYDRULKA_ROW_LENGTH = 32,        // bytes of a report's row
     VYDRULKA_REPORT_LENGTH = 8192,   // bytes of a report, always: a row for each rule number
+    VYDRULKA_RECORDS_AT = 16,        // bytes of a recording in front of its records
+    VYDRULKA_RECORD_LENGTH = 12,     // bytes of a record
 };
 
 // Stack: a thread of so many bytes can make the call. Measured and rounded up, not proved: behind each stands what the deepest
@@ -68,6 +70,8 @@ enum {
     VYDRULKA_STACK_CAPTURE = 4194304, // 3,952,656, a slot of 4,094 nots
     VYDRULKA_STACK_REPORT = 32768,    // 7,240, whatever the runs
     VYDRULKA_STACK_ADD = 32768,       // 152
+    VYDRULKA_STACK_MEND = 32768,      // 000
+    VYDRULKA_STACK_STRETCH = 32768,   // 000
 };
 
 // A formula has one byte a node: the node's, then its operands, the left one before the right one.
@@ -89,12 +93,13 @@ enum vydrulka_node {
 // What a call answers: that it was accepted, or why it was refused.
 enum vydrulka_refusal {
     VYDRULKA_ACCEPTED = 0,
-    VYDRULKA_REFUSED_LENGTH = 1,    // a buffer is not as long as asked for, or a rule file not as long as its own total says
+    VYDRULKA_REFUSED_LENGTH = 1,    // a buffer is not as long as asked for, or a rule file or a recording not as long as its own
+                                    // total says
     VYDRULKA_REFUSED_VERSION = 2,   // the rule file's version is not 1
     VYDRULKA_REFUSED_RANGE = 3,     // boards, propositions or nodes of a rule are none or more than the limit; or two reports have
                                     // more runs together than the limit
     VYDRULKA_REFUSED_OFFSET = 4,    // an offset or the total is not the one that the rule file's counts give; or the numbers of a
-                                    // report do not agree, so that no list of runs has it
+                                    // report do not agree, so that no list of runs has it, or those of a recording's header
     VYDRULKA_REFUSED_MASKS = 5,     // a proposition is in no mask or in two, or a mask has a bit that is no proposition
     VYDRULKA_REFUSED_FORMULA = 6,   // not one whole formula, or it has a place holder, or a proposition that the rule does not count
     VYDRULKA_REFUSED_SLOTS = 7,     // the layout would have more slots than the limit
@@ -108,6 +113,14 @@ enum vydrulka_refusal {
     VYDRULKA_REFUSED_TICKS = 15,    // the ticks stand at 4,294,967,295
     VYDRULKA_REFUSED_TEXT = 16,     // not a rule as people type it; the line and the byte of the place are stored
     VYDRULKA_REFUSED_RUN = 19,      // a run's rule number or verdict is out of range; the run's place in the list is stored
+    VYDRULKA_REFUSED_CLASH = 20,    // two records one behind the other have one counter and different events
+};
+
+// The mark of a record.
+enum vydrulka_mark {
+    VYDRULKA_MARK_KEPT = 0,
+    VYDRULKA_MARK_DROPPED = 1,
+    VYDRULKA_MARK_BROKEN = 2, // kept after a break
 };
 
 enum vydrulka_verdict {
@@ -220,6 +233,28 @@ uint32_t vydrulka_report(const uint8_t *runs, size_t runs_len, uint8_t *report, 
 // Refusals in order: 1, 3, 4.
 uint32_t vydrulka_add(uint8_t *total, size_t total_len, const uint8_t *night, size_t night_len);
 
+// Mends a recording, the recorder's file of a capture: VYDRULKA_RECORDS_AT bytes of header, four numbers of 4 bytes with the
+// lowest first (how many records there are, VYDRULKA_RECORDS_AT, the length of the file, 0), and behind them the records, each of
+// VYDRULKA_RECORD_LENGTH bytes: a counter of 4 and an event of 8. A record whose counter and event both equal those of the record
+// before it is dropped. Where the step from one counter to the next, which goes from 4,294,967,295 to 0, is neither 0 nor 1 there
+// is a break, and a new stretch begins. Into `mended`, which is as long as the recording, go the records that are kept, behind a
+// header for as many, and zeros behind them; into `marks`, which has a byte for each record that the recording's header counts, the
+// mark of each record. Gives how many records were kept, and how many of them the first stretch has. The mended recording is the
+// first VYDRULKA_RECORDS_AT + kept * VYDRULKA_RECORD_LENGTH bytes; mended again it is the same. A recording that has the same
+// counter twice running with different events is 20, wherever that is.
+// Stack: VYDRULKA_STACK_MEND.
+// Refusals in order: 1, 4, 20.
+uint32_t vydrulka_mend(const uint8_t *recording, size_t recording_len, uint8_t *mended, size_t mended_len, uint8_t *marks,
+                       size_t marks_len, uint64_t *kept, uint64_t *first);
+
+// Takes the events of a recording's first stretch, one a tick, to the front of `events`, which has room for one event for each record
+// that the recording's header counts, and zeros behind them. Gives how many these are: so many events, and no more, may be handed to
+// vydrulka_capture, because nothing is known of the ticks that a break has lost. The recording may be mended or not, the events are
+// the same. `events` is aligned as C aligns uint64_t.
+// Stack: VYDRULKA_STACK_STRETCH.
+// Refusals in order: 1, 4, 20.
+uint32_t vydrulka_stretch(const uint8_t *recording, size_t recording_len, uint64_t *events, size_t events_len, uint64_t *first);
+
 // A report's row as numbers. Without a false run there are no ticks: earliest, latest and sum are then 0.
 struct vydrulka_row {
     uint32_t runs, false_runs, true_runs, pending_runs;
@@ -273,6 +308,7 @@ static inline const char *vydrulka_refusal_words(uint32_t answer)
     case VYDRULKA_REFUSED_TICKS: return "ticks at their end";
     case VYDRULKA_REFUSED_TEXT: return "not a rule's text";
     case VYDRULKA_REFUSED_RUN: return "not a valid run";
+    case VYDRULKA_REFUSED_CLASH: return "one counter with two events";
     default: return "no answer of this library";
     }
 }

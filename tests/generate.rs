@@ -2,9 +2,9 @@
 //   generate SEED COUNT        writes the stream of COUNT requests
 //   generate SEED COUNT list   writes a line for each of them instead: its call, its offset in the stream, its length, its case
 //   generate SEED COUNT inputs ROOM   writes COUNT inputs of the run program into files ROOM/1, ROOM/2, .. and a line with the case of each
-// The worked values, named texts, examples of captures and reports, the rules at the borders and the smallest formulas with constants
-// come first; then the cases below, for the calls that keep nothing, and the episodes on the kept state take turns, so that a stream of
-// some hundreds more meets each of them often.
+// The worked values, named texts, examples of captures, reports and recordings, the rules at the borders and the smallest formulas with
+// constants come first; then the cases below, for calls that keep nothing, and the episodes on the kept state and on recordings take
+// turns, so that a stream of some hundreds more meets each of them often.
 
 #[path = "generate/adding.rs"]
 mod adding;
@@ -38,6 +38,8 @@ mod handed;
 mod inputs;
 #[path = "generate/lists.rs"]
 mod lists;
+#[path = "generate/mending.rs"]
+mod mending;
 #[allow(dead_code)] // the generator needs the calls on what is kept and the check
 #[path = "second/model.rs"]
 mod model;
@@ -51,6 +53,8 @@ mod patterns;
 mod printing;
 #[path = "generate/random.rs"]
 mod random;
+#[path = "generate/recordings.rs"]
+mod recordings;
 #[path = "generate/reporting.rs"]
 mod reporting;
 #[path = "generate/request.rs"]
@@ -65,6 +69,8 @@ mod script;
 mod spoilt;
 #[path = "generate/spoilt_formulas.rs"]
 mod spoilt_formulas;
+#[path = "generate/spoilt_recordings.rs"]
+mod spoilt_recordings;
 #[path = "generate/spoilt_records.rs"]
 mod spoilt_records;
 #[path = "generate/spoilt_rows.rs"]
@@ -79,6 +85,8 @@ mod watches;
 mod worked;
 #[path = "generate/worked_captures.rs"]
 mod worked_captures;
+#[path = "generate/worked_recordings.rs"]
+mod worked_recordings;
 #[path = "generate/worked_reports.rs"]
 mod worked_reports;
 #[path = "generate/worked_texts.rs"]
@@ -179,6 +187,7 @@ fn opening(script: &mut Script) -> Vec<Made> {
     worked_watches::watched(script);
     worked_captures::captured(script);
     worked_reports::reported(script);
+    worked_recordings::recorded(script);
     borders::loaded(script);
     folded_rules::loaded(script);
     worked.chain(texts).chain(borders).chain(folded).chain(std::iter::from_fn(|| script.take())).collect()

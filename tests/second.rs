@@ -1,9 +1,10 @@
-// The second program: the rules of document 01 once more, and the texts and reports of 02 (second/model.rs), in a program that shares no
-// code with the crates.
+// The second program: the rules of document 01 once more, and the texts, reports and recordings of 02 (second/model.rs), in a program that
+// shares no code with the crates.
 //   second        answers the requests of PROTOCOL.md from standard input, one line each
 //   second run    does what 01 says of the run program
 // tests/compare holds the Rattle program `replay` to it, tests/watches the Rattle program `run`, and tests/store keeps its answers.
-// `rustc --test` runs it on 01's worked values, on random watches and captures, on formulas with constants, on texts, and on reports.
+// `rustc --test` runs it on 01's worked values, on random watches and captures, on formulas with constants, on texts, on reports, and on
+// recordings.
 
 #[path = "second/model.rs"]
 mod model;
@@ -42,6 +43,9 @@ mod lists;
 #[path = "second/meaning.rs"]
 mod meaning;
 #[cfg(test)]
+#[path = "second/mended.rs"]
+mod mended;
+#[cfg(test)]
 #[path = "second/oracle.rs"]
 mod oracle;
 #[cfg(test)]
@@ -55,12 +59,19 @@ mod random;
 #[path = "second/readings.rs"]
 mod readings;
 #[cfg(test)]
+#[allow(dead_code)]
+#[path = "generate/recordings.rs"]
+mod recordings;
+#[cfg(test)]
 #[path = "second/reported.rs"]
 mod reported;
 #[cfg(test)]
 #[allow(dead_code)]
 #[path = "generate/rows.rs"]
 mod rows;
+#[cfg(test)]
+#[path = "generate/spoilt_recordings.rs"]
+mod spoilt_recordings;
 #[cfg(test)]
 #[path = "generate/spoilt_rows.rs"]
 mod spoilt_rows;
@@ -70,6 +81,9 @@ mod spots;
 #[cfg(test)]
 #[path = "second/stops.rs"]
 mod stops;
+#[cfg(test)]
+#[path = "second/stretched.rs"]
+mod stretched;
 #[cfg(test)]
 #[allow(dead_code)]
 #[path = "generate/texts.rs"]
@@ -83,6 +97,9 @@ mod typed;
 #[cfg(test)]
 #[path = "second/worked.rs"]
 mod worked;
+#[cfg(test)]
+#[path = "second/worked_recordings.rs"]
+mod worked_recordings;
 #[cfg(test)]
 #[path = "second/worked_reports.rs"]
 mod worked_reports;

@@ -28,11 +28,15 @@ static uint8_t printed[VYDRULKA_TEXT_LENGTH], bracketed[BRACKETED_LENGTH];
 static size_t run_count;
 static uint8_t runs[VYDRULKA_RUNS_MOST * VYDRULKA_RUN_LENGTH];
 static uint8_t report[VYDRULKA_REPORT_LENGTH], total[VYDRULKA_REPORT_LENGTH];
+enum { RECORDS = 65536 };
+static uint8_t recording[VYDRULKA_RECORDS_AT + VYDRULKA_RECORD_LENGTH * RECORDS];
 
 // What the other outputs are; nobody looks at them.
 static uint64_t read_masks[VYDRULKA_BOARDS_MOST], numbers[3];
 static uint32_t words[2], answer;
 static uint8_t output[VYDRULKA_NODES_MOST], written[VYDRULKA_FILE_MOST], read_formula[VYDRULKA_RULE_NODES_MOST];
+static uint8_t mended[sizeof recording], marks[RECORDS];
+static uint64_t stretched[RECORDS];
 
 static void make_read(void)
 {
@@ -100,7 +104,17 @@ static void make_add(void)
     answer = vydrulka_add(total, sizeof total, report, sizeof report);
 }
 
-enum call { READ, WRITE, CENTRAL, LOAD, SAMPLE, STEP, CLOSE, ASK, CAPTURE, PARSE, PRINT, REPORT, ADD, CALLS };
+static void make_mend(void)
+{
+    answer = vydrulka_mend(recording, sizeof recording, mended, sizeof mended, marks, RECORDS, &numbers[0], &numbers[1]);
+}
+
+static void make_stretch(void)
+{
+    answer = vydrulka_stretch(recording, sizeof recording, stretched, RECORDS, &numbers[0]);
+}
+
+enum call { READ, WRITE, CENTRAL, LOAD, SAMPLE, STEP, CLOSE, ASK, CAPTURE, PARSE, PRINT, REPORT, ADD, MEND, STRETCH, CALLS };
 
 static const struct {
     const char *name;
@@ -120,6 +134,8 @@ static const struct {
     [PRINT] = {"print", make_print, VYDRULKA_STACK_PRINT},
     [REPORT] = {"report", make_report, VYDRULKA_STACK_REPORT},
     [ADD] = {"add", make_add, VYDRULKA_STACK_ADD},
+    [MEND] = {"mend", make_mend, VYDRULKA_STACK_MEND},
+    [STRETCH] = {"stretch", make_stretch, VYDRULKA_STACK_STRETCH},
 };
 
 // What is done with a call: it is measured, or made on a small stack.
@@ -299,6 +315,45 @@ static void take_reports(void)
     take(ADD);
 }
 
+static void put_number(uint8_t *bytes, size_t number)
+{
+    for (size_t i = 0; i < 4; i++)
+        bytes[i] = (uint8_t)(number >> 8 * i);
+}
+
+// A recording without a hole, or one with a double and a break in every seven records. The events go by the counters.
+static void put_recording(int holes)
+{
+    size_t counter = 0;
+    memset(recording, 0, sizeof recording);
+    put_number(recording, RECORDS);
+    put_number(recording + 4, VYDRULKA_RECORDS_AT);
+    put_number(recording + 8, sizeof recording);
+    for (size_t i = 0; i < RECORDS; i++) {
+        uint8_t *record = recording + VYDRULKA_RECORDS_AT + VYDRULKA_RECORD_LENGTH * i;
+        counter += !holes ? 1 : i % 7 == 3 ? 0 : i % 7 == 5 ? 9 : 1;
+        put_number(record, counter);
+        put_number(record + 4, counter);
+    }
+}
+
+// Without a hole, with holes, and the same where the last record clashes with the one before it.
+static void take_recordings(void)
+{
+    for (int holes = 0; holes < 2; holes++) {
+        put_recording(holes);
+        snprintf(shape, sizeof shape, "%d records %s", RECORDS, holes ? "with holes" : "without a hole");
+        take(MEND);
+        take(STRETCH);
+    }
+    uint8_t *last = recording + sizeof recording - VYDRULKA_RECORD_LENGTH;
+    memcpy(last, last - VYDRULKA_RECORD_LENGTH, VYDRULKA_RECORD_LENGTH);
+    last[VYDRULKA_RECORD_LENGTH - 1]++;
+    snprintf(shape, sizeof shape, "%d records with holes, and the last clashes", RECORDS);
+    take(MEND);
+    take(STRETCH);
+}
+
 enum { SAMPLE_0 = 16 + 8, SAMPLED_0 = 16 + 16, SAMPLED_1 = SAMPLED_0 + 17 };
 
 // Captures the same event over and over, from the start of a tick on: nothing, or both propositions.
@@ -452,6 +507,7 @@ static void *measure_all(void *given)
     take_brackets();
     take_runs();
     take_reports();
+    take_recordings();
     take_layers(32);
     take_pairs(32);
     take_chances(&chances->chance, chances->count);
@@ -494,6 +550,7 @@ static void hold_to_limits(void)
         take_brackets();
         take_runs();
         take_reports();
+        take_recordings();
         take_layers(VYDRULKA_NODES_MOST);
         size_t most = used(stack, size);
         printf(" %7zu of %7zu bytes used, the thread's own with them; %zu of %zu inputs accepted\n", most, size,

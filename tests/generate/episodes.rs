@@ -1,13 +1,15 @@
-// The cases on the kept state, by kind, and how the kinds take turns. An episode makes as many requests as it needs.
+// The cases on the kept state and on recordings, by kind, and how the kinds take turns. An episode makes as many requests as it needs.
 
 use crate::files::{self, Handed};
 use crate::lists::Listed;
 use crate::model::state::Network;
 use crate::random::Random;
+use crate::recordings::Record;
 use crate::rules::{self, Rule};
 use crate::script::{Made, Script};
 use crate::spoilt::SPOILS;
-use crate::{adding, capture_stops, captures, closes, folded_rules, handed, moments, patterns, reporting, spoilt, spoilt_rows, watches};
+use crate::{adding, capture_stops, captures, closes, folded_rules, handed, mending, moments, patterns, reporting, watches};
+use crate::{spoilt, spoilt_recordings, spoilt_rows};
 
 type Episode = Box<dyn Fn(&mut Script, &mut Random, bool)>;
 
@@ -290,6 +292,43 @@ fn adds() -> Kind {
     Kind::new(5, episodes)
 }
 
+fn record(make: fn(&mut Random, bool) -> Vec<Record>) -> Episode {
+    Box::new(move |script, random, large| {
+        let list = make(random, large);
+        mending::record(script, random, list);
+    })
+}
+
+fn record_spoilt(spoil: spoilt_recordings::Spoil) -> Episode {
+    Box::new(move |script, random, _| mending::spoilt(script, random, spoil))
+}
+
+fn recordings() -> Kind {
+    let mut episodes = vec![
+        ("recording: doubled and lost", record(mending::doubled_and_lost)),
+        ("recording: clash between", record(mending::clash_between)),
+        ("recording: without a hole", record(mending::without_hole)),
+        ("recording: steps", record(mending::steps)),
+        ("recording: few records", record(mending::few)),
+        ("recording: clash at the first", record(mending::clash_first)),
+        ("recording: doubled", record(mending::doubled)),
+        ("recording: doubled at a break", record(mending::doubled_at_break)),
+        ("recording: any numbers", record(mending::any_numbers)),
+        ("recording: tripled", record(mending::tripled)),
+        ("recording: clash behind a double or a break", record(mending::clash_behind)),
+        ("recording: captured", Box::new(mending::captured)),
+        ("recording: lost", record(mending::lost)),
+        ("recording: several spoils", Box::new(mending::several)),
+        ("recording: past the last counter", record(mending::wrapped)),
+        ("recording: clash at the last", record(mending::clash_last)),
+        ("recording: one byte of the counter", record(mending::one_byte)),
+        ("recording: records again", record(mending::returning)),
+        ("recording: several clashes", record(mending::several_clashes)),
+    ];
+    episodes.extend(spoilt_recordings::SPOILS.iter().map(|&(name, spoil)| (name, record_spoilt(spoil))));
+    Kind::new(11, episodes)
+}
+
 // The kinds by their places in Episodes.
 const LOAD: usize = 0;
 const WATCH: usize = 1;
@@ -299,8 +338,9 @@ const STRANGE: usize = 4;
 const CAPTURE: usize = 5;
 const REPORT: usize = 6;
 const ADD: usize = 7;
+const RECORDING: usize = 8;
 
-// How they take turns, with runs of events and with reports between them: a load makes one request, a watch many.
+// How they take turns, with runs of events, reports and recordings between them: a load makes one request, a watch many.
 const TURNS: &[usize] = &[
     SPOILT, LOAD, SPOILT, LOAD, CLOSE, SPOILT, LOAD, SPOILT, LOAD, WATCH, LOAD, SPOILT, LOAD, SPOILT, LOAD, CLOSE, SPOILT, LOAD, SPOILT,
     LOAD, STRANGE, LOAD, SPOILT, LOAD, SPOILT, LOAD, CLOSE, LOAD, SPOILT, LOAD, SPOILT, LOAD, WATCH, LOAD, SPOILT, LOAD, CLOSE, LOAD,
@@ -308,13 +348,23 @@ const TURNS: &[usize] = &[
 ];
 
 pub struct Episodes {
-    kinds: [Kind; 8],
+    kinds: [Kind; 9],
     turn: usize,
 }
 
 impl Episodes {
     pub fn new() -> Episodes {
-        let kinds = [loads(), whole_watches(), spoilt_states(), closes_at_limits(), strange_states(), runs_of_events(), reports(), adds()];
+        let kinds = [
+            loads(),
+            whole_watches(),
+            spoilt_states(),
+            closes_at_limits(),
+            strange_states(),
+            runs_of_events(),
+            reports(),
+            adds(),
+            recordings(),
+        ];
         Episodes { kinds, turn: 0 }
     }
 
@@ -324,8 +374,9 @@ impl Episodes {
             if let Some(made) = script.take() {
                 return made;
             }
-            let round = self.turn / 3;
-            let kind = [TURNS[round % TURNS.len()], CAPTURE, [REPORT, ADD][round % 2]][self.turn % 3];
+            let round = self.turn / 7;
+            let turn = |which: usize| TURNS[which % TURNS.len()];
+            let kind = [turn(2 * round), CAPTURE, REPORT, turn(2 * round + 1), CAPTURE, ADD, RECORDING][self.turn % 7];
             self.kinds[kind].play(script, random);
             self.turn += 1;
         }

@@ -69,6 +69,14 @@ impl Request {
         Request { call: 14, a: night.len(), b: total_lent, c: 0, v: 0, payload: night }
     }
 
+    pub fn mend(recording: Vec<u8>, mended_lent: usize, marks_lent: usize) -> Request {
+        Request { call: 15, a: recording.len(), b: mended_lent, c: marks_lent, v: 0, payload: recording }
+    }
+
+    pub fn stretch(recording: Vec<u8>, events_lent: usize) -> Request {
+        Request { call: 16, a: recording.len(), b: 0, c: events_lent, v: 0, payload: recording }
+    }
+
     pub fn bytes(&self) -> Vec<u8> {
         let mut bytes = vec![self.call, 0, 0, 0];
         for number in [self.a, self.b, self.c] {

@@ -1,5 +1,6 @@
 // The requests on the kept state, in the order they are made, and that state as the second program's model leaves it: a case is
-// written as calls, and each says whether it is accepted. What is kept may be a report too.
+// written as calls, and each says whether it is accepted. What is kept may be a report too. Mend and stretch leave it as it is; they are
+// made here too, so that a recording goes to both calls, and what comes of it to others.
 
 use crate::files::{self, Handed};
 use crate::lists::Listed;
@@ -10,6 +11,7 @@ use crate::model::report::report;
 use crate::model::row::ROW;
 use crate::model::state::{Network, STATE};
 use crate::model::watch;
+use crate::recordings::Recorded;
 use crate::request::Request;
 use crate::rules::Rule;
 use std::collections::VecDeque;
@@ -130,6 +132,14 @@ impl Script {
     pub fn add_lent(&mut self, lent: usize, night: &[u8]) -> bool {
         self.make("add", Request::add(lent, night.to_vec()));
         add(&mut self.kept[..lent], night).is_ok()
+    }
+
+    pub fn mend(&mut self, recorded: &Recorded) {
+        self.make("mend", Request::mend(recorded.bytes.clone(), recorded.mended, recorded.marks));
+    }
+
+    pub fn stretch(&mut self, recorded: &Recorded) {
+        self.make("stretch", Request::stretch(recorded.bytes.clone(), recorded.events));
     }
 
     pub fn poke(&mut self, offset: usize, bytes: &[u8]) {

@@ -8,7 +8,7 @@ use crate::model::refusal::Refusal;
 use crate::model::rule_file::read;
 use crate::model::state::STATE;
 use crate::model::watch::load;
-use crate::replay::{lent_bytes, lent_masks};
+use crate::replay::{lent_bytes, lent_numbers};
 use crate::trying::{closed, copies, deep, file, formula, handed, layout, loaded, network, progressed, stepped};
 
 const TWO: &[u64] = &[1, 2];
@@ -69,7 +69,7 @@ fn read_and_write_give_constants_as_written() {
     let formula = [8, 3, 64, 4, 6, 0, 65, 1];
     let file = file(TWO, &formula);
     assert_eq!(file[32..], formula);
-    let (mut masks, mut nodes) = (lent_masks(16), lent_bytes(1024));
+    let (mut masks, mut nodes) = (lent_numbers(16), lent_bytes(1024));
     assert_eq!(read(&file, &mut masks, &mut nodes).map(|counts| counts.nodes), Ok(8));
     assert_eq!(nodes[..8], formula);
 }

@@ -7,7 +7,7 @@ use crate::model::refusal::Refusal;
 use crate::model::rule_file::{read, write};
 use crate::model::state::STATE;
 use crate::model::watch::{ask, close, load, sample, step};
-use crate::replay::{lent_bytes, lent_masks, replay};
+use crate::replay::{lent_bytes, lent_numbers, replay};
 use crate::run::run;
 use crate::trying::{closed, copies, deep, file, formula, handed, input, layout, loaded, network, progressed, request, sampled, stepped};
 
@@ -171,7 +171,7 @@ fn a_file_longer_than_any_rule_passes_its_length() {
     let mut long = file(&[1], &[64]);
     long.resize(1200, 64);
     long[12..16].copy_from_slice(&1200u32.to_le_bytes());
-    let (mut masks, mut formula) = (lent_masks(16), lent_bytes(1024));
+    let (mut masks, mut formula) = (lent_numbers(16), lent_bytes(1024));
     assert_eq!(read(&long, &mut masks, &mut formula), Err(Refusal::Offset));
     let mut state = lent_bytes(STATE as u64);
     assert_eq!(load(&long, &mut state), Err(Refusal::Offset));
@@ -266,6 +266,8 @@ fn the_replay_knows_its_limits() {
     let answer = |call: u8, numbers: [u32; 3], payload: usize| replay(&request(call, numbers, &vec![0; payload]));
     assert_eq!(answer(9, [3, 8189, 0], 3), "0\n");
     assert_eq!(answer(9, [0, 8192, 0], 0), "0\n");
+    assert!(answer(15, [8192, 8192, 8192], 8192).starts_with("1 "));
+    assert!(answer(16, [8192, u32::MAX, 1024], 8192).starts_with("1 "));
     for (call, numbers, payload) in [
         (9, [4, 8189, 0], 4),
         (9, [u32::MAX, 1, 0], 0),
@@ -297,7 +299,14 @@ fn the_replay_knows_its_limits() {
         (14, [8193, 8192, 0], 8193),
         (14, [8192, 8193, 0], 8192),
         (14, [8192, 8192, 0], 8191),
-        (15, [0, 0, 0], 0),
+        (15, [8193, 16, 0], 8193),
+        (15, [16, 8193, 0], 16),
+        (15, [16, 16, 8193], 16),
+        (15, [16, 16, 0], 15),
+        (16, [8193, 0, 0], 8193),
+        (16, [16, 0, 1025], 16),
+        (16, [16, 0, 0], 15),
+        (17, [0, 0, 0], 0),
         (0, [0, 0, 0], 0),
     ] {
         assert_eq!(answer(call, numbers, payload), "bad request\n", "{call} {numbers:?}");

@@ -19,6 +19,7 @@ pub enum Refusal {
     Ticks = 15,
     Text = 16,
     Run = 19,
+    Clash = 20,
 }
 
 // The refusal where the condition fails.

@@ -4,11 +4,13 @@ use crate::model::add::add;
 use crate::model::bytes::{front_and_rest, little_endian};
 use crate::model::capture::{capture, Captured};
 use crate::model::central::central;
+use crate::model::mend::{mend, Mended};
 use crate::model::parse::{parse, NotParsed};
 use crate::model::print::print;
 use crate::model::refusal::Refusal;
 use crate::model::report::{report, NotReported};
 use crate::model::rule_file::{read, write};
+use crate::model::stretch::stretch;
 use crate::model::watch::{ask, close, load, sample, step};
 
 const READ: u64 = 1;
@@ -25,6 +27,8 @@ const PARSE: u64 = 11;
 const PRINT: u64 = 12;
 const REPORT: u64 = 13;
 const ADD: u64 = 14;
+const MEND: u64 = 15;
+const STRETCH: u64 = 16;
 
 const KEPT: u64 = 8192;
 const MOST_LENT: u64 = 8192;
@@ -76,6 +80,8 @@ impl<'a> Request<'a> {
             CAPTURE => (within([256, KEPT, MOST_LENT]), 8 * a),
             REPORT => (within([8192, ANY, MOST_LENT]) && a * b <= MOST_LISTED, a),
             ADD => (within([8192, KEPT, ANY]), a),
+            MEND => (within([8192, MOST_LENT, MOST_LENT]), a),
+            STRETCH => (within([8192, ANY, 1024]), a),
             _ => (false, 0),
         };
         if !good {
@@ -100,15 +106,17 @@ impl<'a> Request<'a> {
             PARSE => self.answer_parse(),
             PRINT => self.answer_print(),
             REPORT => self.answer_report(kept),
-            _ => self.answer_add(&mut kept[..self.b as usize]),
+            ADD => self.answer_add(&mut kept[..self.b as usize]),
+            MEND => self.answer_mend(),
+            _ => self.answer_stretch(),
         }
     }
 
     fn answer_read(&self) -> Answer {
-        let (mut masks, mut formula) = (lent_masks(self.b), lent_bytes(self.c));
+        let (mut masks, mut formula) = (lent_numbers(self.b), lent_bytes(self.c));
         let result = read(self.payload, &mut masks, &mut formula);
         let values = result.map(|counts| vec![counts.boards, counts.propositions, counts.nodes]);
-        Answer { values, behind: vec![hash(&bytes_of_masks(&masks)), hash(&formula)] }
+        Answer { values, behind: vec![hash(&bytes_of_numbers(&masks)), hash(&formula)] }
     }
 
     fn answer_write(&self) -> Answer {
@@ -208,6 +216,19 @@ impl<'a> Request<'a> {
         let result = add(total, self.payload);
         Answer { values: result.map(|()| vec![]), behind: vec![hash(total)] }
     }
+
+    fn answer_mend(&self) -> Answer {
+        let (mut mended, mut marks) = (lent_bytes(self.b), lent_bytes(self.c));
+        let result = mend(self.payload, &mut mended, &mut marks);
+        let values = result.map(|Mended { kept, first }| vec![kept, first]);
+        Answer { values, behind: vec![hash(&mended), hash(&marks)] }
+    }
+
+    fn answer_stretch(&self) -> Answer {
+        let mut events = lent_numbers(self.c);
+        let result = stretch(self.payload, &mut events);
+        Answer { values: result.map(|count| vec![count]), behind: vec![hash(&bytes_of_numbers(&events))] }
+    }
 }
 
 // Lent outputs start with a pattern, so that a byte missed or written by a refusal shows in the hash.
@@ -215,16 +236,16 @@ pub fn lent_bytes(count: u64) -> Vec<u8> {
     (0..count).map(|i| (i % 251 + 1) as u8).collect()
 }
 
-pub fn lent_masks(count: u64) -> Vec<u64> {
-    (0..count).map(|i| (i + 1) * 0x0101_0101_0101_0101).collect()
+pub fn lent_numbers(count: u64) -> Vec<u64> {
+    (1..=count).map(|i| i.wrapping_mul(0x0101_0101_0101_0101)).collect()
 }
 
 fn numbers_of(bytes: &[u8]) -> Vec<u64> {
     bytes.chunks(8).map(little_endian).collect()
 }
 
-fn bytes_of_masks(masks: &[u64]) -> Vec<u8> {
-    masks.iter().flat_map(|mask| mask.to_le_bytes()).collect()
+fn bytes_of_numbers(numbers: &[u64]) -> Vec<u8> {
+    numbers.iter().flat_map(|number| number.to_le_bytes()).collect()
 }
 
 fn hash(bytes: &[u8]) -> u64 {

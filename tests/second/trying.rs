@@ -1,5 +1,6 @@
 // What the tests of the second program share: what central leaves, rule files, watches moved along a tick at a time, states as someone
-// might hand them over, texts read, runs counted, requests, all small formulas, and room for deep ones.
+// might hand them over, texts read, runs counted, recordings mended, requests, all small formulas, all short recordings, and room for
+// deep formulas.
 
 use crate::lists::{bytes_of as bytes_of_runs, Run};
 use crate::model::add::add;
@@ -7,13 +8,16 @@ use crate::model::capture::{capture, Captured};
 use crate::model::central::{central, OUTPUT};
 use crate::model::check::network_of;
 use crate::model::formula::{always, and, bytes_of, eventually, next, not, or, parse_slot, until, Formula};
+use crate::model::mend::{mend, Mended};
 use crate::model::parse::{parse, NotParsed, Place, FORMULA};
 use crate::model::refusal::Refusal;
 use crate::model::report::{report, NotReported, REPORT};
 use crate::model::rule_file::write;
 use crate::model::state::{Board, Network, Slot, STATE};
+use crate::model::stretch::stretch;
 use crate::model::watch::{close, load, sample, step};
-use crate::replay::lent_bytes;
+use crate::recordings::{Record, Recorded, HEADER, RECORD};
+use crate::replay::{lent_bytes, lent_numbers};
 
 // What central makes of a formula under event 0.
 pub fn progressed(formula: &[u8]) -> Vec<u8> {
@@ -133,6 +137,48 @@ pub fn added(total: &[u8], night: &[u8]) -> Result<Vec<u8>, Refusal> {
     let result = add(&mut sum, night);
     assert!(result.is_ok() || sum == total);
     result.map(|()| sum)
+}
+
+// What mend answers, the mended recording, cut to its own length, and the marks.
+#[derive(Debug, PartialEq)]
+pub struct Mending {
+    pub answer: Mended,
+    pub recording: Vec<u8>,
+    pub marks: Vec<u8>,
+}
+
+// A refusal must write nothing, and behind the mended recording must be zeros.
+pub fn mended(recorded: &Recorded) -> Result<Mending, Refusal> {
+    let lent = || (lent_bytes(recorded.mended as u64), lent_bytes(recorded.marks as u64));
+    let (mut recording, mut marks) = lent();
+    let result = mend(&recorded.bytes, &mut recording, &mut marks);
+    match result {
+        Ok(answer) => assert!(recording.drain(HEADER + RECORD * answer.kept as usize..).all(|byte| byte == 0)),
+        Err(_) => assert_eq!((&recording, &marks), (&lent().0, &lent().1)),
+    }
+    result.map(|answer| Mending { answer, recording, marks })
+}
+
+// The events of the first stretch. A refusal must write nothing, and behind the events must be zeros.
+pub fn stretched(recorded: &Recorded) -> Result<Vec<u64>, Refusal> {
+    let mut events = lent_numbers(recorded.events as u64);
+    let result = stretch(&recorded.bytes, &mut events);
+    match result {
+        Ok(count) => assert!(events.drain(count as usize..).all(|event| event == 0)),
+        Err(_) => assert_eq!(events, lent_numbers(recorded.events as u64)),
+    }
+    result.map(|_| events)
+}
+
+// All lists of up to so many records with these counters and events.
+pub fn short_lists(counters: &[u32], events: &[u64], most: usize) -> Vec<Vec<Record>> {
+    let records: Vec<Record> = counters.iter().flat_map(|&counter| events.iter().map(move |&event| (counter, event))).collect();
+    let mut sizes: Vec<Vec<Vec<Record>>> = vec![vec![vec![]]];
+    for size in 0..most {
+        let longer = sizes[size].iter().flat_map(|list| records.iter().map(move |&record| [&list[..], &[record]].concat()));
+        sizes.push(longer.collect());
+    }
+    sizes.concat()
 }
 
 // A header with this call and these numbers, v being 0, and the payload.

@@ -9,7 +9,7 @@ use crate::model::rule_file::{read, write, Counts};
 use crate::model::splitting::lay_rule;
 use crate::model::state::STATE;
 use crate::model::watch::{ask, close, sample, step, Standing};
-use crate::replay::{lent_bytes, lent_masks};
+use crate::replay::{lent_bytes, lent_numbers};
 use crate::run::run;
 use crate::trying::{chain, closed, copies, input, loaded, network, sampled, stepped};
 
@@ -82,7 +82,7 @@ fn central_nested_always() {
 #[test]
 fn rule_file() {
     let file = b"\x01\0\x02\0\x02\0\x03\0\x10\0\x20\0\x23\0\0\0\x01\0\0\0\0\0\0\0\x02\0\0\0\0\0\0\0\x06\x40\x41";
-    let (mut masks, mut formula) = (lent_masks(16), lent_bytes(1024));
+    let (mut masks, mut formula) = (lent_numbers(16), lent_bytes(1024));
     let counts = Counts { boards: 2, propositions: 2, nodes: 3 };
     assert_eq!(read(file, &mut masks, &mut formula), Ok(counts));
     let mut written = lent_bytes(1168);

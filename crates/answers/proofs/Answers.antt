@@ -9,7 +9,7 @@ use lib.ListN.{getD}
 use borrow.Author.Tests.{ne-eqb}
 use Rattle.lists.specs.Tests.{pick}
 use Rattle.answers.specs.declared.Refusal.{Refusal}
-use Rattle.answers.specs.declared.Refusal.the-variants.{Length, Version, Range, Offset, Masks, Formula, Slots, Nodes, State, Finished, Nowhere, Outside, Already, Unready, Ticks, Text, Run}
+use Rattle.answers.specs.declared.Refusal.the-variants.{Length, Version, Range, Offset, Masks, Formula, Slots, Nodes, State, Finished, Nowhere, Outside, Already, Unready, Ticks, Text, Run, Clash}
 use Rattle.answers.specs.declared.Verdict.{Verdict}
 use Rattle.answers.specs.declared.Verdict.the-variants.{False, True, Pending}
 use Rattle.answers.specs.declared.Outcome.{Outcome}
@@ -19,7 +19,7 @@ use Rattle.answers.specs.Said.{Said, accepted, refused, left, numberOf, 
 -- ---- the refusals by number; what stands at a number that none has is not looked at
 named : List Refusal
 named =
-    Length ∷ Length ∷ Version ∷ Range ∷ Offset ∷ Masks ∷ Formula ∷ Slots ∷ Nodes ∷ State ∷ Finished ∷ Nowhere ∷ Outside ∷ Already ∷ Unready ∷ Ticks ∷ Text ∷ Length ∷ Length ∷ Run ∷ []
+    Length ∷ Length ∷ Version ∷ Range ∷ Offset ∷ Masks ∷ Formula ∷ Slots ∷ Nodes ∷ State ∷ Finished ∷ Nowhere ∷ Outside ∷ Already ∷ Unready ∷ Ticks ∷ Text ∷ Length ∷ Length ∷ Run ∷ Clash ∷ []
 
 -- a refusal stands at its number, and no number is 0
 record Numbered (why : Refusal) : Type 0 where
@@ -45,6 +45,7 @@ numbered Unready = record { found = refl; some = omega arith }
 numbered Ticks = record { found = refl; some = omega arith }
 numbered Text = record { found = refl; some = omega arith }
 numbered Run = record { found = refl; some = omega arith }
+numbered Clash = record { found = refl; some = omega arith }
 
 pub number-injective : (a b : Refusal) → numberOf a ≡ numberOf b → a ≡ b
 number-injective a b e = sym (numbered a .found) ∙ ap (λ (n : ℕ). getD named n Length) e ∙ numbered b .found

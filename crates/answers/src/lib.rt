@@ -2,7 +2,7 @@
 ghost use mathlib.Core.Path.{_≡_};
 ghost use Rattle.answers.specs.Said.{numberOf, verdictNumber};
 
-// Why a call was refused, in the order of the numbers: 1 to 16, and 19. Those between belong to no call yet.
+// Why a call was refused, in the order of the numbers: 1 to 16, 19 and 20. 17 and 18 belong to no call yet.
 pub enum Refusal {
     Length,
     Version,
@@ -21,6 +21,7 @@ pub enum Refusal {
     Ticks,
     Text,
     Run,
+    Clash,
 }
 
 impl Refusal {
@@ -45,6 +46,7 @@ impl Refusal {
             Refusal::Ticks => 15,
             Refusal::Text => 16,
             Refusal::Run => 19,
+            Refusal::Clash => 20,
         }
     }
 }

@@ -4,7 +4,7 @@ use mathlib.Core.List.{List}
 use Prim.Native.Nat.{ℕ}
 use Rattle.answers.specs.Said.{Said}
 use Rattle.parsing.proofs.Determined.{parse-one}
-use Rattle.exports.specs.Exported.{valueAt, toldAt, ReadExported, WriteExported, ParseExported, PrintExported, CentralExported, LoadExported, SampleExported, StepExported, CloseExported, AskExported, CaptureExported, ReportExported, AddExported}
+use Rattle.exports.specs.Exported.{valueAt, toldAt, ReadExported, WriteExported, ParseExported, PrintExported, CentralExported, LoadExported, SampleExported, StepExported, CloseExported, AskExported, CaptureExported, ReportExported, AddExported, MendExported, StretchExported}
 
 pub read-determined : {file masks formula m m₂ f f₂ : List ℕ} {boards propositions nodes b b₂ p p₂ n n₂ a a₂ : ℕ}
     → ReadExported file masks formula m f boards propositions nodes b p n a → ReadExported file masks formula m₂ f₂ boards propositions nodes b₂ p₂ n₂ a₂
@@ -84,3 +84,18 @@ report-determined x y = (x .says ∙ sym (y .says), x .leaves ∙ sym (y .leaves
 
 pub add-determined : {total night e e₂ : List ℕ} {a a₂ : ℕ} → AddExported total night e a → AddExported total night e₂ a₂ → (a ≡ a₂) × (e ≡ e₂)
 add-determined x y = (x .says ∙ sym (y .says), x .leaves ∙ sym (y .leaves))
+
+pub mend-determined : {recording mended marks e e₂ l l₂ : List ℕ} {kept first k k₂ f f₂ a a₂ : ℕ}
+    → MendExported recording mended marks e l kept first k f a → MendExported recording mended marks e₂ l₂ kept first k₂ f₂ a₂
+    → (a ≡ a₂) × (e ≡ e₂) × (l ≡ l₂) × (k ≡ k₂) × (f ≡ f₂)
+mend-determined x y = (
+  x .says ∙ sym (y .says),
+  x .leaves ∙ sym (y .leaves),
+  x .leaves-marks ∙ sym (y .leaves-marks),
+  x .gives-kept ∙ sym (y .gives-kept),
+  x .gives-first ∙ sym (y .gives-first),
+)
+
+pub stretch-determined : {recording events e e₂ : List ℕ} {first f f₂ a a₂ : ℕ}
+    → StretchExported recording events e first f a → StretchExported recording events e₂ first f₂ a₂ → (a ≡ a₂) × (e ≡ e₂) × (f ≡ f₂)
+stretch-determined x y = (x .says ∙ sym (y .says), x .leaves ∙ sym (y .leaves), x .gives-first ∙ sym (y .gives-first))

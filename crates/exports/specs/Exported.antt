@@ -25,6 +25,10 @@ use Rattle.loading.specs.Load.{startIn, loadSays}
 use Rattle.capturing.specs.Capture.{captureSays, captureLeaves, captureSecond}
 use Rattle.reporting.specs.Report.{reportSays, reportFor}
 use Rattle.adding.specs.Add.{addSays, sumFor}
+use Rattle.recordings.specs.Mending.{marksOf}
+use Rattle.recordings.specs.Recording.{recordsIn}
+use Rattle.mending.specs.Mend.{mendSays, mendedFor}
+use Rattle.stretching.specs.Stretch.{stretchSays, eventsFor}
 
 -- what stands behind a reference afterwards: an accepted call's value, and what stood there before a refusal
 unfoldable pub valueAt : Said → ℕ → ℕ → ℕ
@@ -105,3 +109,15 @@ pub record ReportExported (runs report report′ : List ℕ) (place place′ ans
 pub record AddExported (total night total′ : List ℕ) (answer : ℕ) : Type 0 where
   pub says : answer ≡ addSays total night .number
   pub leaves : total′ ≡ left (addSays total night) (sumFor total night) total
+
+pub record MendExported (recording mended marks mended′ marks′ : List ℕ) (kept first kept′ first′ answer : ℕ) : Type 0 where
+  pub says : answer ≡ mendSays recording (length mended) (length marks) .number
+  pub leaves : mended′ ≡ left (mendSays recording (length mended) (length marks)) (mendedFor recording) mended
+  pub leaves-marks : marks′ ≡ left (mendSays recording (length mended) (length marks)) (marksOf (recordsIn recording)) marks
+  pub gives-kept : kept′ ≡ valueAt (mendSays recording (length mended) (length marks)) 0 kept
+  pub gives-first : first′ ≡ valueAt (mendSays recording (length mended) (length marks)) 1 first
+
+pub record StretchExported (recording events events′ : List ℕ) (first first′ answer : ℕ) : Type 0 where
+  pub says : answer ≡ stretchSays recording (length events) .number
+  pub leaves : events′ ≡ left (stretchSays recording (length events)) (eventsFor recording) events
+  pub gives-first : first′ ≡ valueAt (stretchSays recording (length events)) 0 first

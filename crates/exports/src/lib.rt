@@ -3,15 +3,17 @@
 // `vydrulka_report` the place only where it answers 19.
 ghost use mathlib.Core.Path.{_≡_};
 ghost use Rattle.answers.specs.Said.{saidOutcome};
-ghost use Rattle.exports.specs.Exported.{ReadExported, WriteExported, ParseExported, PrintExported, CentralExported, LoadExported, SampleExported, StepExported, CloseExported, AskExported, CaptureExported, ReportExported, AddExported};
+ghost use Rattle.exports.specs.Exported.{ReadExported, WriteExported, ParseExported, PrintExported, CentralExported, LoadExported, SampleExported, StepExported, CloseExported, AskExported, CaptureExported, ReportExported, AddExported, MendExported, StretchExported};
 use answers::Outcome;
 use capturing::CaptureAnswer;
 use central::CentralAnswer;
+use mending::MendAnswer;
 use parsing::ParseAnswer;
 use printing::PrintAnswer;
 use reporting::ReportAnswer;
 use rules::ReadAnswer;
 use rules::WriteAnswer;
+use stretching::StretchAnswer;
 use telling::AskAnswer;
 
 #[no_mangle]
@@ -225,4 +227,39 @@ pub extern "C" fn vydrulka_add(total: &mut [u8], night: &[u8]) -> u32
     ensures { λ r. ⌜ AddExported (now (total .entry)) (now (night .entry)) (now (total .exit)) r ⌝ }
 {
     number_of(adding::add(total, night))
+}
+
+#[no_mangle]
+pub extern "C" fn vydrulka_mend(
+    recording: &[u8],
+    mended: &mut [u8],
+    marks: &mut [u8],
+    kept: &mut u64,
+    first: &mut u64,
+) -> u32
+    ensures { λ r. ⌜ MendExported (now (recording .entry)) (now (mended .entry)) (now (marks .entry)) (now (mended .exit)) (now (marks .exit)) (now (kept .entry)) (now (first .entry)) (now (kept .exit)) (now (first .exit)) r ⌝ }
+{
+    let answer = mending::mend(recording, mended, marks);
+    match answer {
+        MendAnswer::Refused(why) => why.number(),
+        MendAnswer::Mended(m) => {
+            *kept = m.kept as u64;
+            *first = m.first as u64;
+            0
+        }
+    }
+}
+
+#[no_mangle]
+pub extern "C" fn vydrulka_stretch(recording: &[u8], events: &mut [u64], first: &mut u64) -> u32
+    ensures { λ r. ⌜ StretchExported (now (recording .entry)) (now (events .entry)) (now (events .exit)) (now (first .entry)) (now (first .exit)) r ⌝ }
+{
+    let answer = stretching::stretch(recording, events);
+    match answer {
+        StretchAnswer::Refused(why) => why.number(),
+        StretchAnswer::Taken(n) => {
+            *first = n as u64;
+            0
+        }
+    }
 }

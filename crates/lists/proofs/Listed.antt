@@ -1,7 +1,7 @@
--- The values of a function as a list: how many, each of them, that equal values are an equal list, and those below m and then n more.
+-- The values of a function as a list: how many, each of them, that equal values are an equal list, and those below m and then n more, or one more.
 -- Assumes nothing.
 use mathlib.Core.Path.{_≡_, refl, sym, ap, ap₂, _∙_}
-use mathlib.Core.List.{List, _∷_, _++_}
+use mathlib.Core.List.{List, [], _∷_, _++_}
 use Prim.Native.Nat.{ℕ, zero, suc, _+_, _<_}
 use native.Mathlib.Nat.{zero-add, suc-add}
 use native.Mathlib.Omega.{arith}
@@ -36,3 +36,9 @@ listed-both f zero n = ap (listed f) (zero-add n) ∙ listed-same f (λ k. f (0 
 listed-both f (suc m) n =
     ap (listed f) (suc-add m n)
     ∙ ap (f 0 ∷_) (listed-both (λ k. f (suc k)) m n ∙ ap (listed (λ k. f (suc k)) m ++_) (listed-same _ _ n (λ k l. ap f (sym (suc-add m k)))))
+
+-- one more
+pub listed-more : {A : Type 0} (f : ℕ → A) (n : ℕ) → listed f (suc n) ≡ listed f n ++ (f n ∷ [])
+unfolding listed
+listed-more f zero = refl
+listed-more f (suc n) = ap (f 0 ∷_) (listed-more (λ k. f (suc k)) n)

@@ -1,15 +1,13 @@
 -- A row's fields: read one after the other they are the row (`row-read`); put one behind the other they are its bytes (`row-put`);
 -- what is picked of two rows' ticks (`picked-is`), and their fields, added one by one, are the row of both (`row-added`). Assumes nothing.
-use mathlib.Core.Path.{_≡_, refl, sym, ap, _∙_}
-use mathlib.Core.List.{List, _++_, append-assoc}
+use mathlib.Core.Path.{_≡_, refl, ap, _∙_}
+use mathlib.Core.List.{List, _++_}
 use Prim.Native.Nat.{ℕ, _+_, _≤_, min, max}
-use native.Mathlib.Omega.{arith}
-use lib.ListN.{length, take, drop, length-append}
-use lib.Seq.{length-take-le}
+use lib.ListN.{length, take, drop}
 use lib.Dec.{eqb}
 use Rattle.lists.specs.Tests.{pick}
-use Rattle.lists.proofs.Stretches.{put-next}
 use Rattle.le.specs.Le.{le, leAt}
+use Rattle.le.proofs.Puts.{number-put}
 use Rattle.reports.specs.declared.Row.{Row}
 use Rattle.reports.specs.Report.{ofBoth, added}
 use Rattle.reports.specs.Bytes.{rowAt, rowBytes, rowLength}
@@ -35,19 +33,6 @@ unfolding added
 row-added a b p q = λ i. record { runs = a .runs + b .runs; falses = a .falses + b .falses; trues = a .trues + b .trues; pendings = a .pendings + b .pendings; earliest = p i; latest = q i; sum = a .sum + b .sum }
 
 -- ---- puts
--- a number more behind what stands: the bytes A from `at` on, then those of v
-more : (s t A : List ℕ) (at k w v : ℕ) {u : List ℕ} → length A ≡ k → at ≤ length t → s ≡ take at t ++ (A ++ drop (at + k) t)
-    → u ≡ take (at + k) s ++ (le w v ++ drop (at + k + w) s) → u ≡ take at t ++ ((A ++ le w v) ++ drop (at + (k + w)) t)
-more s t A at k w v h l e p =
-    let front : s ≡ (take at t ++ A) ++ drop (at + k) t = e ∙ sym (append-assoc (take at t) A (drop (at + k) t)) in
-    let long : length (take at t ++ A) ≡ at + k = length-append (take at t) A ∙ (let n = length-take-le at t l in omega arith) in
-    let same : at + k + w ≡ at + (k + w) = omega arith in
-    p ∙ put-next s t (take at t ++ A) (le w v) (at + k) w front long
-    ∙ ap (λ (j : ℕ). ((take at t ++ A) ++ le w v) ++ drop j t) same
-    ∙ append-assoc (take at t ++ A) (le w v) (drop (at + (k + w)) t)
-    ∙ append-assoc (take at t) A (le w v ++ drop (at + (k + w)) t)
-    ∙ ap (take at t ++_) (sym (append-assoc A (le w v) (drop (at + (k + w)) t)))
-
 pub row-put : (t : List ℕ) (at : ℕ) (x : Row) {s₁ s₂ s₃ s₄ s₅ s₆ s₇ : List ℕ} → at ≤ length t
     → s₁ ≡ take at t ++ (le 4 (x .runs) ++ drop (at + 4) t)
     → s₂ ≡ take (at + 4) s₁ ++ (le 4 (x .falses) ++ drop (at + 4 + 4) s₁)
@@ -65,9 +50,9 @@ row-put t at x {s₁} {s₂} {s₃} {s₄} {s₅} {s₆} {s₇} l e₁ e₂ e₃
     let a₄ = a₃ ++ le 4 (x .pendings) in
     let a₅ = a₄ ++ le 4 (x .earliest) in
     let a₆ = a₅ ++ le 4 (x .latest) in
-    let d₂ = more s₁ t a₁ at 4 4 (x .falses) refl l e₁ e₂ in
-    let d₃ = more s₂ t a₂ at 8 4 (x .trues) refl l d₂ e₃ in
-    let d₄ = more s₃ t a₃ at 12 4 (x .pendings) refl l d₃ e₄ in
-    let d₅ = more s₄ t a₄ at 16 4 (x .earliest) refl l d₄ e₅ in
-    let d₆ = more s₅ t a₅ at 20 4 (x .latest) refl l d₅ e₆ in
-    more s₆ t a₆ at 24 8 (x .sum) refl l d₆ e₇
+    let d₂ = number-put s₁ t a₁ at 4 4 (x .falses) refl l e₁ e₂ in
+    let d₃ = number-put s₂ t a₂ at 8 4 (x .trues) refl l d₂ e₃ in
+    let d₄ = number-put s₃ t a₃ at 12 4 (x .pendings) refl l d₃ e₄ in
+    let d₅ = number-put s₄ t a₄ at 16 4 (x .earliest) refl l d₄ e₅ in
+    let d₆ = number-put s₅ t a₅ at 20 4 (x .latest) refl l d₅ e₆ in
+    number-put s₆ t a₆ at 24 8 (x .sum) refl l d₆ e₇

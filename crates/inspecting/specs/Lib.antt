@@ -1,0 +1,2 @@
+-- What the contracts of `inspecting` cite.
+pub mod Looked

@@ -1,0 +1,3 @@
+-- What is proved of mending.
+pub mod Outcomes
+pub mod Determined

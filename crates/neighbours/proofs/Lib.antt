@@ -1,0 +1,2 @@
+-- What is proved of neighbours.
+pub mod Steps

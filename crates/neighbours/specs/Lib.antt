@@ -1,0 +1,2 @@
+-- What the contracts of `neighbours` cite.
+pub mod Steps

@@ -1,0 +1,6 @@
+-- What is proved of recordings.
+pub mod Neighbours
+pub mod Twice
+pub mod Stretch
+pub mod Places
+pub mod Bytes

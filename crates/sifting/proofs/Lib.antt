@@ -1,0 +1,3 @@
+-- What is proved of sifting.
+pub mod Turning
+pub mod Stretches

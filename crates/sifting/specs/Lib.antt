@@ -1,0 +1,2 @@
+-- What the contracts of `sifting` cite.
+pub mod Sifted

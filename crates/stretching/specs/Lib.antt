@@ -1,0 +1,2 @@
+-- What the contracts of `stretching` cite.
+pub mod Stretch
