@@ -70,8 +70,8 @@ enum {
     VYDRULKA_STACK_CAPTURE = 4194304, // 3,952,656, a slot of 4,094 nots
     VYDRULKA_STACK_REPORT = 32768,    // 7,240, whatever the runs
     VYDRULKA_STACK_ADD = 32768,       // 152
-    VYDRULKA_STACK_MEND = 32768,      // 000
-    VYDRULKA_STACK_STRETCH = 32768,   // 000
+    VYDRULKA_STACK_MEND = 32768,      // 160
+    VYDRULKA_STACK_STRETCH = 32768,   // 112
 };
 
 // A formula has one byte a node: the node's, then its operands, the left one before the right one.

@@ -6,7 +6,7 @@ use Prim.Native.Nat.{ℕ}
 use Rattle.answers.specs.declared.Outcome.the-variants.{Done}
 use Rattle.watching.specs.Watch.{Calls, none, sample, step}
 use Rattle.watching.specs.Claims.{Accepted}
-use Rattle.demand.specs.Called.{Called, nothing, sampled, stepped, asked, closed, load-refused, close-refused, write-refused, parse-refused, print-refused, central-refused, read-refused, capture-refused, capture-second-refused, report-refused, add-refused}
+use Rattle.demand.specs.Called.{Called, nothing, sampled, stepped, asked, closed, load-refused, close-refused, write-refused, parse-refused, print-refused, central-refused, read-refused, capture-refused, capture-second-refused, report-refused, add-refused, mend-refused, mend-marks-refused}
 use Rattle.demand.specs.Claims.{AllAccepted}
 use Rattle.parsing.proofs.Outcomes.{parse-keeps}
 use Rattle.reporting.proofs.Outcomes.{report-keeps}
@@ -29,6 +29,8 @@ called {s} (capture-refused {t = t} c second second′ events why p) = subst (λ
 called {s} (capture-second-refused {t = t} c other other′ events why p) = subst (λ (u : List ℕ). Calls s u) (sym (p .leaves-second ∙ refused-leaves why _ _ t (p .says))) (called c)
 called {s} (report-refused c runs answer r p) = subst (λ (u : List ℕ). Calls s u) (sym (report-keeps p r)) (called c)
 called {s} (add-refused {t = t} c night why p) = subst (λ (u : List ℕ). Calls s u) (sym (p .leaves ∙ refused-leaves why _ _ t (p .says))) (called c)
+called {s} (mend-refused {t = t} c recording marks marks′ why p) = subst (λ (u : List ℕ). Calls s u) (sym (p .leaves ∙ refused-leaves why _ _ t (p .says))) (called c)
+called {s} (mend-marks-refused {t = t} c recording mended mended′ why p) = subst (λ (u : List ℕ). Calls s u) (sym (p .leaves-marks ∙ refused-leaves why _ _ t (p .says))) (called c)
 
 -- accepted calls over the definitions are allowed by the promises
 pub made : {s t : List ℕ} (c : Calls s t) → Accepted c → (d : Called s t) × AllAccepted d

@@ -24,7 +24,7 @@ use Rattle.watching.specs.Watch.{Saw}
 use Rattle.watching.proofs.InTick.{InTick, boards-kept}
 use Rattle.watching.proofs.Started.{Started, started-laid}
 use Rattle.watching.proofs.Ticked.{started-in-tick}
-use Rattle.demand.specs.Called.{Called, nothing, sampled, stepped, asked, closed, load-refused, close-refused, write-refused, parse-refused, print-refused, central-refused, read-refused, capture-refused, capture-second-refused, report-refused, add-refused, Gave, GivenBy}
+use Rattle.demand.specs.Called.{Called, nothing, sampled, stepped, asked, closed, load-refused, close-refused, write-refused, parse-refused, print-refused, central-refused, read-refused, capture-refused, capture-second-refused, report-refused, add-refused, mend-refused, mend-marks-refused, Gave, GivenBy}
 use Rattle.parsing.proofs.Outcomes.{parse-keeps}
 use Rattle.reporting.proofs.Outcomes.{report-keeps}
 use Rattle.keeping.proofs.Refused.{refused-not-done, refused-leaves}
@@ -136,6 +136,8 @@ module _ (p : ℕ) (masks : List ℕ) (rule : Formula) (us : List Event) (s : Li
   holding (capture-second-refused {t = t} c other other′ events why y) = subst (λ (u : List ℕ). Held u (Gave c)) (sym (y .leaves-second ∙ refused-leaves why _ _ t (y .says))) (holding c)
   holding (report-refused c runs answer r y) = subst (λ (u : List ℕ). Held u (Gave c)) (sym (report-keeps y r)) (holding c)
   holding (add-refused {t = t} c night why y) = subst (λ (u : List ℕ). Held u (Gave c)) (sym (y .leaves ∙ refused-leaves why _ _ t (y .says))) (holding c)
+  holding (mend-refused {t = t} c recording marks marks′ why y) = subst (λ (u : List ℕ). Held u (Gave c)) (sym (y .leaves ∙ refused-leaves why _ _ t (y .says))) (holding c)
+  holding (mend-marks-refused {t = t} c recording mended mended′ why y) = subst (λ (u : List ℕ). Held u (Gave c)) (sym (y .leaves-marks ∙ refused-leaves why _ _ t (y .says))) (holding c)
 
   -- where every board has sampled, each has what it was given
   pub sample-given : (t : List ℕ) (c : Called s t) → doneIn t ≡ true → (b : ℕ) → b < boardsIn s → (v : ℕ) × (Gave c b v) × (sampleIn t b ≡ v)

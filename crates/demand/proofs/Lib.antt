@@ -22,6 +22,7 @@ pub mod SinglyMade
 pub mod Capturing
 pub mod Captured
 pub mod CapturedSplit
+pub mod Recorded
 pub mod Rows
 pub mod Worked
 pub mod Surviving

@@ -32,10 +32,12 @@ use Rattle.capturing.specs.Capture.{Captures}
 use Rattle.reporting.specs.declared.ReportAnswer.{ReportAnswer}
 use Rattle.reporting.specs.Report.{saidReport, Reports}
 use Rattle.adding.specs.Add.{AddsReport}
+use Rattle.mending.specs.declared.MendAnswer.the-variants as mend-said
+use Rattle.mending.specs.Mend.{Mends}
 
 -- any number of calls on one state, with any numbers and buffers, each with any outcome that its promise allows: samples and steps;
 -- asking and closing, which only read the state; and each call that was lent the state's buffer to write it and was refused. A refused
--- capture was lent it as its state or as its second buffer
+-- capture was lent it as its state or as its second buffer, a refused mend as its mended recording or as its marks
 pub data Called (s : List ℕ) : List ℕ → Type 0 where
   nothing : Called s s
   sampled : {t t′ : List ℕ} → Called s t → (board bits : ℕ) (answer : Outcome) → Samples t board bits t′ answer → Called s t′
@@ -53,6 +55,8 @@ pub data Called (s : List ℕ) : List ℕ → Type 0 where
   capture-second-refused : {t t′ : List ℕ} → Called s t → (other other′ events : List ℕ) (why : Refusal) → Captures other t events other′ t′ (capture-said.Refused why) → Called s t′
   report-refused : {t t′ : List ℕ} → Called s t → (runs : List ℕ) (answer : ReportAnswer) → 0 < saidReport answer .number → Reports runs t t′ answer → Called s t′
   add-refused : {t t′ : List ℕ} → Called s t → (night : List ℕ) (why : Refusal) → AddsReport t night t′ (Refused why) → Called s t′
+  mend-refused : {t t′ : List ℕ} → Called s t → (recording marks marks′ : List ℕ) (why : Refusal) → Mends recording t marks t′ marks′ (mend-said.Refused why) → Called s t′
+  mend-marks-refused : {t t′ : List ℕ} → Called s t → (recording mended mended′ : List ℕ) (why : Refusal) → Mends recording mended t mended′ t′ (mend-said.Refused why) → Called s t′
 
 -- board b was given the bits v: one of these calls was that sample, and it was accepted
 abbrev pub Gave : {s t : List ℕ} → Called s t → ℕ → ℕ → Type 0
@@ -72,6 +76,8 @@ Gave (capture-refused c second second′ events why p) b v = Gave c b v
 Gave (capture-second-refused c other other′ events why p) b v = Gave c b v
 Gave (report-refused c runs answer r p) b v = Gave c b v
 Gave (add-refused c night why p) b v = Gave c b v
+Gave (mend-refused c recording marks marks′ why p) b v = Gave c b v
+Gave (mend-marks-refused c recording mended mended′ why p) b v = Gave c b v
 
 -- whatever a board was given was its part of the event: the bits of the event that are in the board's mask
 abbrev pub GivenBy : {s t : List ℕ} → List ℕ → Event → Called s t → Type 0

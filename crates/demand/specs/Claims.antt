@@ -22,7 +22,7 @@ use Rattle.taking.specs.Sample.{Samples}
 use Rattle.settling.specs.Step.{StepsSlot}
 use Rattle.closing.specs.Close.{Closes}
 use Rattle.loading.specs.Load.{ruleIn, startIn}
-use Rattle.demand.specs.Called.{Called, nothing, sampled, stepped, asked, closed, load-refused, close-refused, write-refused, parse-refused, print-refused, central-refused, read-refused, capture-refused, capture-second-refused, report-refused, add-refused, GivenBy}
+use Rattle.demand.specs.Called.{Called, nothing, sampled, stepped, asked, closed, load-refused, close-refused, write-refused, parse-refused, print-refused, central-refused, read-refused, capture-refused, capture-second-refused, report-refused, add-refused, mend-refused, mend-marks-refused, GivenBy}
 
 -- the call, by its promise of what it leaves and answers, gets this answer: it is allowed, and no other is
 pub record Gets (Promise : List ℕ → Outcome → Type 0) (wanted : Outcome) : Type 0 where
@@ -91,6 +91,8 @@ AllAccepted (capture-refused c second second′ events why p) = ⊥
 AllAccepted (capture-second-refused c other other′ events why p) = ⊥
 AllAccepted (report-refused c runs answer r p) = ⊥
 AllAccepted (add-refused c night why p) = ⊥
+AllAccepted (mend-refused c recording marks marks′ why p) = ⊥
+AllAccepted (mend-marks-refused c recording mended mended′ why p) = ⊥
 
 -- accepted samples and steps lead from s to this state: each board was given its part of the event, and the close is all that is left
 pub record Reaches (masks : List ℕ) (s : List ℕ) (e : Event) (last : List ℕ) : Type 0 where

@@ -6,7 +6,7 @@ use mathlib.Core.Logic.{inl, inr, ⊎-elim}
 use Prim.Native.Nat.{ℕ}
 use Rattle.answers.specs.Said.{Said, saidOutcome}
 use Rattle.ltl.specs.Meaning.{Event}
-use Rattle.demand.specs.Called.{Called, nothing, sampled, stepped, asked, closed, load-refused, close-refused, write-refused, parse-refused, print-refused, central-refused, read-refused, capture-refused, capture-second-refused, report-refused, add-refused, Gave, Ticked, Watched, begun, ticked}
+use Rattle.demand.specs.Called.{Called, nothing, sampled, stepped, asked, closed, load-refused, close-refused, write-refused, parse-refused, print-refused, central-refused, read-refused, capture-refused, capture-second-refused, report-refused, add-refused, mend-refused, mend-marks-refused, Gave, Ticked, Watched, begun, ticked}
 use Rattle.parsing.proofs.Outcomes.{parse-keeps}
 use Rattle.reporting.proofs.Outcomes.{report-keeps}
 use Rattle.keeping.proofs.Refused.{refused-leaves}
@@ -43,6 +43,8 @@ back-to-c {s} (capture-refused {t = t} c second second′ events why p) = subst 
 back-to-c {s} (capture-second-refused {t = t} c other other′ events why p) = subst (λ (u : List ℕ). BackToC s u (Gave c)) (sym (p .leaves-second ∙ refused-leaves why _ _ t (p .says))) (back-to-c c)
 back-to-c {s} (report-refused c runs answer r p) = subst (λ (u : List ℕ). BackToC s u (Gave c)) (sym (report-keeps p r)) (back-to-c c)
 back-to-c {s} (add-refused {t = t} c night why p) = subst (λ (u : List ℕ). BackToC s u (Gave c)) (sym (p .leaves ∙ refused-leaves why _ _ t (p .says))) (back-to-c c)
+back-to-c {s} (mend-refused {t = t} c recording marks marks′ why p) = subst (λ (u : List ℕ). BackToC s u (Gave c)) (sym (p .leaves ∙ refused-leaves why _ _ t (p .says))) (back-to-c c)
+back-to-c {s} (mend-marks-refused {t = t} c recording mended mended′ why p) = subst (λ (u : List ℕ). BackToC s u (Gave c)) (sym (p .leaves-marks ∙ refused-leaves why _ _ t (p .says))) (back-to-c c)
 
 ticked-to-c : {masks s : List ℕ} {e : Event} {s′ : List ℕ} → Ticked masks s e s′ → TickedFromC masks s e s′
 ticked-to-c x =

@@ -6,3 +6,4 @@ pub mod Demand
 pub mod Sentences
 pub mod Captured
 pub mod CapturedSplit
+pub mod Recorded

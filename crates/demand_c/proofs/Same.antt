@@ -1,7 +1,6 @@
 -- Whatever an exported function's promise allows, the call's own promise allows, with an outcome of the same number: `sample-same`, `step-same`,
 -- `close-same`, `load-same`, of an accepted capture `capture-same`; of a refusal `load-refusal`, `close-refusal`, `write-refusal`, `parse-refusal`,
--- `print-refusal`, `report-refusal`, `add-refusal`, `central-refusal`,
--- `read-refusal`, `capture-refusal`. Assumes nothing.
+-- `print-refusal`, `central-refusal`, `read-refusal`, `capture-refusal`, `report-refusal`, `add-refusal`, `mend-refusal`. Assumes nothing.
 use mathlib.Core.Path.{_≡_, refl, sym, ap, _∙_, subst}
 use mathlib.Core.List.{List}
 use mathlib.Core.Logic.{⊎-elim}
@@ -10,7 +9,7 @@ use native.Mathlib.Omega.{arith}
 use lib.ListN.{length}
 use Rattle.lists.specs.Tests.{pick}
 use Rattle.answers.specs.declared.Refusal.{Refusal}
-use Rattle.answers.specs.declared.Refusal.the-variants.{Length, Version, Range, Offset, Masks, Formula, Nodes, State, Finished}
+use Rattle.answers.specs.declared.Refusal.the-variants.{Length, Version, Range, Offset, Masks, Formula, Nodes, State, Finished, Clash}
 use Rattle.answers.specs.declared.Outcome.{Outcome}
 use Rattle.answers.specs.declared.Outcome.the-variants.{Refused, Done}
 use Rattle.answers.specs.Said.{Said, refused, numberOf, verdictNumber, saidOutcome}
@@ -38,7 +37,9 @@ use Rattle.reporting.specs.declared.ReportAnswer.{ReportAnswer}
 use Rattle.reporting.specs.Report.{saidReport, Reports}
 use Rattle.reporting.proofs.Outcomes.{report-answers}
 use Rattle.adding.specs.Add.{addSays, AddsReport}
-use Rattle.exports.specs.Exported.{valueAt, ReadExported, WriteExported, ParseExported, PrintExported, CentralExported, LoadExported, SampleExported, StepExported, CloseExported, CaptureExported, ReportExported, AddExported}
+use Rattle.mending.specs.declared.MendAnswer.the-variants as mend-said
+use Rattle.mending.specs.Mend.{mendSays, Mends}
+use Rattle.exports.specs.Exported.{valueAt, ReadExported, WriteExported, ParseExported, PrintExported, CentralExported, LoadExported, SampleExported, StepExported, CloseExported, CaptureExported, ReportExported, AddExported, MendExported}
 use Rattle.demand.proofs.Allowed.{Either, order-either, sample-outcome, step-outcome, close-outcome, load-outcome}
 use Rattle.demand.proofs.Capturing.{CaptureCase, may-run, not-run, capture-case, capture-exists}
 use Rattle.demand_c.specs.FromC.{Refuses}
@@ -135,6 +136,13 @@ unfolding addSays
 add-refusal {n = n} x refuses =
     let r = either-refused _ _ n (order-either _ ((Length, refl), ((Range, refl), ((Offset, refl), tt))) _) (x .says) refuses in
     (r .0, record { says = r .1; leaves = x .leaves })
+
+pub mend-refusal : {recording mended marks mended′ marks′ : List ℕ} {kept first kept′ first′ n : ℕ} → MendExported recording mended marks mended′ marks′ kept first kept′ first′ n → Refuses n
+    → (why : Refusal) × Mends recording mended marks mended′ marks′ (mend-said.Refused why)
+unfolding mendSays
+mend-refusal {n = n} x refuses =
+    let r = either-refused _ _ n (order-either _ ((Length, refl), ((Offset, refl), ((Clash, refl), tt))) _) (x .says) refuses in
+    (r .0, record { says = r .1; leaves = x .leaves; leaves-marks = x .leaves-marks })
 
 -- ---- an accepted capture, and what it stored behind its pointers
 pub record CaptureSame (s second events s′ second′ : List ℕ) (count verdict stop : ℕ) : Type 0 where

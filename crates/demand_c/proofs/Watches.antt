@@ -14,8 +14,8 @@ use Rattle.loading.specs.Load.{LoadsRule}
 use Rattle.closing.specs.Close.{Closes}
 use Rattle.demand.specs.Called as call
 use Rattle.demand.specs.Called.{Called, Gave, Ticked, Watched}
-use Rattle.demand_c.specs.FromC.{CalledFromC, nothing, sampled, stepped, asked, closed, load-refused, close-refused, write-refused, parse-refused, print-refused, central-refused, read-refused, capture-refused, capture-second-refused, report-refused, add-refused, GaveFromC, TickedFromC, WatchedFromC, begun, ticked}
-use Rattle.demand_c.proofs.Same.{sample-same, step-same, close-same, load-same, load-refusal, close-refusal, write-refusal, parse-refusal, print-refusal, central-refusal, read-refusal, capture-refusal, report-refusal, add-refusal}
+use Rattle.demand_c.specs.FromC.{CalledFromC, nothing, sampled, stepped, asked, closed, load-refused, close-refused, write-refused, parse-refused, print-refused, central-refused, read-refused, capture-refused, capture-second-refused, report-refused, add-refused, mend-refused, mend-marks-refused, GaveFromC, TickedFromC, WatchedFromC, begun, ticked}
+use Rattle.demand_c.proofs.Same.{sample-same, step-same, close-same, load-same, load-refusal, close-refusal, write-refusal, parse-refusal, print-refusal, central-refusal, read-refusal, capture-refusal, report-refusal, add-refusal, mend-refusal}
 
 -- asking changes nothing, so it may be left out
 abbrev pub from-c : {s t : List ℕ} → CalledFromC s t → Called s t
@@ -41,6 +41,12 @@ from-c (capture-second-refused c other other′ events count verdict stop count�
     call.capture-second-refused (from-c c) other other′ events (r .0) (r .1)
 from-c (report-refused c runs place place′ n refuses p) = let r = report-refusal p refuses in call.report-refused (from-c c) runs (r .0) (r .1) (r .2)
 from-c (add-refused c night n refuses p) = let r = add-refusal p refuses in call.add-refused (from-c c) night (r .0) (r .1)
+from-c (mend-refused c recording marks marks′ kept first kept′ first′ n refuses p) =
+    let r = mend-refusal p refuses in
+    call.mend-refused (from-c c) recording marks marks′ (r .0) (r .1)
+from-c (mend-marks-refused c recording mended mended′ kept first kept′ first′ n refuses p) =
+    let r = mend-refusal p refuses in
+    call.mend-marks-refused (from-c c) recording mended mended′ (r .0) (r .1)
 
 pub gave-from-c : {s t : List ℕ} (c : CalledFromC s t) (b v : ℕ) → Gave (from-c c) b v → GaveFromC c b v
 gave-from-c nothing b v g = g
@@ -60,6 +66,8 @@ gave-from-c (capture-refused c second second′ events count verdict stop count�
 gave-from-c (capture-second-refused c other other′ events count verdict stop count′ verdict′ stop′ n refuses p) b v g = gave-from-c c b v g
 gave-from-c (report-refused c runs place place′ n refuses p) b v g = gave-from-c c b v g
 gave-from-c (add-refused c night n refuses p) b v g = gave-from-c c b v g
+gave-from-c (mend-refused c recording marks marks′ kept first kept′ first′ n refuses p) b v g = gave-from-c c b v g
+gave-from-c (mend-marks-refused c recording mended mended′ kept first kept′ first′ n refuses p) b v g = gave-from-c c b v g
 
 -- a call that answers 0 is done
 pub zero-done : (answer : Outcome) → 0 ≡ saidOutcome answer .number → answer ≡ Done

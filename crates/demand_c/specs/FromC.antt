@@ -7,7 +7,7 @@ use Prim.Native.Nat.{ℕ}
 use Rattle.ltl.specs.Meaning.{Event}
 use Rattle.network.specs.Scores.{sampleOf}
 use Rattle.rules.specs.RuleFile.{masksInFile}
-use Rattle.exports.specs.Exported.{ReadExported, WriteExported, ParseExported, PrintExported, CentralExported, LoadExported, SampleExported, StepExported, CloseExported, AskExported, CaptureExported, ReportExported, AddExported}
+use Rattle.exports.specs.Exported.{ReadExported, WriteExported, ParseExported, PrintExported, CentralExported, LoadExported, SampleExported, StepExported, CloseExported, AskExported, CaptureExported, ReportExported, AddExported, MendExported}
 
 -- the number is a refusal's
 abbrev pub Refuses : ℕ → Type 0
@@ -15,7 +15,7 @@ Refuses n = n ≡ 0 → ⊥
 
 -- any number of calls on one state, with any numbers and buffers, and whatever stood behind the pointers to single numbers: samples and
 -- steps; asking and closing, which only read the state; and each call that was lent the state's buffer to write it and was refused. A refused
--- capture was lent it as its state or as its second buffer
+-- capture was lent it as its state or as its second buffer, a refused mend as its mended recording or as its marks
 pub data CalledFromC (s : List ℕ) : List ℕ → Type 0 where
   nothing : CalledFromC s s
   sampled : {t t′ : List ℕ} → CalledFromC s t → (board bits n : ℕ) → SampleExported t board bits t′ n → CalledFromC s t′
@@ -33,6 +33,8 @@ pub data CalledFromC (s : List ℕ) : List ℕ → Type 0 where
   capture-second-refused : {t t′ : List ℕ} → CalledFromC s t → (other other′ events : List ℕ) (count verdict stop count′ verdict′ stop′ n : ℕ) → Refuses n → CaptureExported other t events other′ t′ count verdict stop count′ verdict′ stop′ n → CalledFromC s t′
   report-refused : {t t′ : List ℕ} → CalledFromC s t → (runs : List ℕ) (place place′ n : ℕ) → Refuses n → ReportExported runs t t′ place place′ n → CalledFromC s t′
   add-refused : {t t′ : List ℕ} → CalledFromC s t → (night : List ℕ) (n : ℕ) → Refuses n → AddExported t night t′ n → CalledFromC s t′
+  mend-refused : {t t′ : List ℕ} → CalledFromC s t → (recording marks marks′ : List ℕ) (kept first kept′ first′ n : ℕ) → Refuses n → MendExported recording t marks t′ marks′ kept first kept′ first′ n → CalledFromC s t′
+  mend-marks-refused : {t t′ : List ℕ} → CalledFromC s t → (recording mended mended′ : List ℕ) (kept first kept′ first′ n : ℕ) → Refuses n → MendExported recording mended t mended′ t′ kept first kept′ first′ n → CalledFromC s t′
 
 -- board b was given the bits v: one of these calls was that sample, and it answered 0
 abbrev pub GaveFromC : {s t : List ℕ} → CalledFromC s t → ℕ → ℕ → Type 0
@@ -52,6 +54,8 @@ GaveFromC (capture-refused c second second′ events count verdict stop count′
 GaveFromC (capture-second-refused c other other′ events count verdict stop count′ verdict′ stop′ n r p) b v = GaveFromC c b v
 GaveFromC (report-refused c runs place place′ n r p) b v = GaveFromC c b v
 GaveFromC (add-refused c night n r p) b v = GaveFromC c b v
+GaveFromC (mend-refused c recording marks marks′ kept first kept′ first′ n r p) b v = GaveFromC c b v
+GaveFromC (mend-marks-refused c recording mended mended′ kept first kept′ first′ n r p) b v = GaveFromC c b v
 
 -- whatever a board was given was its part of the event
 abbrev pub GivenByC : {s t : List ℕ} → List ℕ → Event → CalledFromC s t → Type 0

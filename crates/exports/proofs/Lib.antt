@@ -3,3 +3,4 @@ pub mod Values
 pub mod Determined
 pub mod PrintedBack
 pub mod Nights
+pub mod Recordings

@@ -43,16 +43,16 @@ module _ (lengths : Bool) (s : List ℕ) (answer : Said) where
       says-all e = behind ∙ order-ok 4 (headerOk s) last answer h ∙ order-ok 20 (agree (recordsIn s)) [] answer e ∙ order-done answer
 
   -- ---- accepted
-  pub record Passed : Type 0 where
+  pub record AllPassed : Type 0 where
     pub total : totalOk s ≡ true
     pub lengths-ok : lengths ≡ true
     pub header : headerOk s ≡ true
     pub agrees : agree (recordsIn s) ≡ true
 
-  pub passed : saysOf .number ≡ 0 → Passed
+  pub passed : saysOf .number ≡ 0 → AllPassed
   passed z = go (both (totalOk s) lengths) refl (headerOk s) refl (agree (recordsIn s)) refl
     where
-      go : (a : Bool) → both (totalOk s) lengths ≡ a → (b : Bool) → headerOk s ≡ b → (c : Bool) → agree (recordsIn s) ≡ c → Passed
+      go : (a : Bool) → both (totalOk s) lengths ≡ a → (b : Bool) → headerOk s ≡ b → (c : Bool) → agree (recordsIn s) ≡ c → AllPassed
       go true d true e true f = record { total = both-0 _ _ d; lengths-ok = both-1 _ _ d; header = e; agrees = f }
       go false d b e c f = let y = sym (ap (λ (x : Said). x .number) (says-1 d)) ∙ z in absurd (omega arith)
       go true d false e c f = let y = sym (ap (λ (x : Said). x .number) (says-4 (both-0 _ _ d) (both-1 _ _ d) e)) ∙ z in absurd (omega arith)

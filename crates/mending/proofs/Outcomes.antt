@@ -28,7 +28,7 @@ use Rattle.inspecting.specs.Looked.{LooksOver}
 use Rattle.inspecting.proofs.Fits.{header-long}
 use Rattle.inspecting.proofs.Looking.{looked-clash}
 use Rattle.inspecting.proofs.Checks.{says-1, says-4, says-20, says-all}
-use Rattle.sifting.specs.declared.Counts.{Counts}
+use Rattle.sifting.specs.declared.KeptCounts.{KeptCounts}
 use Rattle.sifting.specs.Sifted.{SiftAsk, Sifts}
 use Rattle.mending.specs.declared.MendAnswer.the-variants.{Refused, Mended}
 use Rattle.mending.specs.Mend.{mendRoomOk, mendSays, mendedFor, Mends, MendReady}
@@ -113,7 +113,7 @@ module _ {s mended marks : List ℕ} (r : MendReady s mended marks) where
       says-all _ s (toldMend s) (r .total) (both-true _ _ (eq-eqb (length mended) (length s) (r .room)) (eq-eqb (length marks) (countIn s) (r .list))) (r .header)
       (agree-all (recordIn s) (countIn s) (r .clear))
 
-  pub header-ask : Bytes s → {out marks′ : List ℕ} {c : Counts} → Sifts s (tail recordsAt mended) out marks′ (length marks) c → length out ≡ length (tail recordsAt mended)
+  pub header-ask : Bytes s → {out marks′ : List ℕ} {c : KeptCounts} → Sifts s (tail recordsAt mended) out marks′ (length marks) c → length out ≡ length (tail recordsAt mended)
       → (recordsAt ≤ length (tailAs recordsAt mended out)) × (recordingLength (c .kept) < 2 ^ 32)
   unfolding totalOk
   header-ask b {out} {marks′} {c} t long =
@@ -124,7 +124,7 @@ module _ {s mended marks : List ℕ} (r : MendReady s mended marks) where
       let top = leAt-less s 8 4 b in
       (omega arith, omega arith)
 
-  module _ {out marks′ mended′ : List ℕ} {c : Counts} (t : Sifts s (tail recordsAt mended) out marks′ (length marks) c)
+  module _ {out marks′ mended′ : List ℕ} {c : KeptCounts} (t : Sifts s (tail recordsAt mended) out marks′ (length marks) c)
       (h : mended′ ≡ headerOf (c .kept) ++ drop recordsAt (tailAs recordsAt mended out)) where
     -- the records of the recording, by the number of marks
     same : listed (recordIn s) (length marks) ≡ recordsIn s

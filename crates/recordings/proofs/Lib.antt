@@ -4,3 +4,4 @@ pub mod Twice
 pub mod Stretch
 pub mod Places
 pub mod Bytes
+pub mod Worked

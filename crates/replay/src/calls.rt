@@ -3,9 +3,11 @@ use answers::Outcome;
 use capturing::CaptureAnswer;
 use central::CentralAnswer;
 use cursor::TextCursor;
+use mending::MendAnswer;
 use parsing::ParseAnswer;
 use printing::PrintAnswer;
 use reporting::ReportAnswer;
+use requests::BYTES_MOST;
 use requests::RUNS_BYTES_MOST;
 use requests::header::ADD;
 use requests::header::ASK;
@@ -13,17 +15,21 @@ use requests::header::CAPTURE;
 use requests::header::CENTRAL;
 use requests::header::CLOSE;
 use requests::header::LOAD;
+use requests::header::MEND;
 use requests::header::PARSE;
 use requests::header::PRINT;
 use requests::header::READ;
 use requests::header::REPORT;
 use requests::header::SAMPLE;
 use requests::header::STEP;
+use requests::header::STRETCH;
 use requests::header::WRITE;
+use requests::lent;
 use requests::line::Answered;
 use requests::payload;
 use rules::ReadAnswer;
 use rules::WriteAnswer;
+use stretching::StretchAnswer;
 use telling::AskAnswer;
 
 fn done() -> Answered {
@@ -176,6 +182,39 @@ fn add(total: &mut [u8], night: &[u8]) -> Answered {
     outcome(adding::add(total, night))
 }
 
+fn mended(answer: MendAnswer) -> Answered {
+    match answer {
+        MendAnswer::Refused(refusal) => Answered::refused(refusal),
+        MendAnswer::Mended(told) => {
+            Answered::accepted(2, told.kept as u64, told.first as u64, 0, 0)
+        }
+    }
+}
+
+fn mend_in(recording: &[u8], out: &mut [u8], marks: &mut [u8]) -> Answered {
+    lent::fill_bytes(marks);
+    let answer = mending::mend(recording, out, marks);
+    mended(answer).with_marks(lent::hash_bytes(marks))
+}
+
+// The marks are lent from a room that is made here. There are never too many of them; the test spares a proof of that.
+fn mend(recording: &[u8], count: u64, out: &mut [u8]) -> Answered {
+    let mut room = [0u8; BYTES_MOST];
+    let n = count as usize;
+    if BYTES_MOST < n {
+        return done();
+    }
+    mend_in(recording, out, &mut room[0..n])
+}
+
+fn stretch(recording: &[u8], events: &mut [u64]) -> Answered {
+    let answer = stretching::stretch(recording, events);
+    match answer {
+        StretchAnswer::Refused(refusal) => Answered::refused(refusal),
+        StretchAnswer::Taken(taken) => Answered::accepted(1, taken as u64, 0, 0, 0),
+    }
+}
+
 pub fn make(
     call: u32,
     value: u64,
@@ -198,6 +237,8 @@ pub fn make(
         CAPTURE => capture(kept, fresh, numbers),
         REPORT => report(given, value, fresh),
         ADD => add(kept, given),
+        MEND => mend(given, value, fresh),
+        STRETCH => stretch(given, numbers),
         _ => poke(kept, given),
     }
 }

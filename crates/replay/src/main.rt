@@ -18,6 +18,13 @@ struct Made {
     keep: bool,
 }
 
+// Fills what is lent and takes what is given: whether that was not cut short.
+fn prepare(call: u32, given: &mut [u8], numbers: &mut [u64], fresh: &mut [u8]) -> bool {
+    lent::fill_masks(numbers);
+    lent::fill_bytes(fresh);
+    payload::take(call, numbers, given)
+}
+
 // Answers a request over the parts that are given and lent.
 fn answer_over(
     call: u32,
@@ -27,9 +34,7 @@ fn answer_over(
     fresh: &mut [u8],
     kept: &mut [u8],
 ) -> Made {
-    lent::fill_masks(numbers);
-    lent::fill_bytes(fresh);
-    if !payload::take(call, numbers, given) {
+    if !prepare(call, given, numbers, fresh) {
         return Made {
             good: false,
             keep: false,

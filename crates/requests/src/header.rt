@@ -1,4 +1,6 @@
 // The header of a request: which call, and how much is given and lent to it.
+use crate::BYTES_MOST;
+use crate::EVENTS_GIVEN_MOST;
 use crate::FILE_BYTES_MOST;
 use crate::MASKS_MOST;
 use crate::RUNS_BYTES_MOST;
@@ -44,6 +46,10 @@ pub const PRINT: u32 = 12;
 pub const REPORT: u32 = 13;
 
 pub const ADD: u32 = 14;
+
+pub const MEND: u32 = 15;
+
+pub const STRETCH: u32 = 16;
 
 // A board's number is the payload of sample.
 const BOARD_LENGTH: usize = 8;
@@ -111,6 +117,22 @@ fn on_runs(runs: usize, times: usize, fresh: usize) -> Request {
     asked(REPORT, times as u64, 0, runs, fresh, 0)
 }
 
+// The same of a capture of so many events.
+fn on_events(events: usize, second: usize, kept: usize) -> Request {
+    if EVENTS_GIVEN_MOST < events {
+        return none();
+    }
+    asked(CAPTURE, 0, events, 0, second, kept)
+}
+
+// The same of a mend of a recording of so many bytes. The number of marks is the call's value.
+fn on_recording(recording: usize, fresh: usize, marks: usize) -> Request {
+    if BYTES_MOST < marks {
+        return none();
+    }
+    asked(MEND, marks as u64, 0, recording, fresh, 0)
+}
+
 fn request_of(call: u32, a: u32, b: u32, c: u32, v: u64) -> Request {
     match call {
         READ => on_file(READ, a as usize, b as usize, c as usize),
@@ -122,11 +144,13 @@ fn request_of(call: u32, a: u32, b: u32, c: u32, v: u64) -> Request {
         CLOSE => asked(CLOSE, 0, 0, 0, c as usize, b as usize),
         ASK => asked(ASK, 0, 0, 0, 0, b as usize),
         POKE => asked(POKE, 0, 0, a as usize, 0, a as usize + b as usize),
-        CAPTURE => asked(CAPTURE, 0, a as usize, 0, c as usize, b as usize),
+        CAPTURE => on_events(a as usize, c as usize, b as usize),
         PARSE => asked(PARSE, 0, 0, a as usize, c as usize, 0),
         PRINT => asked(PRINT, 0, 0, a as usize, c as usize, 0),
         REPORT => on_runs(a as usize, b as usize, c as usize),
         ADD => asked(ADD, 0, 0, a as usize, 0, b as usize),
+        MEND => on_recording(a as usize, b as usize, c as usize),
+        STRETCH => asked(STRETCH, 0, c as usize, a as usize, 0, 0),
         _ => none(),
     }
 }
@@ -142,8 +166,12 @@ pub fn request_in(header: &[u8; HEADER_LENGTH]) -> Request {
 }
 
 // ---- what is lent to a call, and so hashed behind it
-pub fn lends_masks(call: u32) -> bool {
-    call == READ
+pub fn lends_numbers(call: u32) -> bool {
+    match call {
+        READ => true,
+        STRETCH => true,
+        _ => false,
+    }
 }
 
 pub fn lends_kept(call: u32) -> bool {
@@ -169,8 +197,13 @@ pub fn lends_fresh(call: u32) -> bool {
         PARSE => true,
         PRINT => true,
         REPORT => true,
+        MEND => true,
         _ => false,
     }
+}
+
+pub fn lends_marks(call: u32) -> bool {
+    call == MEND
 }
 
 // What is lent afresh becomes the kept state where the call is accepted.

@@ -16,8 +16,12 @@ pub const FILE_BYTES_MOST: usize = 4096;
 // The most masks that are given or lent.
 pub const MASKS_MOST: usize = 32;
 
-// The most events that are given. Masks have their place where events have theirs.
-pub const EVENTS_MOST: usize = 256;
+// The most events that are given.
+pub const EVENTS_GIVEN_MOST: usize = 256;
+
+// The most events that are lent. Masks have their place where events have theirs, and events that are given where those are that are
+// lent.
+pub const EVENTS_MOST: usize = 1024;
 
 // The most bytes of runs, which are those given, repeated: two runs more than a list may have.
 pub const RUNS_BYTES_MOST: usize = 786456;

@@ -7,7 +7,7 @@ use crate::lent;
 use answers::Refusal;
 
 // What a call has answered: 0 or the refusal's number, and so many values; a refusal has them where bytes are no text, or a run is not
-// known.
+// known. A mend has also the hash of its marks, which stand nowhere else.
 pub struct Answered {
     pub number: u64,
     pub count: usize,
@@ -15,6 +15,7 @@ pub struct Answered {
     pub second: u64,
     pub third: u64,
     pub fourth: u64,
+    pub marks: u64,
 }
 
 impl Answered {
@@ -26,6 +27,7 @@ impl Answered {
             second: second,
             third: third,
             fourth: fourth,
+            marks: 0,
         }
     }
 
@@ -37,6 +39,7 @@ impl Answered {
             second: 0,
             third: 0,
             fourth: 0,
+            marks: 0,
         }
     }
 
@@ -49,6 +52,20 @@ impl Answered {
             second: byte,
             third: 0,
             fourth: 0,
+            marks: 0,
+        }
+    }
+
+    // The same answer, with the hash of the marks.
+    pub fn with_marks(self, marks: u64) -> Answered {
+        Answered {
+            number: self.number,
+            count: self.count,
+            first: self.first,
+            second: self.second,
+            third: self.third,
+            fourth: self.fourth,
+            marks: marks,
         }
     }
 
@@ -61,12 +78,13 @@ impl Answered {
             second: 0,
             third: 0,
             fourth: 0,
+            marks: 0,
         }
     }
 }
 
-// Room for the longest line: eight numbers of 20 digits, each with the space in front of the next or the line feed.
-const LINE: usize = 168;
+// Room for nine numbers of 20 digits, more than any line has, each with the space in front of the next or the line feed.
+const LINE: usize = 189;
 
 // A further field, where it is there: where the line ends behind it.
 fn field_if(line: &mut [u8], at: usize, there: bool, n: u64) -> usize
@@ -92,26 +110,36 @@ fn put_answer(line: &mut [u8], answered: Answered) -> usize
 }
 
 // The hashes of what was lent to the call, and the line feed.
-fn put_hashes(line: &mut [u8], at: usize, call: u32, masks: u64, kept: u64, fresh: u64) -> usize
-    requires { ⌜ (at ≤ 104) × (168 ≤ length (now line)) ⌝ }
-    ensures { λ r. ⌜ r ≤ 168 ⌝ }
+fn put_hashes(
+    line: &mut [u8],
+    at: usize,
+    call: u32,
+    numbers: u64,
+    kept: u64,
+    fresh: u64,
+    marks: u64,
+) -> usize
+    requires { ⌜ (at ≤ 104) × (189 ≤ length (now line)) ⌝ }
+    ensures { λ r. ⌜ r ≤ 189 ⌝ }
 {
-    let a = field_if(line, at, header::lends_masks(call), masks);
+    let a = field_if(line, at, header::lends_numbers(call), numbers);
     let b = field_if(line, a, header::lends_kept(call), kept);
     let c = field_if(line, b, header::lends_fresh(call), fresh);
-    lines::text(line, c, b"\n")
+    let d = field_if(line, c, header::lends_marks(call), marks);
+    lines::text(line, d, b"\n")
 }
 
-pub fn write(call: u32, answered: Answered, masks: &[u64], kept: &[u8], fresh: &[u8]) {
+pub fn write(call: u32, answered: Answered, numbers: &[u64], kept: &[u8], fresh: &[u8]) {
     let mut line = [0u8; LINE];
     let at = put_answer(&mut line, answered);
     let end = put_hashes(
         &mut line,
         at,
         call,
-        lent::hash_masks(masks),
+        lent::hash_masks(numbers),
         lent::hash_bytes(kept),
         lent::hash_bytes(fresh),
+        answered.marks,
     );
     io::write_all(libc::STDOUT_FILENO, &line[0..end]);
 }

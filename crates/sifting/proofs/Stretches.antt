@@ -20,9 +20,9 @@ use Rattle.recordings.specs.Mending.{marksOf, notDropped, beforeBreak, keptOf, 
 use Rattle.recordings.specs.Recording.{recordLength, recordIn, recordBytes}
 use Rattle.recordings.proofs.Places.{whole, whole-all, marks-listed, stretch-whole, stretch-stops}
 use Rattle.recordings.proofs.Bytes.{records-length}
-use Rattle.sifting.specs.declared.Counts.{Counts}
+use Rattle.sifting.specs.declared.KeptCounts.{KeptCounts}
 use Rattle.sifting.specs.declared.Reached.{Reached}
-use Rattle.sifting.specs.Sifted.{keptTo, SiftAsk, Reaches, Sifts}
+use Rattle.sifting.specs.Sifted.{keptTo, SiftAsk, SiftsTo, Sifts}
 use Rattle.sifting.proofs.Turning.{kept-least}
 
 -- what is asked, of lists that keep their lengths
@@ -30,7 +30,7 @@ pub ask-again : {s out out′ marks marks′ : List ℕ} → SiftAsk s out marks
 ask-again a e f = let r = a .room in let o = a .out-room in record { room = omega arith; out-room = omega arith; clear = λ i h. a .clear i (omega arith) }
 
 -- ---- up to the first break
-pub first-reached : {s out marks : List ℕ} {n : ℕ} {r : Reached} → Reaches s out marks n 0 true r → r .kept ≡ length (firstStretch (listed (recordIn s) n))
+pub first-reached : {s out marks : List ℕ} {n : ℕ} {r : Reached} → SiftsTo s out marks n 0 true r → r .kept ≡ length (firstStretch (listed (recordIn s) n))
 first-reached {s} {out} {marks} {n} {r} t = t .sifted .count ∙ ap length (go (ℕ-discrete (r .place) n))
   where
     still : whole (listed (markBy (recordIn s)) (r .place)) ≡ true
@@ -49,7 +49,7 @@ first-reached {s} {out} {marks} {n} {r} t = t .sifted .count ∙ ap length (go (
         ∙ ap (λ (ms : List ℕ). beforeBreak ms (listed (recordIn s) n)) (sym (marks-listed (recordIn s) n))
 
 -- ---- all of them
-pub all-reached : {s out marks : List ℕ} {n from : ℕ} {r : Reached} → Reaches s out marks n from false r → r .place ≡ n
+pub all-reached : {s out marks : List ℕ} {n from : ℕ} {r : Reached} → SiftsTo s out marks n from false r → r .place ≡ n
 all-reached {s} {out} {marks} {n} {from} {r} t = go (ℕ-discrete (r .place) n)
   where
     go : Dec (r .place ≡ n) → r .place ≡ n
@@ -57,7 +57,7 @@ all-reached {s} {out} {marks} {n} {from} {r} t = go (ℕ-discrete (r .place) n)
     go (no e) = let few = t .few in absurd (no-true (t .stops (omega arith) .0))
 
 -- ---- and zeros behind them
-pub sifted : {s out out₁ out₂ cleared marks : List ℕ} {n m f from : ℕ} {r : Reached} → Reaches s out₁ marks m from false r → m ≡ n → f ≡ length (firstStretch (listed (recordIn s) n))
+pub sifted : {s out out₁ out₂ cleared marks : List ℕ} {n m f from : ℕ} {r : Reached} → SiftsTo s out₁ marks m from false r → m ≡ n → f ≡ length (firstStretch (listed (recordIn s) n))
     → length out₁ ≡ length out → length marks ≡ n → recordLength * n ≤ length out
     → cleared ≡ replicate (length (tail (recordLength * r .kept) out₁)) 0 → out₂ ≡ tailAs (recordLength * r .kept) out₁ cleared
     → Sifts s out out₂ marks n (record { kept = r .kept; first = f })

@@ -25,7 +25,7 @@ use Rattle.recordings.proofs.Places.{kept-more, kept-few}
 use Rattle.recordings.proofs.Bytes.{record-length, records-both}
 use Rattle.neighbours.specs.Steps.{markOfStep}
 use Rattle.sifting.specs.declared.Reached.{Reached}
-use Rattle.sifting.specs.Sifted.{keptTo, SiftedTo, NoBreak, Reaches}
+use Rattle.sifting.specs.Sifted.{keptTo, SiftedTo, NoBreak, SiftsTo}
 
 -- ---- a record put
 pub record-put : (out : List ℕ) (at c v : ℕ) → at ≤ length out → {p q : List ℕ} → p ≡ take at out ++ (le 4 c ++ drop (at + 4) out) → q ≡ take (at + 4) p ++ (le 8 v ++ drop (at + 4 + 8) p)
@@ -110,8 +110,8 @@ none-more s {from} {i} {stop} t {mark} m n e f j h b = go (ℕ-discrete j i)
 
 -- ---- its end
 module _ {s out marks : List ℕ} {n from i kept : ℕ} {stop : Bool} (t : SiftedTo s out marks i kept) (none : NoneYet s from i stop) where
-  pub reach-stop : i < n → {mark : ℕ} → mark ≡ markBy (recordIn s) i → both stop (eqb mark broken) ≡ true → Reaches s out marks n from stop (record { place = i; kept = kept })
+  pub reach-stop : i < n → {mark : ℕ} → mark ≡ markBy (recordIn s) i → both stop (eqb mark broken) ≡ true → SiftsTo s out marks n from stop (record { place = i; kept = kept })
   reach-stop h {mark} m e = record { few = omega arith; sifted = t; none = none; stops = λ l. (both-0 _ _ e, sym m ∙ eqb-true mark broken (both-1 stop _ e)) }
 
-  pub reach-end : i ≡ n → Reaches s out marks n from stop (record { place = i; kept = kept })
+  pub reach-end : i ≡ n → SiftsTo s out marks n from stop (record { place = i; kept = kept })
   reach-end e = record { few = omega arith; sifted = t; none = none; stops = λ l. absurd (omega arith) }

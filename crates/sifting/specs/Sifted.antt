@@ -9,7 +9,7 @@ use Rattle.lists.specs.Listed.{listed}
 use Rattle.recordings.specs.Records.{Record, broken}
 use Rattle.recordings.specs.Mending.{marksOf, notDropped, keptOf, firstStretch, markBy, NoClash}
 use Rattle.recordings.specs.Recording.{recordLength, recordingLength, recordIn, recordBytes}
-use Rattle.sifting.specs.declared.Counts.{Counts}
+use Rattle.sifting.specs.declared.KeptCounts.{KeptCounts}
 use Rattle.sifting.specs.declared.Reached.{Reached}
 
 -- there are as many records as marks, none of which clashes, and room for them
@@ -34,7 +34,7 @@ abbrev pub NoBreak : List ℕ → ℕ → Type 0
 NoBreak s i = (j : ℕ) → j < i → markBy (recordIn s) j ≡ broken → ⊥
 
 -- of n records all or, where that is asked, those up to the first break
-pub record Reaches (s out′ marks′ : List ℕ) (n from : ℕ) (stop : Bool) (r : Reached) : Type 0 where
+pub record SiftsTo (s out′ marks′ : List ℕ) (n from : ℕ) (stop : Bool) (r : Reached) : Type 0 where
   pub few : r .place ≤ n
   pub sifted : SiftedTo s out′ marks′ (r .place) (r .kept)
   pub none : stop ≡ true → NoBreak s from → NoBreak s (r .place)
@@ -42,7 +42,7 @@ pub record Reaches (s out′ marks′ : List ℕ) (n from : ℕ) (stop : Bool) (
 
 -- ---- in the end
 -- of n records: how many are kept and in the first stretch, the kept ones and zeros behind them, and the marks
-pub record Sifts (s out out′ marks′ : List ℕ) (n : ℕ) (c : Counts) : Type 0 where
+pub record Sifts (s out out′ marks′ : List ℕ) (n : ℕ) (c : KeptCounts) : Type 0 where
   pub kept : c .kept ≡ length (keptOf (listed (recordIn s) n))
   pub first : c .first ≡ length (firstStretch (listed (recordIn s) n))
   pub few : c .kept ≤ n

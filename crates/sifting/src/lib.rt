@@ -9,12 +9,12 @@ ghost use Rattle.lists.specs.Tests.{pick, both};
 ghost use Rattle.recordings.specs.Records.{dropped, broken};
 ghost use Rattle.neighbours.specs.Steps.{markOfStep};
 ghost use Rattle.recordings.specs.Recording.{recordLength, oneRecord};
-ghost use Rattle.sifting.specs.Sifted.{SiftAsk, SiftedTo, Reaches, Sifts};
+ghost use Rattle.sifting.specs.Sifted.{SiftAsk, SiftedTo, SiftsTo, Sifts};
 use recordings::DROPPED;
 use recordings::RECORD_LENGTH;
 
 // How many records were kept, and how many of these are in the first stretch.
-pub struct Counts {
+pub struct KeptCounts {
     pub kept: usize,
     pub first: usize,
 }
@@ -69,7 +69,7 @@ fn sift_from(
     stop: bool,
 ) -> Reached
     requires { ⌜ SiftAsk (now recording) (now out) (now marks) × SiftedTo (now recording) (now out) (now marks) from had × (from ≤ length (now marks)) ⌝ }
-    ensures { λ r. ⌜ Reaches (now (recording .entry)) (now (out .exit)) (now (marks .exit)) (length (now (marks .entry))) from stop r ⌝ }
+    ensures { λ r. ⌜ SiftsTo (now (recording .entry)) (now (out .exit)) (now (marks .exit)) (length (now (marks .entry))) from stop r ⌝ }
 {
     let n = marks.len();
     let mut before = neighbours::before_at(recording, from, n);
@@ -100,7 +100,7 @@ fn sift_from(
 
 // Puts the marks of all records, the kept records to the front of `out`, and zeros behind them. The first stretch is gone through on its
 // own, so that the other records need not be asked whether they belong to it.
-pub fn sift(recording: &[u8], out: &mut [u8], marks: &mut [u8]) -> Counts
+pub fn sift(recording: &[u8], out: &mut [u8], marks: &mut [u8]) -> KeptCounts
     requires { ⌜ SiftAsk (now recording) (now out) (now marks) ⌝ }
     ensures { λ r. ⌜ Sifts (now (recording .entry)) (now (out .entry)) (now (out .exit)) (now (marks .exit)) (length (now (marks .entry))) r ⌝ }
 {
@@ -108,7 +108,7 @@ pub fn sift(recording: &[u8], out: &mut [u8], marks: &mut [u8]) -> Counts
     let all = sift_from(recording, first.place, first.kept, out, marks, false);
     let end = RECORD_LENGTH * all.kept;
     buffers::clear(&mut out[end..]);
-    Counts {
+    KeptCounts {
         kept: all.kept,
         first: first.kept,
     }

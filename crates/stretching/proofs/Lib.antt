@@ -3,3 +3,4 @@ pub mod Gathering
 pub mod Clearing
 pub mod Outcomes
 pub mod Determined
+pub mod Mended

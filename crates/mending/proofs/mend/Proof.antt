@@ -12,7 +12,10 @@ use borrow.Author.Needs.{needs}
 use Rattle.mending.proofs.mend.Statement.{statement}
 use Rattle.mending.proofs.mend.Tie as tie
 
--- ---- from behind each check back to the one before it
+-- ---- from behind each check back to the one before it, and to the entry
+abbrev entry : tie.Else1 → tie.Start
+entry c = c .before .before .before .before .before
+
 abbrev second : tie.Else3 → tie.Else2
 second c = c .before .before
 
@@ -23,10 +26,10 @@ abbrev fourth : tie.After-mend-ready-arg2 → tie.Else5
 fourth c = c .before .before
 
 -- ---- what a check that was passed has told
-total : (c : tie.Else1) → totalOk (c .before .before .before .before .before .args .recording .now) ≡ true
+total : (c : tie.Else1) → totalOk (entry c .args .recording .now) ≡ true
 total c = sym (c .before .total-fits .ensures) ∙ not-false _ (c .if1 .left)
 
-header : (c : tie.Else4) → headerOk (c .before .before .before .before .before .before .before .before .before .before .args .recording .now) ≡ true
+header : (c : tie.Else4) → headerOk (entry (second (third c) .before) .args .recording .now) ≡ true
 header c = sym (c .before .header-fits .ensures) ∙ not-false _ (c .if4 .left)
 
 pub mend-spec : {M : Type 1} → statement M

@@ -11,11 +11,21 @@ use borrow.Author.Needs.{needs}
 use Rattle.stretching.proofs.stretch.Statement.{statement}
 use Rattle.stretching.proofs.stretch.Tie as tie
 
+-- ---- from behind each check back to the one before it, and to the entry
+abbrev entry : tie.Else1 → tie.Start
+entry c = c .before .before .before .before
+
+abbrev first : tie.Else2 → tie.Else1
+first c = c .before .before
+
+abbrev second : tie.Else3 → tie.Else2
+second c = c .before .before
+
 -- ---- what a check that was passed has told
-total : (c : tie.Else1) → totalOk (c .before .before .before .before .args .recording .now) ≡ true
+total : (c : tie.Else1) → totalOk (entry c .args .recording .now) ≡ true
 total c = sym (c .before .total-fits .ensures) ∙ not-false _ (c .if1 .left)
 
-header : (c : tie.Else3) → headerOk (c .before .before .before .before .before .before .before .before .args .recording .now) ≡ true
+header : (c : tie.Else3) → headerOk (entry (first (second c)) .args .recording .now) ≡ true
 header c = sym (c .before .header-fits .ensures) ∙ not-false _ (c .if3 .left)
 
 pub stretch-spec : {M : Type 1} → statement M

@@ -1,0 +1,32 @@
+-- A watch of a recording by the calls from C, as in crates/demand: mended, its stretch taken, and the events captured, each answering 0. The
+-- verdict that is stored is that of one place for events of the recording's first stretch alone, as many as were closed (`c-recorded-verdict`),
+-- and the third demand holds of the state (`c-recorded-demanded`). Assumes nothing.
+use mathlib.Core.Path.{_≡_, ap, _∙_, subst}
+use mathlib.Core.List.{List, _++_}
+use Prim.Native.Nat.{ℕ}
+use lib.ListN.{take}
+use Rattle.le.proofs.Laws.{Bytes}
+use Rattle.answers.specs.Said.{verdictNumber}
+use Rattle.ltl.specs.Meaning.{Event}
+use Rattle.recordings.specs.Mending.{firstEvents}
+use Rattle.recordings.specs.Recording.{recordingLength, recordsIn}
+use Rattle.stretching.proofs.Mended.{mended-taken}
+use Rattle.exports.specs.Exported.{CaptureExported, MendExported, StretchExported}
+use Rattle.exports.proofs.Recordings.{mend-from-c, stretch-from-c}
+use Rattle.demand.specs.Claims.{standing}
+use Rattle.demand_c.specs.FromC.{WatchedFromC}
+use Rattle.demand_c.specs.Demanded.{DemandedFromC}
+use Rattle.demand_c.proofs.Captured.{c-captured-demanded, c-captured-verdict}
+
+module _ {file : List ℕ} {us : List Event} {s : List ℕ} (w : WatchedFromC file us s) {recording mended marks mended′ marks′ : List ℕ} {k f kept first : ℕ}
+    (x : MendExported recording mended marks mended′ marks′ k f kept first 0) (b : Bytes recording) {events events′ : List ℕ} {g taken : ℕ}
+    (y : StretchExported (take (recordingLength kept) mended′) events events′ g taken 0) {second s′ second′ : List ℕ} {count verdict stop count′ verdict′ stop′ : ℕ}
+    (z : CaptureExported s second (take taken events′) s′ second′ count verdict stop count′ verdict′ stop′ 0) where
+  these : take taken events′ ≡ firstEvents (recordsIn recording)
+  these = mended-taken (mend-from-c x) b (stretch-from-c y)
+
+  pub c-recorded-verdict : verdict′ ≡ verdictNumber (standing file (us ++ take count′ (firstEvents (recordsIn recording))) s′ .verdict)
+  c-recorded-verdict = c-captured-verdict w z ∙ ap (λ (l : List ℕ). verdictNumber (standing file (us ++ take count′ l) s′ .verdict)) these
+
+  pub c-recorded-demanded : DemandedFromC file (us ++ take count′ (firstEvents (recordsIn recording))) s′
+  c-recorded-demanded = subst (λ (l : List ℕ). DemandedFromC file (us ++ take count′ l) s′) these (c-captured-demanded w z)
