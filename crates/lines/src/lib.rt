@@ -38,7 +38,7 @@ pub fn field(line: &mut [u8], at: usize, n: u64) -> usize
 }
 
 // A further field that is a verdict.
-fn verdict(line: &mut [u8], at: usize, verdict: Verdict) -> usize
+pub fn verdict(line: &mut [u8], at: usize, verdict: Verdict) -> usize
     requires { ⌜ at + 8 ≤ length (now line) ⌝ }
     ensures { λ r. ⌜ Adds (verdictText verdict) (now (line .entry)) at (now (line .exit)) r × (r ≤ at + 8) ⌝ }
 {

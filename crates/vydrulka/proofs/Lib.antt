@@ -1,2 +1,3 @@
 -- Laws of what the calls answer.
 pub mod Few
+pub mod Mended

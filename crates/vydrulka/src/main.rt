@@ -3,9 +3,13 @@
 // was accepted; all else goes to standard error, and its last line says what came of it.
 mod input;
 mod output;
+mod recording;
+mod rule_file;
+mod word_mend;
 mod word_report;
 mod word_rule;
 mod word_text;
+mod word_watch;
 
 use tables::Sheet;
 
@@ -18,6 +22,8 @@ enum Word {
     Text,
     Report,
     Csv,
+    Mend,
+    Watch,
     Unknown,
 }
 
@@ -34,6 +40,12 @@ fn word_in(arg: &[u8]) -> Word {
     if check::same(arg, b"csv") {
         return Word::Csv;
     }
+    if check::same(arg, b"mend") {
+        return Word::Mend;
+    }
+    if check::same(arg, b"watch") {
+        return Word::Watch;
+    }
     Word::Unknown
 }
 
@@ -47,6 +59,8 @@ fn main() {
         Word::Text => word_text::run(count),
         Word::Report => word_report::run(count, Sheet::Table),
         Word::Csv => word_report::run(count, Sheet::Values),
+        Word::Mend => word_mend::run(count),
+        Word::Watch => word_watch::run(count),
         Word::Unknown => output::usage(),
     }
 }

@@ -3,10 +3,14 @@
 ghost use Prim.Native.Nat.{_≤_};
 ghost use lib.ListN.{length};
 use answers::Refusal;
+use answers::Verdict;
 use cursor::TextCursor;
+use lines::LINE;
 use pointing::POINT_ROOM;
 use wording::accepted;
 use wording::accepted::ACCEPTED_ROOM;
+use wording::recorded;
+use wording::recorded::RECORDED_ROOM;
 use wording::refusals;
 use wording::refusals::REFUSAL_ROOM;
 
@@ -17,12 +21,18 @@ fn tell(bytes: &[u8]) {
 
 // Every word with its arguments.
 pub fn usage() {
-    tell(b"usage: vydrulka rule TEXT BOARD..   writes the rule file of the rule typed in TEXT\n");
-    tell(b"       vydrulka text RULE           prints the text and the boards of a rule file\n");
     tell(
-        b"       vydrulka report NIGHT..      prints the report of some nights' runs as a table\n",
+        b"usage: vydrulka rule TEXT BOARD..      writes the rule file of the rule typed in TEXT\n",
     );
-    tell(b"       vydrulka csv NIGHT..         prints it as comma-separated values\n");
+    tell(b"       vydrulka text RULE              prints the text and the boards of a rule file\n");
+    tell(
+        b"       vydrulka report NIGHT..         prints the report of some nights' runs as a table\n",
+    );
+    tell(b"       vydrulka csv NIGHT..            prints it as comma-separated values\n");
+    tell(
+        b"       vydrulka mend RECORDING         writes the recording without its doubled records\n",
+    );
+    tell(b"       vydrulka watch RULE RECORDING   watches the recording up to its first break\n");
     tell(
         b"A file named - is standard input. A board is its propositions, as p0,p2, or - for none.\n",
     );
@@ -51,6 +61,35 @@ pub fn report(runs: u64, rules: u64, nights: u64) {
     tell(&line[0..end]);
 }
 
+// The result is the line of a watch: whether it was written.
+pub fn standing(ticks: u64, verdict: Verdict, slots: u64, nodes: u64) -> bool {
+    let mut line = [0u8; LINE];
+    let end = lines::standing(&mut line, ticks, verdict, slots, nodes);
+    result(&line[0..end])
+}
+
+// ---- recordings
+// A break, by the record behind it.
+pub fn put_break(place: u64, before: u64, counter: u64) {
+    let mut line = [0u8; RECORDED_ROOM];
+    let end = recorded::put_break(&mut line, place, before, counter);
+    tell(&line[0..end]);
+}
+
+// A recording was mended.
+pub fn recording(records: u64, kept: u64, dropped: u64, breaks: u64, first: u64) {
+    let mut line = [0u8; RECORDED_ROOM];
+    let end = recorded::recording(&mut line, records, kept, dropped, breaks, first);
+    tell(&line[0..end]);
+}
+
+// Its first stretch was watched.
+pub fn watched(closed: u64, ticks: u64, verdict: Verdict) {
+    let mut line = [0u8; RECORDED_ROOM];
+    let end = recorded::watched(&mut line, closed, ticks, verdict);
+    tell(&line[0..end]);
+}
+
 // ---- refusals
 // A refusal, in words.
 pub fn refused(refusal: Refusal, words: &[u8])
@@ -74,6 +113,22 @@ pub fn refused_file(refusal: Refusal, name: &[u8], words: &[u8])
 pub fn no_run(name: &[u8], place: u64, rule: u64, verdict: u64) {
     let mut line = [0u8; REFUSAL_ROOM];
     let end = refusals::no_run(&mut line, name, place, rule, verdict);
+    tell(&line[0..end]);
+}
+
+// Two records of a recording that clash.
+pub fn clash(name: &[u8], place: u64) {
+    let mut line = [0u8; REFUSAL_ROOM];
+    let end = refusals::clash(&mut line, name, place);
+    tell(&line[0..end]);
+}
+
+// An event of the first stretch that is refused.
+pub fn refused_event(refusal: Refusal, place: u64, words: &[u8])
+    requires { ⌜ length (now words) ≤ 100 ⌝ }
+{
+    let mut line = [0u8; REFUSAL_ROOM];
+    let end = refusals::refused_event(&mut line, refusal, place, words);
     tell(&line[0..end]);
 }
 
@@ -107,4 +162,9 @@ pub fn failed(doing: &[u8], name: &[u8])
 // A text that there is no room for.
 pub fn too_long() {
     tell(b"failed read: a text of more than 1,048,576 bytes\n");
+}
+
+// A recording that there is no room for.
+pub fn too_many_records() {
+    tell(b"failed read: a recording of more than 100,000 records\n");
 }

@@ -8,7 +8,6 @@ ghost use Rattle.reports.specs.Bytes.{reportLength};
 use crate::input;
 use crate::output;
 use answers::Outcome;
-use answers::Refusal;
 use files::FileAnswer;
 use reporting::ReportAnswer;
 use reports::REPORT_LENGTH;
@@ -22,16 +21,7 @@ const NIGHTS_AT: usize = 2;
 // One byte more than the longest night, so that a longer one is refused by its length and never cut.
 const NIGHT_ROOM: usize = 786433;
 
-// ---- a night that is refused: its name is asked for again
-fn refused(night: usize, refusal: Refusal, words: &[u8])
-    requires { ⌜ length (now words) ≤ 80 ⌝ }
-{
-    let mut name = io::buffer();
-    let n = os::arg(night, &mut name);
-    output::refused_file(refusal, &name[0..n], words);
-}
-
-// The run at this place cannot be counted: the numbers that stand there are told.
+// The run at this place cannot be counted: the numbers that stand there are told. The night's name is asked for again.
 fn no_run(night: usize, runs: &[u8], place: usize)
     requires { ⌜ runLength * place + runLength ≤ length (now runs) ⌝ }
 {
@@ -49,7 +39,7 @@ fn add_report(night: usize, total: &mut [u8], report: &[u8]) -> bool {
     let outcome = adding::add(total, report);
     match outcome {
         Outcome::Refused(refusal) => {
-            refused(night, refusal, b"more than 65,536 runs together");
+            input::refused(night, refusal, b"more than 65,536 runs together");
             false
         }
         Outcome::Done => true,
@@ -62,7 +52,7 @@ fn add_runs(night: usize, total: &mut [u8], runs: &[u8]) -> bool {
     let answer = reporting::report(runs, &mut report);
     match answer {
         ReportAnswer::Refused(refusal) => {
-            refused(night, refusal, b"not whole runs, or more than 65,536");
+            input::refused(night, refusal, b"not whole runs, or more than 65,536");
             false
         }
         ReportAnswer::NoRun(place) => {

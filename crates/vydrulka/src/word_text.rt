@@ -5,7 +5,8 @@ ghost use Rattle.limits.specs.Limits.{boardsMost, textLength};
 use crate::input;
 use crate::input::FILE_AT;
 use crate::output;
-use answers::Refusal;
+use crate::rule_file;
+use crate::rule_file::FILE_ROOM;
 use files::FileAnswer;
 use limits::BOARDS_MOST;
 use limits::RULE_NODES_MOST;
@@ -17,23 +18,8 @@ use wording::accepted;
 // How many arguments there are: the program's name, the word and the file.
 const ARGUMENTS: usize = 3;
 
-// One byte more than the longest file, so that a longer one is refused by its length.
-const FILE_ROOM: usize = 1169;
-
 // Room for the text, a line feed and the lines of sixteen boards, of 285 bytes each.
 const PAGE: usize = 12753;
-
-// A rule file that `read` refuses. What it has accepted is always printed.
-fn refused(refusal: Refusal) {
-    match refusal {
-        Refusal::Length => output::refused(refusal, b"wrong length"),
-        Refusal::Version => output::refused(refusal, b"unknown version"),
-        Refusal::Range => output::refused(refusal, b"count out of range"),
-        Refusal::Offset => output::refused(refusal, b"wrong offset"),
-        Refusal::Masks => output::refused(refusal, b"masks do not fit"),
-        _ => output::refused(refusal, b"not a formula"),
-    }
-}
 
 // Puts a line for each board behind the text, which stands in front of the page, and writes the page.
 fn finish(masks: &[u64], page: &mut [u8], length: usize)
@@ -44,13 +30,13 @@ fn finish(masks: &[u64], page: &mut [u8], length: usize)
     output::result(&page[0..end]);
 }
 
-// Prints the formula to the front of the page.
+// Prints the formula to the front of the page. What `read` has accepted is always printed.
 fn print_into(masks: &[u64], formula: &[u8], page: &mut [u8])
     requires { do ⌜ ((← ⟦page.len()⟧) ≡ (← ⟦PAGE⟧)) × ((← ⟦masks.len()⟧) ≤ boardsMost) ⌝ }
 {
     let answer = printing::print(formula, &mut page[0..TEXT_LENGTH]);
     match answer {
-        PrintAnswer::Refused(refusal) => refused(refusal),
+        PrintAnswer::Refused(refusal) => rule_file::refused(refusal, b""),
         PrintAnswer::Printed(length) => finish(masks, page, length),
     }
 }
@@ -69,7 +55,7 @@ fn read(file: &[u8]) {
     let mut formula = [0u8; RULE_NODES_MOST];
     let answer = reading::read(file, &mut masks, &mut formula);
     match answer {
-        ReadAnswer::Refused(refusal) => refused(refusal),
+        ReadAnswer::Refused(refusal) => rule_file::refused(refusal, b""),
         ReadAnswer::Rule(counts) => {
             let boards = counts.boards as usize;
             let nodes = counts.nodes as usize;

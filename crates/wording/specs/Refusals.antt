@@ -52,6 +52,23 @@ abbrev pub noRun : List ℕ → ℕ → ℕ → ℕ → List ℕ
 noRun name place rule verdict =
     aboutRun name place ++ ((58 ∷ 32 ∷ 114 ∷ 117 ∷ 108 ∷ 101 ∷ []) ++ (fieldOf rule ++ ((44 ∷ 32 ∷ 118 ∷ 101 ∷ 114 ∷ 100 ∷ 105 ∷ 99 ∷ 116 ∷ []) ++ (fieldOf verdict ++ feed))))
 
+-- "refused 20: FILE: record P: the counter of the one before and another event"
+abbrev pub clashLine : List ℕ → ℕ → List ℕ
+clashLine name place =
+    aboutFile refusal.Clash name
+    ++ ((58 ∷ 32 ∷ 114 ∷ 101 ∷ 99 ∷ 111 ∷ 114 ∷ 100 ∷ [])
+    ++ (fieldOf place
+    ++ (58 ∷ 32 ∷ 116 ∷ 104 ∷ 101 ∷ 32 ∷ 99 ∷ 111 ∷ 117 ∷ 110 ∷ 116 ∷ 101 ∷ 114 ∷ 32 ∷ 111 ∷ 102 ∷ 32 ∷ 116 ∷ 104 ∷ 101 ∷ 32 ∷ 111 ∷ 110 ∷ 101 ∷ 32 ∷ 98 ∷ 101 ∷ 102 ∷ 111 ∷ 114 ∷ 101 ∷ 32 ∷ 97 ∷ 110 ∷ 100 ∷ 32 ∷ 97 ∷ 110 ∷ 111 ∷ 116 ∷ 104 ∷ 101 ∷ 114 ∷ 32 ∷ 101 ∷ 118 ∷ 101 ∷ 110 ∷ 116 ∷ 10 ∷ [])))
+
+-- "refused N: event P of the first stretch: words"
+abbrev pub refusedEvent : Refusal → ℕ → List ℕ → List ℕ
+refusedEvent why place words =
+    refusedText why
+    ++ ((58 ∷ 32 ∷ 101 ∷ 118 ∷ 101 ∷ 110 ∷ 116 ∷ [])
+    ++ (fieldOf place
+    ++ ((32 ∷ 111 ∷ 102 ∷ 32 ∷ 116 ∷ 104 ∷ 101 ∷ 32 ∷ 102 ∷ 105 ∷ 114 ∷ 115 ∷ 116 ∷ 32 ∷ 115 ∷ 116 ∷ 114 ∷ 101 ∷ 116 ∷ 99 ∷ 104 ∷ 58 ∷ 32 ∷ [])
+    ++ (words ++ feed))))
+
 -- "refused: board N: "ARG" is not a list of propositions"
 abbrev pub noBoard : ℕ → List ℕ → List ℕ
 noBoard board arg =

@@ -10,7 +10,7 @@ use spelling::shown;
 pub const ACCEPTED_ROOM: usize = 128;
 
 // Puts a number of things, of which the noun is for one.
-fn put_counted(line: &mut [u8], at: usize, n: u64, noun: &[u8]) -> usize
+pub fn put_counted(line: &mut [u8], at: usize, n: u64, noun: &[u8]) -> usize
     requires { ⌜ at + (22 + length (now noun)) ≤ length (now line) ⌝ }
     ensures { λ r. ⌜ Adds (countedText n (now (noun .entry))) (now (line .entry)) at (now (line .exit)) r × (r ≤ at + (22 + length (now (noun .entry)))) ⌝ }
 {

@@ -3,7 +3,7 @@ ghost use mathlib.Core.Path.{_≡_};
 ghost use Prim.Native.Nat.{_+_, _≤_};
 ghost use lib.ListN.{length};
 ghost use Rattle.lines.specs.Lines.{Adds, Line};
-ghost use Rattle.wording.specs.Refusals.{refusedText, refusedWords, noRule, shownMost, shownName, aboutFile, aboutMost, refusedFile, aboutRun, noRun, noBoard, failedText};
+ghost use Rattle.wording.specs.Refusals.{refusedText, refusedWords, noRule, shownMost, shownName, aboutFile, aboutMost, refusedFile, aboutRun, noRun, clashLine, refusedEvent, noBoard, failedText};
 use answers::Refusal;
 use pointing::least;
 use pointing::shown;
@@ -97,6 +97,34 @@ pub fn no_run(line: &mut [u8], name: &[u8], place: u64, rule: u64, verdict: u64)
     let c = lines::field(line, b, rule);
     let d = lines::text(line, c, b", verdict");
     let e = lines::field(line, d, verdict);
+    lines::text(line, e, b"\n")
+}
+
+// Two records of a recording that clash, with the place of the second.
+pub fn clash(line: &mut [u8], name: &[u8], place: u64) -> usize
+    requires { do ⌜ (← ⟦line.len()⟧) ≡ (← ⟦REFUSAL_ROOM⟧) ⌝ }
+    ensures { λ r. ⌜ Line (clashLine (now (name .entry)) place) (now (line .exit)) r ⌝ }
+{
+    let a = put_about(line, Refusal::Clash, name);
+    let b = lines::text(line, a, b": record");
+    let c = lines::field(line, b, place);
+    lines::text(
+        line,
+        c,
+        b": the counter of the one before and another event\n",
+    )
+}
+
+// An event that is refused, with its place in the first stretch, in words.
+pub fn refused_event(line: &mut [u8], refusal: Refusal, place: u64, words: &[u8]) -> usize
+    requires { ⌜ 80 + length (now words) ≤ length (now line) ⌝ }
+    ensures { λ r. ⌜ Line (refusedEvent refusal place (now (words .entry))) (now (line .exit)) r ⌝ }
+{
+    let a = put_number(line, refusal);
+    let b = lines::text(line, a, b": event");
+    let c = lines::field(line, b, place);
+    let d = lines::text(line, c, b" of the first stretch: ");
+    let e = lines::text(line, d, words);
     lines::text(line, e, b"\n")
 }
 

@@ -1,0 +1,2 @@
+-- What the contracts of `vydrulka` cite.
+pub mod Rooms
