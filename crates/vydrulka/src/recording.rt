@@ -90,8 +90,8 @@ fn count_of(recording: &[u8]) -> usize {
     0
 }
 
-// Mends what was read. More records than there is room for would need more bytes than there are, so their number does not agree with the
-// header's total; `mend` would have to be lent that many marks to say so.
+// Mends what was read. The bytes are no more than there is room for, so a header with more records than that has numbers that do not
+// agree. `mend` would say so where it is lent as many marks, and there is no room for those.
 fn mend_read(i: usize, recording: &[u8], mended: &mut [u8], marks: &mut [u8]) -> RecordingAnswer
     requires { ⌜ length (now marks) ≡ recordsMost ⌝ }
     ensures { λ r. ⌜ CountedTo recordsMost r ⌝ }

@@ -31,7 +31,8 @@ const ARGUMENTS: usize = 4;
 const RECORDING_AT: usize = 3;
 
 // ---- the watch
-// Writes the line of the state that is left, and tells how much of the first stretch was watched.
+// Writes the line of the state that is left, and tells how much of the first stretch was watched. The state comes from `load` or `capture`,
+// so it is never refused.
 fn report(state: &[u8], closed: usize, ticks: usize) {
     let answer = asking::ask(state);
     match answer {
@@ -64,7 +65,7 @@ fn refused_event(refusal: Refusal, place: usize) {
     }
 }
 
-// Watches the events, one a tick.
+// Watches the events, one a tick. The watch goes on, so what is refused is an event and not the call.
 fn capture(state: &mut [u8], second: &mut [u8], events: &[u64]) {
     let answer = capturing::capture(state, second, events);
     match answer {
@@ -102,7 +103,7 @@ fn watch(state: &mut [u8], second: &mut [u8], events: &[u64]) {
 }
 
 // ---- the recording
-// Takes the events of a mended recording.
+// Takes the events of a mended recording, which is never refused.
 fn take_events(state: &mut [u8], second: &mut [u8], mended: &[u8], events: &mut [u64]) {
     let answer = stretching::stretch(mended, events);
     match answer {
