@@ -1,4 +1,5 @@
--- Records by their place. The marks of a list are those at each place (`marks-listed`). Whether a list has a clash, by places (`agree-all`,
+-- Records by their place. The marks of a list are those at each place (`marks-listed`): so the first record is kept (`first-kept`), and each other one is
+-- dropped, and comes after a break, exactly where it does beside the one before it (`dropped-at`, `broken-at`). Whether a list has a clash, by places (`agree-all`,
 -- `agree-at`, `agree-not`). One record more: what is kept then (`kept-more`) and the first stretch (`stretch-more`), as long as no break has come
 -- (`whole`, `whole-more`, `whole-all`); a break ends it (`stretch-stops`), and without one it is all that is kept (`stretch-whole`). How many there are
 -- (`kept-few`, `stretch-few`). Assumes nothing.
@@ -7,14 +8,17 @@ use mathlib.Core.Bool.{Bool, true, false, not}
 use mathlib.Core.List.{List, [], _∷_, _++_}
 use Prim.Native.Nat.{ℕ, zero, suc, _+_, _<_, _≤_}
 use native.Mathlib.Omega.{arith}
-use lib.ListN.{length}
+use lib.ListN.{length, getD}
 use lib.Dec.{eqb}
 use borrow.Author.Tests.{not-true, ne-eqb}
 use Rattle.lists.specs.Tests.{pick, both}
 use Rattle.lists.specs.Listed.{listed}
 use Rattle.lists.proofs.Tests.{no-true, both-0, both-1, both-true}
-use Rattle.recordings.specs.Records.{Record, clashes, kept, dropped, broken, markOf}
+use Rattle.lists.proofs.Listed.{listed-at}
+use Rattle.recordings.specs.Records.{Record, stepFrom, clashes, kept, dropped, broken, markOf}
 use Rattle.recordings.specs.Mending.{marksBehind, marksOf, notDropped, beforeBreak, agreeBehind, agree, markBy, NoClash}
+use Rattle.recordings.specs.Kept.{FitsRecord}
+use Rattle.recordings.proofs.Neighbours.{dropped-where, break-where}
 
 -- ---- marks
 marks-behind : (f : ℕ → Record) (n : ℕ) → marksBehind (f 0) (listed (λ k. f (suc k)) n) ≡ listed (λ k. markOf (f k) (f (suc k))) n
@@ -26,6 +30,28 @@ pub marks-listed : (f : ℕ → Record) (n : ℕ) → marksOf (listed f n) ≡ l
 unfolding marksOf listed markBy
 marks-listed f zero = refl
 marks-listed f (suc n) = ap (kept ∷_) (marks-behind f n)
+
+-- the mark that stands at a place
+mark-at : (f : ℕ → Record) (n i : ℕ) → i < n → getD (marksOf (listed f n)) i 0 ≡ markBy f i
+mark-at f n i h = ap (λ (ms : List ℕ). getD ms i 0) (marks-listed f n) ∙ listed-at 0 (markBy f) n i h
+
+pub first-kept : (f : ℕ → Record) (n : ℕ) → 0 < n → getD (marksOf (listed f n)) 0 0 ≡ kept
+unfolding markBy
+first-kept f n h = mark-at f n 0 h
+
+module _ (f : ℕ → Record) (n i : ℕ) (h : suc i < n) where
+  beside : getD (marksOf (listed f n)) (suc i) 0 ≡ markOf (f i) (f (suc i))
+  unfolding markBy
+  beside = mark-at f n (suc i) h
+
+  pub dropped-at : (getD (marksOf (listed f n)) (suc i) 0 ≡ dropped → (f (suc i) .counter ≡ f i .counter) × (f (suc i) .event ≡ f i .event))
+      × ((f (suc i) .counter ≡ f i .counter) × (f (suc i) .event ≡ f i .event) → getD (marksOf (listed f n)) (suc i) 0 ≡ dropped)
+  dropped-at = let d = dropped-where (f i) (f (suc i)) in (λ e. d .0 (sym beside ∙ e), λ e. beside ∙ d .1 e)
+
+  pub broken-at : FitsRecord (f i)
+      → (getD (marksOf (listed f n)) (suc i) 0 ≡ broken → (stepFrom (f i .counter) (f (suc i) .counter) ≡ 0 → ⊥) × (stepFrom (f i .counter) (f (suc i) .counter) ≡ 1 → ⊥))
+      × ((stepFrom (f i .counter) (f (suc i) .counter) ≡ 0 → ⊥) × (stepFrom (f i .counter) (f (suc i) .counter) ≡ 1 → ⊥) → getD (marksOf (listed f n)) (suc i) 0 ≡ broken)
+  broken-at fits = let d = break-where (f i) (f (suc i)) fits in (λ e. d .0 (sym beside ∙ e), λ e. beside ∙ d .1 e)
 
 -- ---- clashes
 behind-all : (f : ℕ → Record) (n : ℕ) → NoClash f (suc n) → agreeBehind (f 0) (listed (λ k. f (suc k)) n) ≡ true
