@@ -1,7 +1,7 @@
 -- Tests of a record beside the one before it, of one and of four at once, and what is asked and told where records are looked over for a clash.
 -- Assumes nothing: these are definitions.
 use mathlib.Core.Path.{_≡_}
-use mathlib.Core.Bool.{Bool, true, false}
+use mathlib.Core.Bool.{Bool, true}
 use mathlib.Core.List.{List}
 use Prim.Native.Nat.{ℕ, _+_, _-_, _<_, _≤_}
 use lib.ListN.{length}
@@ -41,10 +41,6 @@ pub record ClearTo (s : List ℕ) (i : ℕ) : Type 0 where
   pub clear : NoClash (recordIn s) i
 
 -- ---- what is told
--- none of the four records from i on clashes
-abbrev pub FourClear : List ℕ → ℕ → Bool → Type 0
-FourClear s i r = r ≡ true → anyFour (clashBy (recordIn s)) i ≡ false
-
 -- the first r of n records have no clash, and where these are not all the next one has
 pub record LooksOver (s : List ℕ) (n r : ℕ) : Type 0 where
   pub few : r ≤ n

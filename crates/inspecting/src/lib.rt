@@ -1,11 +1,12 @@
 // Whether bytes are a recording that can be mended: their length, the header's numbers, and that no record clashes with the one before it.
 // Nothing is written here, so that what is refused is left as it was.
 ghost use mathlib.Core.Path.{_≡_};
+ghost use mathlib.Core.Bool.{not};
 ghost use Prim.Native.Nat.{_<_, _≤_, _^_};
 ghost use lib.ListN.{length};
 ghost use Rattle.lists.specs.Tests.{either};
 ghost use Rattle.recordings.specs.Recording.{recordsAt, recordingLength, recordIn, countIn, totalOk, headerOk};
-ghost use Rattle.inspecting.specs.Looked.{sameBy, clashBy, anyFour, BesideAsk, FourAsk, FourClear, ClearTo, LooksOver};
+ghost use Rattle.inspecting.specs.Looked.{sameBy, clashBy, anyFour, BesideAsk, FourAsk, ClearTo, LooksOver};
 use recordings::RECORD_LENGTH;
 use recordings::RECORDS_AT;
 
@@ -99,7 +100,7 @@ fn any_clash(recording: &[u8], i: usize) -> bool
 // Whether none of these four clashes with the one before it. Mostly no two counters are the same, and no event has to be looked at.
 fn four_clear(recording: &[u8], i: usize) -> bool
     requires { ⌜ FourAsk (now recording) i ⌝ }
-    ensures { λ r. ⌜ FourClear (now (recording .entry)) i r ⌝ }
+    ensures { λ r. ⌜ r ≡ not (anyFour (clashBy (recordIn (now (recording .entry)))) i) ⌝ }
 {
     if !any_same(recording, i) {
         return true;

@@ -3,7 +3,7 @@
 use mathlib.Core.Path.{_≡_, refl, sym, ap, _∙_}
 use mathlib.Core.Bool.{Bool, true, false}
 use mathlib.Core.List.{List}
-use Prim.Native.Nat.{ℕ, zero, suc, _+_, _%_, _<_, _^_}
+use Prim.Native.Nat.{ℕ, zero, suc, _+_, _%_, _<_, _≤_, _^_}
 use native.Mathlib.Numerals.{add-one}
 use native.Mathlib.Omega.{arith}
 use lib.Dec.{eqb}
@@ -57,3 +57,12 @@ pub mark-read : (s : List ℕ) (before : ℕ) {n i counter d mark : ℕ} → Byt
     → counter ≡ recordIn s i .counter → d ≡ stepFrom before counter → mark ≡ markOfStep d → mark ≡ markBy (recordIn s) i
 mark-read s before {n} {i} bytes clear h to c e m =
     m ∙ ap markOfStep (e ∙ ap (stepFrom before) c ∙ to) ∙ sym (mark-by-step (recordIn s) n i (λ k. record-fits s k bytes .counter) clear h)
+
+-- a mark keeps one record at most
+pub kept-most : (m : ℕ) {k : ℕ} → k ≡ pick (eqb m dropped) 0 1 → k ≤ 1
+unfolding pick
+kept-most m {k} e = go (eqb m dropped) e
+  where
+    go : (b : Bool) → k ≡ pick b 0 1 → k ≤ 1
+    go true e = omega arith
+    go false e = omega arith

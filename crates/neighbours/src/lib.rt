@@ -3,7 +3,9 @@
 ghost use mathlib.Core.Path.{_≡_};
 ghost use Prim.Native.Nat.{_+_, _<_, _≤_};
 ghost use lib.ListN.{length};
-ghost use Rattle.recordings.specs.Records.{stepFrom};
+ghost use lib.Dec.{eqb};
+ghost use Rattle.lists.specs.Tests.{pick};
+ghost use Rattle.recordings.specs.Records.{stepFrom, dropped};
 ghost use Rattle.recordings.specs.Recording.{recordLength, recordingLength, recordIn};
 ghost use Rattle.neighbours.specs.Steps.{markOfStep, StepsTo, StepsToFirst};
 use recordings::BROKEN;
@@ -66,4 +68,14 @@ pub fn mark_of(step: u32) -> u8
         return KEPT;
     }
     BROKEN
+}
+
+// How many records this mark keeps.
+pub fn kept_by(mark: u8) -> usize
+    ensures { λ r. ⌜ r ≡ pick (eqb mark dropped) 0 1 ⌝ }
+{
+    if mark == DROPPED {
+        return 0;
+    }
+    1
 }

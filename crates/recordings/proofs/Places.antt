@@ -2,8 +2,8 @@
 -- dropped, and comes after a break, exactly where it does beside the one before it (`dropped-at`, `broken-at`). Whether a list has a clash, by places (`agree-all`,
 -- `agree-at`, `agree-not`). One record more: what is kept then (`kept-more`) and the first stretch (`stretch-more`), as long as no break has come
 -- (`whole`, `whole-more`, `whole-all`); a break ends it (`stretch-stops`), and without one it is all that is kept (`stretch-whole`). How many there are
--- (`kept-few`, `stretch-few`). Assumes nothing.
-use mathlib.Core.Path.{_≡_, refl, sym, ap, ap₂, _∙_}
+-- (`kept-few`, `stretch-few`, `kept-count`, `first-count`). Assumes nothing.
+use mathlib.Core.Path.{_≡_, refl, sym, ap, ap₂, _∙_, subst}
 use mathlib.Core.Bool.{Bool, true, false, not}
 use mathlib.Core.List.{List, [], _∷_, _++_}
 use Prim.Native.Nat.{ℕ, zero, suc, _+_, _<_, _≤_}
@@ -16,7 +16,7 @@ use Rattle.lists.specs.Listed.{listed}
 use Rattle.lists.proofs.Tests.{no-true, both-0, both-1, both-true}
 use Rattle.lists.proofs.Listed.{listed-at}
 use Rattle.recordings.specs.Records.{Record, stepFrom, clashes, kept, dropped, broken, markOf}
-use Rattle.recordings.specs.Mending.{marksBehind, marksOf, notDropped, beforeBreak, agreeBehind, agree, markBy, NoClash}
+use Rattle.recordings.specs.Mending.{marksBehind, marksOf, notDropped, beforeBreak, keptOf, firstStretch, agreeBehind, agree, markBy, NoClash}
 use Rattle.recordings.specs.Kept.{FitsRecord}
 use Rattle.recordings.proofs.Neighbours.{dropped-where, break-where}
 
@@ -172,3 +172,10 @@ module _ {A : Type 0} where
       go true e x h = omega arith
       go false true x h = omega arith
       go false false x h = omega arith
+
+-- of all n records
+pub kept-count : (f : ℕ → Record) (n : ℕ) → length (keptOf (listed f n)) ≤ n
+kept-count f n = subst (λ (ms : List ℕ). length (notDropped ms (listed f n)) ≤ n) (sym (marks-listed f n)) (kept-few (markBy f) f n)
+
+pub first-count : (f : ℕ → Record) (n : ℕ) → length (firstStretch (listed f n)) ≤ n
+first-count f n = subst (λ (ms : List ℕ). length (beforeBreak ms (listed f n)) ≤ n) (sym (marks-listed f n)) (stretch-few (markBy f) f n)

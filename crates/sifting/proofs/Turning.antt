@@ -33,15 +33,6 @@ pub record-put : (out : List ℕ) (at c v : ℕ) → at ≤ length out → {p q 
 unfolding oneRecord le
 record-put out at c v h {p} x y = number-put p out (le 4 c) at 4 8 v refl h x y
 
--- a mark keeps one record at most
-pub kept-most : (m : ℕ) {k : ℕ} → k ≡ pick (eqb m dropped) 0 1 → k ≤ 1
-unfolding pick
-kept-most m {k} e = go (eqb m dropped) e
-  where
-    go : (b : Bool) → k ≡ pick b 0 1 → k ≤ 1
-    go true e = omega arith
-    go false e = omega arith
-
 -- ---- the loop
 pub sift-none : (s out marks : List ℕ) → SiftedTo s out marks 0 0
 unfolding listed notDropped recordBytes

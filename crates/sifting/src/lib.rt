@@ -5,12 +5,11 @@ ghost use mathlib.Core.List.{_++_};
 ghost use Prim.Native.Nat.{_+_, _*_, _≤_};
 ghost use lib.ListN.{length, take, drop};
 ghost use lib.Dec.{eqb};
-ghost use Rattle.lists.specs.Tests.{pick, both};
-ghost use Rattle.recordings.specs.Records.{dropped, broken};
+ghost use Rattle.lists.specs.Tests.{both};
+ghost use Rattle.recordings.specs.Records.{broken};
 ghost use Rattle.neighbours.specs.Steps.{markOfStep};
 ghost use Rattle.recordings.specs.Recording.{recordLength, oneRecord};
 ghost use Rattle.sifting.specs.Sifted.{SiftAsk, SiftedTo, SiftsTo, Sifts};
-use recordings::DROPPED;
 use recordings::RECORD_LENGTH;
 
 // How many records were kept, and how many of these are in the first stretch.
@@ -23,16 +22,6 @@ pub struct KeptCounts {
 struct Reached {
     place: usize,
     kept: usize,
-}
-
-// How many records this mark keeps.
-fn kept_by(mark: u8) -> usize
-    ensures { λ r. ⌜ r ≡ pick (eqb mark dropped) 0 1 ⌝ }
-{
-    if mark == DROPPED {
-        return 0;
-    }
-    1
 }
 
 // Whether to stop before a record that this step leads to: at a break, where that is asked.
@@ -88,7 +77,7 @@ fn sift_from(
         let event = neighbours::event_at(recording, i);
         put_record(out, kept, counter, event);
         marks[i] = mark;
-        kept = kept + kept_by(mark);
+        kept = kept + neighbours::kept_by(mark);
         before = counter;
         i += 1;
     }

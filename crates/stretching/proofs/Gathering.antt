@@ -65,13 +65,13 @@ module _ {s events : List ℕ} {i kept : ℕ} (t : GatheredTo s events i kept) w
           ∙ ap (λ (l : List ℕ). l ++ (recordIn s i .event ∷ [])) (t .put)
           ∙ sym (map-append (λ (r : Record). r .event) (firstTo s i) (recordIn s i ∷ []))
 
-      pub gather-more : kept < length events → {event kept′ : ℕ} → event ≡ recordIn s i .event → kept′ ≡ kept + pick (eqb mark dropped) 0 1
-          → GatheredTo s (set events kept event) (i + 1) kept′
-      gather-more h {event} {kept′} e k =
-          rw add-one (record {
-            count = k ∙ ap₂ _+_ (t .count) (sym (pick-ap length (eqb mark dropped) [] (recordIn s i ∷ []))) ∙ sym (ap length first-next ∙ length-append (firstTo s i) _);
+      pub gather-more : kept < length events → {event k : ℕ} → event ≡ recordIn s i .event → k ≡ pick (eqb mark dropped) 0 1
+          → GatheredTo s (set events kept event) (i + 1) (kept + k)
+      gather-more h {event} {k} e z =
+          rw (add-one i) (record {
+            count = ap₂ _+_ (t .count) (z ∙ sym (pick-ap length (eqb mark dropped) [] (recordIn s i ∷ []))) ∙ sym (ap length first-next ∙ length-append (firstTo s i) _);
             still = still-next;
-            put = ap₂ (λ (x y : ℕ). take x (set events kept y)) k e ∙ put-next (eqb mark dropped) h ∙ ap (map (λ (r : Record). r .event)) (sym first-next);
+            put = ap₂ (λ (x y : ℕ). take (kept + x) (set events kept y)) z e ∙ put-next (eqb mark dropped) h ∙ ap (map (λ (r : Record). r .event)) (sym first-next);
           })
 
     -- ---- a break

@@ -17,10 +17,10 @@ use Rattle.answers.specs.Said.{Said, accepted, left}
 use Rattle.answers.proofs.Answers.{left-accepted}
 use Rattle.le.proofs.Laws.{Bytes, leAt-less}
 use Rattle.recordings.specs.Records.{Record}
-use Rattle.recordings.specs.Mending.{marksOf, notDropped, keptOf, firstStretch, firstEvents, agree, markBy}
+use Rattle.recordings.specs.Mending.{marksOf, notDropped, keptOf, firstStretch, firstEvents, agree}
 use Rattle.recordings.specs.Recording.{recordsAt, recordingLength, countIn, offsetIn, totalIn, fourthIn, recordIn, recordsIn, totalOk, headerOk, recordingOf}
 use Rattle.recordings.proofs.Twice.{mended-twice, mended-breaks, mended-agrees, stretch-mended}
-use Rattle.recordings.proofs.Places.{marks-listed, kept-few}
+use Rattle.recordings.proofs.Places.{kept-count}
 use Rattle.recordings.proofs.Bytes.{recording-length, header-read, records-read, records-fit, kept-fit}
 use Rattle.inspecting.proofs.Fits.{header-long}
 use Rattle.inspecting.proofs.Checks.{AllPassed, passed, says-all}
@@ -134,9 +134,7 @@ module _ {s mended marks mended′ marks′ : List ℕ} {m : Mended} (x : Mends 
     few : recordingLength (length (keptOf (recordsIn s))) < 2 ^ 32
     unfolding totalOk
     few =
-        let f = recordIn s in
-        let n = countIn s in
-        let k : length (keptOf (recordsIn s)) ≤ n = subst (λ (ms : List ℕ). length (notDropped ms (recordsIn s)) ≤ n) (sym (marks-listed f n)) (kept-few (markBy f) f n) in
+        let k = kept-count (recordIn s) (countIn s) in
         let w = header-long s (passes .total) (passes .header) in
         let t = eqb-true (totalIn s) (length s) (both-1 _ _ (passes .total)) in
         let top = leAt-less s 8 4 b in

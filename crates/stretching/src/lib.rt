@@ -1,31 +1,16 @@
 // The call `stretch`: the events of a recording's first stretch, one a tick. As in `mend`, every record is looked at before one is written.
 ghost use mathlib.Core.Path.{_≡_};
 ghost use mathlib.Core.List.{_++_};
-ghost use Prim.Native.Nat.{_+_, _-_, _<_, _≤_, _^_};
+ghost use Prim.Native.Nat.{_-_, _≤_};
 ghost use lib.ListN.{length, take, replicate};
-ghost use lib.Dec.{eqb};
-ghost use Rattle.lists.specs.Tests.{pick};
-ghost use Rattle.recordings.specs.Records.{dropped};
 ghost use Rattle.stretching.specs.Stretch.{Stretches, StretchReady, GatherAsk, Gathers};
 use answers::Refusal;
 use recordings::BROKEN;
-use recordings::DROPPED;
 
 // `Taken` has the number of events.
 pub enum StretchAnswer {
     Refused(Refusal),
     Taken(usize),
-}
-
-// How many records are kept behind one more, with this mark.
-fn kept_after(kept: usize, mark: u8) -> usize
-    requires { ⌜ kept + 1 < 2 ^ 64 ⌝ }
-    ensures { λ r. ⌜ r ≡ kept + pick (eqb mark dropped) 0 1 ⌝ }
-{
-    if mark == DROPPED {
-        return kept;
-    }
-    kept + 1
 }
 
 // Puts the events of the first stretch, up to the first break: how many these are. That of a dropped record is put too, and the next one
@@ -45,7 +30,7 @@ fn gather(recording: &[u8], events: &mut [u64]) -> usize
             return kept;
         }
         events[kept] = neighbours::event_at(recording, i);
-        kept = kept_after(kept, mark);
+        kept = kept + neighbours::kept_by(mark);
         before = counter;
         i += 1;
     }

@@ -13,9 +13,9 @@ use Rattle.lists.proofs.Tests.{both-0, both-1}
 use Rattle.answers.specs.declared.Refusal.{Refusal}
 use Rattle.answers.specs.declared.Refusal.the-variants.{Clash}
 use Rattle.answers.specs.Said.{Said}
-use Rattle.recordings.specs.Mending.{keptOf, firstStretch, notDropped, beforeBreak, markBy}
+use Rattle.recordings.specs.Mending.{keptOf, firstStretch}
 use Rattle.recordings.specs.Recording.{recordingLength, countIn, recordIn, recordsIn, totalOk, headerOk}
-use Rattle.recordings.proofs.Places.{marks-listed, kept-few, stretch-few}
+use Rattle.recordings.proofs.Places.{kept-count, first-count}
 use Rattle.inspecting.proofs.Fits.{header-long}
 use Rattle.inspecting.proofs.Checks.{says-1, says-4, says-all, passed}
 use Rattle.mending.specs.declared.Mended.{Mended}
@@ -47,11 +47,6 @@ module _ (s mended marks mended′ marks′ : List ℕ) where
   marks-are : rooms ≡ true → length marks ≡ countIn s
   marks-are e = eqb-true (length marks) (countIn s) (both-1 _ _ e)
 
-  kept-few-of : length (keptOf (recordsIn s)) ≤ countIn s
-  kept-few-of =
-      subst (λ (ms : List ℕ). length (notDropped ms (recordsIn s)) ≤ countIn s) (sym (marks-listed (recordIn s) (countIn s)))
-      (kept-few (markBy (recordIn s)) (recordIn s) (countIn s))
-
   pub kept-within : (a : MendAnswer) (m : Mended) → a ≡ mend.Mended m → Mends s mended marks mended′ marks′ a → m .kept ≤ length marks
   unfolding mendSays number first
   kept-within a m is x =
@@ -60,7 +55,7 @@ module _ (s mended marks mended′ marks′ : List ℕ) where
       let all = says-all rooms s (toldMend s) (p .total) (p .lengths-ok) (p .header) (p .agrees) in
       let e : m .kept ≡ length (keptOf (recordsIn s)) = ap first (w .says ∙ all) in
       let long = marks-are (p .lengths-ok) in
-      let few = kept-few-of in
+      let few = kept-count (recordIn s) (countIn s) in
       omega arith
 
   -- header and length agree before a clash is looked for
@@ -79,11 +74,6 @@ module _ (s mended marks mended′ marks′ : List ℕ) where
 
 -- ---- stretch
 module _ (s events events′ : List ℕ) where
-  stretch-few-of : length (firstStretch (recordsIn s)) ≤ countIn s
-  stretch-few-of =
-      subst (λ (ms : List ℕ). length (beforeBreak ms (recordsIn s)) ≤ countIn s) (sym (marks-listed (recordIn s) (countIn s)))
-      (stretch-few (markBy (recordIn s)) (recordIn s) (countIn s))
-
   pub taken-within : (a : StretchAnswer) (n : ℕ) → a ≡ Taken n → Stretches s events events′ a → n ≤ length events
   unfolding stretchSays number first
   taken-within a n is x =
@@ -93,7 +83,7 @@ module _ (s events events′ : List ℕ) where
       let all = says-all room s (toldStretch s) (p .total) (p .lengths-ok) (p .header) (p .agrees) in
       let e : n ≡ length (firstStretch (recordsIn s)) = ap first (w .says ∙ all) in
       let long = eqb-true (length events) (countIn s) (p .lengths-ok) in
-      let few = stretch-few-of in
+      let few = first-count (recordIn s) (countIn s) in
       omega arith
 
 -- ---- counts

@@ -1,9 +1,9 @@
 -- The records so far have no clash (`ClearTo`), four more a turn; the records left fall. The rest, and four of which one clashes, are looked at one
 -- by one. Assumes nothing.
-use mathlib.Core.Path.{_≡_}
+use mathlib.Core.Path.{_≡_, sym, _∙_}
 use Prim.Native.Nat.{_+_, _-_, _≤_}
 use native.Mathlib.Omega.{arith}
-use borrow.Author.Tests.{not-false}
+use borrow.Author.Tests.{not-true, not-false}
 use Rattle.inspecting.specs.Looked.{ClearTo}
 use Rattle.inspecting.proofs.Looking.{clear-one, clear-four}
 use borrow.Author.Needs.{needs}
@@ -29,6 +29,6 @@ first-clash-spec =
     (λ c. c .clash-from .ensures)
     (λ c. search needs)
     (λ c. let l = c .before .before .loop-test .taken in omega arith)
-    (λ c. let l = c .before .before in let h = l .loop-test .taken in (clear-four (l .before .loop .inv .0) (c .before .four-clear .ensures (not-false _ (c .if1 .left))), omega arith))
+    (λ c. let l = c .before .before in let h = l .loop-test .taken in (clear-four (l .before .loop .inv .0) (not-true _ (sym (c .before .four-clear .ensures) ∙ not-false _ (c .if1 .left))), omega arith))
     (λ c κs. (c .before .loop .inv .0, c .before .before .before .pre))
     (λ c. c .clash-from2 .ensures))

@@ -1,5 +1,6 @@
 -- No counter is the same, so none clashes (`four-clear`), or none does. No loop. Assumes nothing.
-use mathlib.Core.Path.{sym, _∙_}
+use mathlib.Core.Path.{sym, ap, _∙_}
+use mathlib.Core.Bool.{not}
 use borrow.Author.Tests.{not-true}
 use Rattle.recordings.specs.Recording.{recordIn}
 use Rattle.inspecting.proofs.Looking.{four-clear}
@@ -12,6 +13,6 @@ four-clear-spec =
     tie.close
     (tie.spec
     (λ c κs. search needs)
-    (λ c. λ z. let a = c .before .before .before .args in four-clear (recordIn (a .recording .now)) (a .i) (sym (c .before .any-same .ensures) ∙ not-true _ (c .if1 .taken)))
+    (λ c. let a = c .before .before .before .args in sym (ap not (four-clear (recordIn (a .recording .now)) (a .i) (sym (c .before .any-same .ensures) ∙ not-true _ (c .if1 .taken)))))
     (λ c κs. search needs)
-    (λ c. λ z. sym (c .any-clash .ensures) ∙ not-true _ z))
+    (λ c. ap not (c .any-clash .ensures)))

@@ -9,9 +9,9 @@ use Rattle.recordings.specs.Records.{Record}
 use Rattle.recordings.specs.Mending.{markBy}
 use Rattle.recordings.specs.Recording.{recordLength, recordingLength, recordIn}
 use Rattle.neighbours.specs.Steps.{markOfStep, StepsTo}
-use Rattle.neighbours.proofs.Steps.{steps-next, mark-read}
+use Rattle.neighbours.proofs.Steps.{steps-next, mark-read, kept-most}
 use Rattle.sifting.specs.Sifted.{SiftedTo}
-use Rattle.sifting.proofs.Turning.{kept-most, kept-least, sift-more, NoneYet, none-more, reach-stop, reach-end}
+use Rattle.sifting.proofs.Turning.{kept-least, sift-more, NoneYet, none-more, reach-stop, reach-end}
 use borrow.Author.Needs.{needs}
 use Rattle.sifting.proofs.sift_from.Statement.{statement}
 use Rattle.sifting.proofs.sift_from.Tie as tie

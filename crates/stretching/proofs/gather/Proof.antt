@@ -8,7 +8,7 @@ use Rattle.le.proofs.Laws.{Bytes}
 use Rattle.recordings.specs.Mending.{markBy}
 use Rattle.recordings.specs.Recording.{recordLength, recordingLength, recordIn}
 use Rattle.neighbours.specs.Steps.{StepsTo}
-use Rattle.neighbours.proofs.Steps.{steps-next, mark-read}
+use Rattle.neighbours.proofs.Steps.{steps-next, mark-read, kept-most}
 use Rattle.stretching.proofs.Gathering.{GatheredTo, gather-none, gather-few, gather-more, gather-stops, gather-done}
 use borrow.Author.Needs.{needs}
 use Rattle.stretching.proofs.gather.Statement.{statement}
@@ -53,7 +53,7 @@ loop-again c =
     let l = tested m in
     let t = l .before .loop .inv in
     let h = l .loop-test .taken in (
-      gather-more (t .0) (marked m) (u .before .if1 .left) (room u) (u .event-at .ensures) (c .kept-after .ensures),
+      gather-more (t .0) (marked m) (u .before .if1 .left) (room u) (u .event-at .ensures) (c .kept-by .ensures),
       λ k. steps-next (entry (l .before) .args .recording .now) (l .before .loop .i) (m .before .before .counter-at .ensures),
       length-set (l .before .loop .events) (l .before .loop .kept) (u .event-at .result) ∙ t .2,
       omega arith,
@@ -75,7 +75,8 @@ gather-spec =
     (λ c κs. inside (tested (c .before)))
     (λ c. let h = room c in search needs)
     (λ c. room c)
-    (λ c κs. let h = room c in search needs)
+    (λ c κs. search needs)
+    (λ c. let h = room (c .before) in let o = kept-most (c .before .before .before .mark-of .result) (c .kept-by .ensures) in search needs)
     (λ c. search needs)
     (λ c. omega arith)
     loop-again

@@ -4,8 +4,8 @@ use borrow.Author.Tests.{eq-eqb, ne-eqb}
 use Rattle.lists.specs.Tests.{pick}
 use Rattle.recordings.specs.Records.{dropped}
 use borrow.Author.Needs.{needs}
-use Rattle.sifting.proofs.kept_by.Statement.{statement}
-use Rattle.sifting.proofs.kept_by.Tie as tie
+use Rattle.neighbours.proofs.kept_by.Statement.{statement}
+use Rattle.neighbours.proofs.kept_by.Tie as tie
 
 pub kept-by-spec : {M : Type 1} → statement M
 unfolding pick
