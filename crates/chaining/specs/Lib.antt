@@ -1,0 +1,2 @@
+-- What the contracts of `chaining` cite.
+pub mod Chains

@@ -1,0 +1,3 @@
+-- What the contracts of `entering` cite.
+pub mod Comparing
+pub mod Entries

@@ -1,0 +1,3 @@
+-- What the contracts of `meeting` cite.
+pub mod Links
+pub mod Meeting

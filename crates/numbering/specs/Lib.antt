@@ -1,0 +1,2 @@
+-- What the contracts of `numbering` cite.
+pub mod Orders

@@ -1,0 +1,21 @@
+-- Laws of registers, and that laying with one comes to the merged network. Assumes nothing.
+pub mod Entering
+pub mod Growing
+pub mod Distinct
+pub mod Expanding
+pub mod Carrying
+pub mod Earlier
+pub mod Members
+pub mod Places
+pub mod Walking
+pub mod Meeting
+pub mod Raising
+pub mod Chaining
+pub mod Ordering
+pub mod Reaching
+pub mod Collecting
+pub mod Networks
+pub mod Counting
+pub mod Outers
+pub mod Sizes
+pub mod Worked

@@ -1,0 +1,2 @@
+-- What the contracts of `setting` cite.
+pub mod Setting
