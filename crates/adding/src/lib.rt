@@ -1,5 +1,7 @@
 // The call `add`: a report added to another, row by row. One pass over each report looks whether it is one and how many runs it has;
 // only then is the first one written.
+#![tactic(auto)]
+
 ghost use Rattle.std.specs.Prelude.{◌≡◌, length};
 ghost use Rattle.lists.specs.Tests.{both};
 ghost use Rattle.reports.specs.Bytes.{report_length};
@@ -11,7 +13,7 @@ use reports::{REPORT_LENGTH, ROW_LENGTH};
 use rows::{agreeing, wide};
 
 // What all rows of a report say: how many runs there are, and whether the numbers of each row agree.
-#[derive(Drop)]
+#[derive(Clone, Copy)]
 struct Survey {
     runs: u64,
     agrees: bool,

@@ -1,5 +1,7 @@
 // A tick that is done is closed: the slots and nodes of the new layout are counted, and only where they are within the limits the next
 // state is put into the second buffer.
+#![tactic(auto)]
+
 ghost use Rattle.counting.specs.OpenedWith.{OpenedWith};
 ghost use Rattle.advancing.specs.Advance.{NextFound, AdvanceAsk, Advances, LentAsk};
 
@@ -9,7 +11,7 @@ use limits::{BOARDS_MOST, NODES_ROOM, PROPOSITIONS_MOST};
 use state::{Counts, Form};
 
 // What the new layout is found to be: too large, or of so many slots and nodes.
-#[derive(Drop)]
+#[derive(Clone, Copy)]
 pub enum NextLayout {
     Refused(Refusal),
     Within(Totals),

@@ -1,9 +1,11 @@
 // What the calls answer: the refusals by name, with their numbers, the three verdicts, and the answer of a call without values.
+#![tactic(auto)]
+
 ghost use Rattle.std.specs.Prelude.{◌≡◌};
 ghost use Rattle.answers.specs.Said.{number_of, verdict_number};
 
 // Why a call was refused, in the order of the numbers: 1 to 16, 19 and 20. 17 and 18 belong to no call yet.
-#[derive(Drop)]
+#[derive(Clone, Copy)]
 pub enum Refusal {
     Length,
     Version,
@@ -53,7 +55,7 @@ impl Refusal {
 }
 
 // What is known of a rule after some ticks.
-#[derive(Drop)]
+#[derive(Clone, Copy)]
 pub enum Verdict {
     False,
     True,
@@ -73,7 +75,7 @@ impl Verdict {
 }
 
 // What a call answers that has no values to give: load, sample, step and close.
-#[derive(Drop)]
+#[derive(Clone, Copy)]
 pub enum Outcome {
     Refused(Refusal),
     Done,

@@ -1,4 +1,6 @@
 // The call `ask`: how a watch stands.
+#![tactic(auto)]
+
 ghost use Rattle.telling.specs.Ask.{Asks};
 
 use answers::{Refusal, Verdict};

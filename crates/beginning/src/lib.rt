@@ -1,5 +1,7 @@
 // A watch begun with a rule that was read: its layout is counted as the rule stands, and only where it is within the limits the first
 // state is put.
+#![tactic(auto)]
+
 ghost use Rattle.std.specs.Prelude.{◌≡◌, eqb};
 ghost use Rattle.lists.specs.Tests.{pick};
 ghost use Rattle.limits.specs.Limits.{boards_most};

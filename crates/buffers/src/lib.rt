@@ -1,4 +1,6 @@
 // Runs of bytes, of masks and of notes, moved, cleared and compared in place.
+#![tactic(auto)]
+
 ghost use Rattle.std.specs.Prelude.{◌≡◌, ◌++◌, ◌+◌, ◌<◌, ◌≤◌, length, take, drop, replicate};
 ghost use Rattle.buffers.specs.Compares.{Compares};
 

@@ -12,7 +12,7 @@ use text::{LOOSEST, Sign};
 
 // Where the pass stands: what waits and where the bytes begin, the brackets that are open, the digits met as a number, and what the
 // next digit counts. Of digits that are no number of a text only a remainder is kept.
-#[derive(Drop)]
+#[derive(Clone, Copy)]
 pub struct Midway {
     pub edges: Edges,
     pub depth: usize,

@@ -1,5 +1,7 @@
 // The formula of a text, gathered from its end: one pass, linear in the text's length, without recursion. It is written backwards into
 // as many bytes as the text has nodes, so that nothing is moved. Others use `count_nodes` and `build`.
+#![tactic(auto)]
+
 mod gathering;
 
 ghost use Rattle.std.specs.Prelude.{◌≡◌, ◌≤◌, length};

@@ -1,4 +1,6 @@
 // What the bytes that came are: a rule file first, events of 8 bytes behind it. Nothing here reads.
+#![tactic(auto)]
+
 ghost use Rattle.std.specs.Prelude.{◌≡◌, ◌≤◌, length};
 ghost use Rattle.rules.specs.RuleFile.{file_most};
 ghost use Rattle.came.specs.Came.{told_length, file_length, next_in};
@@ -9,7 +11,7 @@ use rules::{FILE_MOST, MASKS_AT, TOTAL_AT};
 pub const EVENT: usize = 8;
 
 // What stands in front of the bytes in hand: nothing, too few bytes for an event, or an event.
-#[derive(Drop)]
+#[derive(Clone, Copy)]
 pub enum Next {
     End,
     Leftover,

@@ -1,5 +1,7 @@
 // The call `capture`: a run of events in one call, tick by tick, up to their end, a verdict, or an event that is refused. It equals the
 // samples, steps and closes made one at a time, and leaves the last closed state. The state is checked once.
+#![tactic(auto)]
+
 mod running;
 
 ghost use Rattle.capturing.specs.Capture.{Captures};
@@ -12,14 +14,14 @@ use running::Ran;
 use state::{Counts, Form};
 
 // How many events were closed, how the watch stands behind them, and whether the next one was refused.
-#[derive(Drop)]
+#[derive(Clone, Copy)]
 pub struct Captured {
     pub closed: usize,
     pub verdict: Verdict,
     pub stop: Outcome,
 }
 
-#[derive(Drop)]
+#[derive(Clone, Copy)]
 pub enum CaptureAnswer {
     Refused(Refusal),
     Captured(Captured),

@@ -7,7 +7,7 @@ use answers::{Outcome, Verdict};
 use state::Counts;
 
 // What the events have come to, and where what stands in the second buffer ends.
-#[derive(Drop)]
+#[derive(Clone, Copy)]
 pub struct Ran {
     pub captured: Captured,
     pub used: usize,

@@ -1,4 +1,6 @@
 // One slot carried over into the next network: unfolded, and tagged on its board, so that it can be laid again.
+#![tactic(auto)]
+
 ghost use Rattle.carrying.specs.Carries.{PutSlotAsk, PutsSlot};
 
 use state::{Counts, Span};

@@ -1,5 +1,7 @@
 // The call `central`: a whole rule progressed in one place. Where the formula has constants to fold, one loop folds it. Then one loop counts
 // what it unfolds to, one unfolds it into the output, and one resolves it there.
+#![tactic(auto)]
+
 ghost use Rattle.std.specs.Prelude.{◌≡◌};
 ghost use Rattle.central.specs.Central.{central_lengths_ok, Centrally};
 ghost use Rattle.limits.specs.Limits.{central_nodes_most, nodes_room};
@@ -13,13 +15,13 @@ use outlining::SMALL_NODES;
 use resolving::Seen;
 use slot_sets::no_slots;
 
-#[derive(Drop)]
+#[derive(Clone, Copy)]
 pub struct Progress {
     pub verdict: Verdict,
     pub length: usize,
 }
 
-#[derive(Drop)]
+#[derive(Clone, Copy)]
 pub enum CentralAnswer {
     Refused(Refusal),
     Progressed(Progress),

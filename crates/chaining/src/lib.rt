@@ -1,5 +1,7 @@
 // The longest chains of holders from a root to the entries of a register, from what each holds as a set. An entry holds earlier ones alone,
 // so the last one raises what it holds first.
+#![tactic(auto)]
+
 ghost use Rattle.std.specs.Prelude.{◌≡◌, ◌<◌, ◌≤◌, max, length};
 ghost use Rattle.limits.specs.Limits.{slots_room};
 ghost use Rattle.chaining.specs.Chains.{Raises, ChainsAsk, Chains};

@@ -1,5 +1,7 @@
 // Which board each part of a formula is chosen for, for every node at once: one loop from the last node to the first, over the counts of
 // the parts that wait for their operator. Laying reads the marks and counts nothing.
+#![tactic(auto)]
+
 pub mod marks;
 mod over;
 pub mod picks;

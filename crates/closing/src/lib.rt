@@ -1,4 +1,6 @@
 // The call `close`: when all boards have sampled and all slots are stepped, the network is laid out again into a second buffer.
+#![tactic(auto)]
+
 ghost use Rattle.std.specs.Prelude.{◌≡◌, false, length};
 ghost use Rattle.answers.specs.Said.{said_outcome};
 ghost use Rattle.state.specs.Form.{form_in, state_length};

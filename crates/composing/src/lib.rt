@@ -1,5 +1,7 @@
 // A network that was laid in tokens becomes a state, where it is within the limits of the state's form: its entries are numbered, and
 // records and nodes are written.
+#![tactic(auto)]
+
 ghost use Rattle.state.specs.Form.{form_in};
 ghost use Rattle.composing.specs.Composing.{ComposeAsk, Composes, WithinAsk, PutsWithin};
 

@@ -1,5 +1,7 @@
 // How many slots and nodes the network has that a state closes to, counted without laying anything. A slot holds slots of higher
 // numbers alone, so the last one is counted first: each counts its own cuts and nodes, and what the slots count that it holds.
+#![tactic(auto)]
+
 ghost use Rattle.std.specs.Prelude.{◌≡◌, ◌+◌, ◌<◌, ◌≤◌, ◌^◌};
 ghost use Rattle.kinds.specs.Kinds.{hold_code};
 ghost use Rattle.limits.specs.Limits.{nodes_room, slots_room};
@@ -17,7 +19,7 @@ use limits::{NODES_ROOM, SLOTS_ROOM};
 use state::{Counts, Span};
 
 // How many slots and nodes there are; what is over a limit counts as one more than it.
-#[derive(Drop)]
+#[derive(Clone, Copy)]
 pub struct Totals {
     pub slots: usize,
     pub nodes: usize,

@@ -1,4 +1,6 @@
 // A reading position in a text, by value: small readers take it and hand it back moved, with what they saw.
+#![tactic(auto)]
+
 ghost use Rattle.std.specs.Prelude.{◌≡◌, ◌+◌, ◌<◌, length, get_or};
 ghost use Rattle.limits.specs.Limits.{propositions_most};
 ghost use Rattle.text.specs.Signs.{spelling};
@@ -10,14 +12,14 @@ use limits::PROPOSITIONS_MOST;
 use text::Sign;
 
 // A byte of a text, from 0, and its line, from 1.
-#[derive(Drop)]
+#[derive(Clone, Copy)]
 pub struct TextCursor {
     pub byte: usize,
     pub line: usize,
 }
 
 // What a reader saw: a blank, a sign with operands, a bracket, a whole word, the end of a text, or what no text goes on with.
-#[derive(Drop)]
+#[derive(Clone, Copy)]
 pub enum Token {
     Space,
     Operator,
@@ -28,7 +30,7 @@ pub enum Token {
 }
 
 // What was seen, and the position behind it. Of what is wrong the position is the place of refusal.
-#[derive(Drop)]
+#[derive(Clone, Copy)]
 pub struct TextStep {
     pub at: TextCursor,
     pub seen: Token,

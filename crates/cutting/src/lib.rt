@@ -1,6 +1,8 @@
 // How many parts are cut out of a formula when it is unfolded and laid on a board, counted without unfolding or laying it: one walk
 // over the formula as it stands, from the leaves up. A part's cuts on its own chosen board are all that its node needs of it: on
 // another board the part is cut itself, and is then laid on that board of its own.
+#![tactic(auto)]
+
 ghost use Rattle.std.specs.Prelude.{◌≡◌, ◌+◌, ◌<◌, ◌≤◌, ◌^◌, length};
 ghost use Rattle.std.proofs.Math.Option.{none};
 ghost use Rattle.limits.specs.Limits.{boards_most, nodes_room};
@@ -18,7 +20,7 @@ pub const STAYS: u8 = 16;
 
 // A part that is laid on a board: its scores, the board that they choose, and how many parts are cut out of it where it is laid. The
 // choice is looked at by the part's own node and by the one above, and is made once.
-#[derive(Drop)]
+#[derive(Clone, Copy)]
 pub struct LaidPart {
     pub scores: Scores,
     pub choice: u8,
@@ -26,7 +28,7 @@ pub struct LaidPart {
 }
 
 // A formula as it was walked over: its length, its scores as it stands, and what it is unfolded.
-#[derive(Drop)]
+#[derive(Clone, Copy)]
 pub struct CutWalk {
     pub read: usize,
     pub raw: Scores,

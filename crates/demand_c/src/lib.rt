@@ -1,1 +1,2 @@
 // The third demand for the calls from C. No code: definitions and theorems.
+#![tactic(auto)]

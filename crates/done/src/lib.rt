@@ -1,4 +1,6 @@
 // Whether a tick is done: all boards have sampled, and all slots are stepped.
+#![tactic(auto)]
+
 ghost use Rattle.std.specs.Prelude.{◌≡◌};
 ghost use Rattle.state.specs.Counted.{Sized};
 ghost use Rattle.done.specs.Done.{all_sampled, all_stepped};

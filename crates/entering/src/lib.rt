@@ -1,4 +1,6 @@
 // Slots are entered in a register that is kept in tokens: each slot once, so that equal slots have one entry.
+#![tactic(auto)]
+
 ghost use Rattle.std.specs.Prelude.{◌≡◌, ◌++◌, ◌+◌, ◌^◌, ◌<◌, ◌≤◌, length, take, drop};
 ghost use Rattle.tokens.specs.Said.{Readable};
 ghost use Rattle.tokens.specs.Kept.{stamp_of};
@@ -15,7 +17,7 @@ const TEXT: u16 = 256;
 const STAMP_ROOM: u64 = 32;
 
 // An entry's number, and how many entries there are then.
-#[derive(Drop)]
+#[derive(Clone, Copy)]
 pub struct Entered {
     pub entry: usize,
     pub entries: usize,

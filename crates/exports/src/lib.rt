@@ -1,6 +1,8 @@
 // The calls for programs in C and other languages: numbers and slices alone. Each answers 0 or the refusal's number, and writes
 // the values behind the references only where it answers 0; `vydrulka_parse` writes line and byte only where it answers 16, and
 // `vydrulka_report` the place only where it answers 19.
+#![tactic(auto)]
+
 ghost use Rattle.std.specs.Prelude.{◌≡◌};
 ghost use Rattle.answers.specs.Said.{said_outcome};
 ghost use Rattle.exports.specs.Exported.{ReadExported, WriteExported, ParseExported, PrintExported, CentralExported, LoadExported, SampleExported, StepExported, CloseExported, AskExported, CaptureExported, ReportExported, AddExported, MendExported, StretchExported};

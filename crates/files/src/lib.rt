@@ -1,9 +1,11 @@
 // A file read whole, by its name or from standard input, as far as the room that is lent goes.
+#![tactic(auto)]
+
 ghost use Rattle.std.specs.Prelude.{◌≤◌, length};
 ghost use Rattle.files.specs.Within.{Within};
 
 // How many bytes were read, to the front of what is lent. After the other two errno says why.
-#[derive(Drop)]
+#[derive(Clone, Copy)]
 pub enum FileAnswer {
     NotOpened,
     NotRead,

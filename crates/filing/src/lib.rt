@@ -1,4 +1,6 @@
 // The file of a rule, put together: header, masks, formula, zeros.
+#![tactic(auto)]
+
 ghost use Rattle.std.specs.Prelude.{◌≡◌, ◌++◌, ◌*◌, ◌≤◌, length, drop};
 ghost use Rattle.limits.specs.Limits.{boards_most, propositions_most, rule_nodes_most};
 ghost use Rattle.lists.specs.Runs.{padded};

@@ -1,5 +1,7 @@
 // Folding the constants of a formula in one loop from its last byte to its first. The results of what was read stand at the end of
 // another buffer, and what is known of each is noted apart (module `results`), so that every byte is read once and nothing is moved.
+#![tactic(auto)]
+
 mod results;
 
 ghost use Rattle.std.specs.Prelude.{◌≡◌};
@@ -14,7 +16,7 @@ use outlining::SMALL_NODES;
 use results::{fold_join, fold_leaf, fold_one, fold_until, put_constant};
 
 // Where the lowest result begins, and where its note stands.
-#[derive(Drop)]
+#[derive(Clone, Copy)]
 pub struct Lows {
     pub w: usize,
     pub t: usize,

@@ -1,6 +1,8 @@
 // A tick up to its close: an event is split by the boards' masks, each board samples its part, and the slots are stepped from the
 // highest number down, so that each is ready when its turn comes. The state was opened, and is not checked again: a sample keeps it
 // passing, and so does a step, unless it leaves a lone proposition of another board.
+#![tactic(auto)]
+
 mod straying;
 
 ghost use Rattle.std.specs.Prelude.{◌≡◌, ◌≤◌};

@@ -1,4 +1,6 @@
 // A rule that was found in a file, handed out into the outputs that `read` was lent.
+#![tactic(auto)]
+
 ghost use Rattle.std.specs.Prelude.{◌≡◌, ◌+◌, ◌≤◌, length, drop};
 ghost use Rattle.lists.specs.Runs.{padded};
 ghost use Rattle.rules.specs.RuleFile.{file_formula_at};

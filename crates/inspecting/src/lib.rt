@@ -1,5 +1,7 @@
 // Whether bytes are a recording that can be mended: their length, the header's numbers, and that no record clashes with the one before it.
 // Nothing is written here, so that what is refused is left as it was.
+#![tactic(auto)]
+
 ghost use Rattle.std.specs.Prelude.{◌≡◌, not, ◌<◌, ◌≤◌, ◌^◌, length};
 ghost use Rattle.lists.specs.Tests.{either};
 ghost use Rattle.recordings.specs.Recording.{records_at, recording_length, record_in, count_in, total_ok, header_ok};

@@ -1,5 +1,7 @@
 // The two lowest results joined, by the member rule. The result stands where the two stood, at their end: to drop the left one is to
 // leave it behind, to keep both is to put the operator below them.
+#![tactic(auto)]
+
 mod members;
 
 ghost use Rattle.joining.specs.Joins.{JoinAsk, JoinsPair, OpenAsk, OpenJoins, KeepAsk, Keeps};

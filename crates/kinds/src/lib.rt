@@ -1,10 +1,12 @@
 // The node kinds of the rule language: what a byte of a formula is. The codes and the limits of their ranges are constants
 // of `Kind`, and `Kind::of` gives a byte its kind. Where one kind alone matters, other crates compare the byte itself.
+#![tactic(auto)]
+
 ghost use Rattle.std.specs.Prelude.{◌≡◌, ◌≤◌};
 ghost use Rattle.kinds.specs.Kinds.{kind_of, join_code, operands};
 
 // A node with no operand: a constant, a proposition, or the place holder of a slot.
-#[derive(Drop)]
+#[derive(Clone, Copy)]
 pub enum Leaf {
     Const(bool),
     Prop(u8),
@@ -12,7 +14,7 @@ pub enum Leaf {
 }
 
 // The two connectives that are each other's mirror image.
-#[derive(Drop)]
+#[derive(Clone, Copy)]
 pub enum Join {
     And,
     Or,
@@ -32,7 +34,7 @@ impl Join {
 
 // A node with one operand. `Ever` is the operator that unfolds to its operand joined with itself at the next tick: by or it is
 // eventually, by and it is always.
-#[derive(Drop)]
+#[derive(Clone, Copy)]
 pub enum Unary {
     Not,
     Next,
@@ -40,14 +42,14 @@ pub enum Unary {
 }
 
 // A node with two operands.
-#[derive(Drop)]
+#[derive(Clone, Copy)]
 pub enum Binary {
     Joined(Join),
     Until,
 }
 
 // What a byte is, by the number of its operands. Every other byte is no code.
-#[derive(Drop)]
+#[derive(Clone, Copy)]
 pub enum Kind {
     Zero(Leaf),
     One(Unary),

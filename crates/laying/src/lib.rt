@@ -1,6 +1,8 @@
 // Laying an unfolded formula that was tagged: its nodes and those of the slots that are cut out of it into one stretch of nodes, the
 // slots' records into another. Laying a slot cuts its parts, and each cut part lays a slot. At a place holder the slot that it holds
 // is laid: its formula stands further on in the same bytes, and the tag at the place holder says how far.
+#![tactic(auto)]
+
 ghost use Rattle.std.specs.Prelude.{◌≡◌, [], ◌∷◌, ◌++◌, ◌<◌, ◌≤◌, length, get_or, drop};
 ghost use Rattle.le.specs.Le.{le};
 ghost use Rattle.laying.specs.Lays.{CutAsk, Cuts, LookAsk, Looks, SlotAsk, LaysSlot, Plain, WholeAsk, PutsWhole, IsJoin, RootAsk, LaysRoot};
@@ -14,7 +16,7 @@ use tagging::packed;
 
 // Where laying stands: the board of the slot whose nodes are written; the next slot's number, where its nodes begin in the network,
 // and how far behind the node to be written that is.
-#[derive(Drop)]
+#[derive(Clone, Copy)]
 pub struct Place {
     pub board: u8,
     pub slot: usize,
@@ -23,7 +25,7 @@ pub struct Place {
 }
 
 // What was laid: the bytes read, the nodes written in the slot itself, the slots cut out of it and their nodes.
-#[derive(Drop)]
+#[derive(Clone, Copy)]
 pub struct Lain {
     pub read: usize,
     pub here: usize,

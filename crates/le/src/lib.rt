@@ -1,4 +1,6 @@
 // Little-endian numbers in a byte slice, once over the width. The calls of a fixed width need no proof of their own.
+#![tactic(auto)]
+
 ghost use Rattle.std.specs.Prelude.{◌≡◌, ◌++◌, ◌+◌, ◌-◌, ◌*◌, ◌<◌, ◌≤◌, ◌^◌, length, take, drop};
 ghost use Rattle.lists.specs.Listed.{listed};
 ghost use Rattle.le.specs.Le.{le, le_at};

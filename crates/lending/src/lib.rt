@@ -1,4 +1,6 @@
 // The reading position of a text, lent: one position is handed down by `&mut` and moved by the readers that it is lent to.
+#![tactic(auto)]
+
 ghost use Rattle.cursor.specs.Positions.{Stands};
 ghost use Rattle.cursor.specs.Readers.{GapRead, OperandRead, OperatorRead};
 ghost use Rattle.lending.specs.Following.{OperandFollows, OperatorFollows};

@@ -1,4 +1,5 @@
 // The limits, each with one name. specs/Limits.antt has the same names for the definitions.
+#![tactic(auto)]
 
 // The most boards.
 pub const BOARDS_MOST: usize = 16;

@@ -1,4 +1,6 @@
 // The lines, as bytes in a buffer: fields parted by one space, and a line feed. Nothing here writes.
+#![tactic(auto)]
+
 ghost use Rattle.std.specs.Prelude.{◌≡◌, ◌+◌, ◌≤◌, length};
 ghost use Rattle.lines.specs.Lines.{Adds, Line, decimal_of, field_of, verdict_text, standing_line, progress_line, refused_line};
 

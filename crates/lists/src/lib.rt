@@ -1,1 +1,2 @@
 // No code: tests and runs of numbers, the small definitions that every other crate's statements are written with.
+#![tactic(auto)]

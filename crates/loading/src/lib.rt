@@ -1,5 +1,7 @@
 // The call `load`: a watch begun from a rule file. The rule is read as `read` does, its constants are folded, and `beginning` begins the
 // watch.
+#![tactic(auto)]
+
 ghost use Rattle.beginning.specs.Beginning.{BeginAsk};
 ghost use Rattle.loading.specs.Begin.{BeginFoldedAsk, BegunFolded};
 ghost use Rattle.loading.specs.Load.{LoadsRule};

@@ -1,1 +1,2 @@
 // No code: the rule language, its meaning, unfolding, resolving and progression, and the bytes of a formula.
+#![tactic(auto)]

@@ -1,4 +1,6 @@
 // The boards' masks: their ones counted and summed, their union, and a mask's lowest proposition.
+#![tactic(auto)]
+
 ghost use Rattle.std.specs.Prelude.{◌≡◌, ℕ, ◌+◌, ◌-◌, ◌<◌, ◌≤◌, ◌^◌, length};
 ghost use Rattle.limits.specs.Limits.{boards_most, propositions_most};
 ghost use Rattle.masks.specs.Masks.{bit_at, sum_ones, union_with, masks_rule};

@@ -1,5 +1,7 @@
 // The entries of a register met one after the other from a root on, by their tokens: an entry, then those below it, then the next one. What
 // each holds is noted as a set.
+#![tactic(auto)]
+
 ghost use Rattle.std.specs.Prelude.{◌≡◌, ℕ, ◌+◌, ◌<◌, ltb, eqb};
 ghost use Rattle.lists.specs.Tests.{both, either, bit};
 ghost use Rattle.limits.specs.Limits.{slots_room};
@@ -13,7 +15,7 @@ const HOLDERS: u16 = 128;
 const TEXTS: u16 = 256;
 
 // How many entries have been met, and which: one bit an entry.
-#[derive(Drop)]
+#[derive(Clone, Copy)]
 pub struct Meeting {
     pub count: usize,
     pub seen: u64,

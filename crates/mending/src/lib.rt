@@ -1,5 +1,7 @@
 // The call `mend`: a recording without its doubled records, and a mark for each record. Every record is looked at before one is written,
 // because a clash refuses the whole, and a refusal leaves every byte.
+#![tactic(auto)]
+
 ghost use Rattle.std.specs.Prelude.{◌≡◌, ◌++◌, ◌<◌, ◌≤◌, ◌^◌, length, drop};
 ghost use Rattle.recordings.specs.Recording.{records_at, recording_length, header_of};
 ghost use Rattle.mending.specs.Mend.{Mends, MendReady};
@@ -8,13 +10,13 @@ use answers::Refusal;
 use recordings::{RECORD_LENGTH, RECORDS_AT};
 
 // How many records were kept, and how many of these are in the first stretch.
-#[derive(Drop)]
+#[derive(Clone, Copy)]
 pub struct Mended {
     pub kept: usize,
     pub first: usize,
 }
 
-#[derive(Drop)]
+#[derive(Clone, Copy)]
 pub enum MendAnswer {
     Refused(Refusal),
     Mended(Mended),

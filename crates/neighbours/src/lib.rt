@@ -1,5 +1,7 @@
 // The records of a recording, and the step from one to the next, by which a record is marked. A pass over the records keeps the counter
 // of the one before in a number of its own.
+#![tactic(auto)]
+
 ghost use Rattle.std.specs.Prelude.{◌≡◌, ◌+◌, ◌<◌, ◌≤◌, length, ◌==◌};
 ghost use Rattle.lists.specs.Tests.{pick};
 ghost use Rattle.recordings.specs.Records.{step_from, dropped};

@@ -1,4 +1,6 @@
 // Where a formula in prefix bytes ends.
+#![tactic(auto)]
+
 ghost use Rattle.nodes.specs.Begins.{Begins, Ends};
 
 use kinds::Kind;

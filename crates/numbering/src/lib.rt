@@ -1,5 +1,7 @@
 // The numbers of a register's entries: by the longest chain of holders from the root, then by first meeting. Three passes: the entries are
 // met from the root on, chains are raised, and those of each chain are put behind one another.
+#![tactic(auto)]
+
 ghost use Rattle.std.specs.Prelude.{◌≡◌, true, ◌++◌, ℕ, ◌<◌, length, drop};
 ghost use Rattle.limits.specs.Limits.{slots_room};
 ghost use Rattle.registers.specs.Relaying.{is_among};

@@ -1,4 +1,6 @@
 // How a call on a state begins: the state check, whether the watch is finished, and the counts. Every call opens its state here.
+#![tactic(auto)]
+
 ghost use Rattle.std.specs.Prelude.{◌≡◌};
 ghost use Rattle.state.specs.Calls.{finished_in};
 ghost use Rattle.state.specs.Opened.{Opened};
@@ -7,7 +9,7 @@ ghost use Rattle.opening.specs.Opening.{Opens};
 use state::Counts;
 
 // What a state is found to be: none, a watch that is finished, or one that goes on.
-#[derive(Drop)]
+#[derive(Clone, Copy)]
 pub enum Opening {
     Broken,
     Finished(Counts),

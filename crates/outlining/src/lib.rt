@@ -1,6 +1,8 @@
 // The outline of a formula that is to be resolved: which of its parts stay whole, noted beside their last bytes. A next's operand is
 // kept as it stands, and so is a temporal operator; nothing in them is resolved. A loop from the last byte to the first meets such a
 // part at its end, so that is where its length is noted.
+#![tactic(auto)]
+
 ghost use Rattle.std.specs.Prelude.{◌≡◌};
 ghost use Rattle.outlining.specs.Outlined.{whole_kind, Outlinable, Outlines};
 

@@ -1,4 +1,6 @@
 // Whether bytes are one whole formula: one pass with a count of the operands still owed.
+#![tactic(auto)]
+
 ghost use Rattle.std.specs.Prelude.{◌≡◌};
 ghost use Rattle.ltl.specs.Decode.{is_formula, is_rule};
 ghost use Rattle.ltl.specs.Formula.{node_over};

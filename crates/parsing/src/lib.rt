@@ -1,5 +1,7 @@
 // The call `parse`: a rule as people type it, read into formula bytes. The text is checked from its front, which finds the place of a
 // refusal; its nodes are counted; and the formula is built from the text's end.
+#![tactic(auto)]
+
 ghost use Rattle.parsing.specs.Parse.{Parses};
 ghost use Rattle.parsing.specs.Building.{BuildAsk, BuiltInto, TextAsk};
 
@@ -8,7 +10,7 @@ use cursor::TextCursor;
 use limits::RULE_NODES_MOST;
 use recognising::Recognised;
 
-#[derive(Drop)]
+#[derive(Clone, Copy)]
 pub enum ParseAnswer {
     Refused(Refusal),
     NoText(TextCursor),

@@ -1,5 +1,7 @@
 // A part of a formula as it is unfolded, written in tokens from its top on: one token is written, and the part's operands are left to be
 // looked at. What is left stands at the end of the same room, the next one first; each writes one token at least, so the two never meet.
+#![tactic(auto)]
+
 ghost use Rattle.std.specs.Prelude.{◌≡◌, ◌+◌, ◌/◌, ◌<◌, ◌≤◌, length, get_or};
 ghost use Rattle.limits.specs.Limits.{nodes_room, slots_room};
 ghost use Rattle.kinds.specs.Kinds.{leaf_code, leaf_coded};
@@ -24,7 +26,7 @@ pub const AGAIN: usize = 2;
 pub const TEXT: usize = 256;
 
 // The top of a part: its token, how many nodes that stands for, how many operands there are, and which parts they are.
-#[derive(Drop)]
+#[derive(Clone, Copy)]
 pub struct PartTop {
     pub token: usize,
     pub nodes: usize,

@@ -1,5 +1,7 @@
 // Writing a whole state from tokens: the header, the boards with nothing sampled, and the network of a root and of the entries of a
 // register, in the order of their numbers.
+#![tactic(auto)]
+
 ghost use mathlib.Core.Path.{◌≡◌};
 ghost use mathlib.Core.Logic.{◌⊎◌};
 ghost use Prim.Native.Nat.{◌%◌, ◌≤◌};

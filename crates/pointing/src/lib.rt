@@ -1,5 +1,7 @@
 // A place in a text, for people: the line of the text in which it stands, and below that a line with a mark under the place. A line
 // that is very long is cut to a window around the place, so that both lines fit a screen. Nothing here writes.
+#![tactic(auto)]
+
 pub mod shown;
 pub mod window;
 

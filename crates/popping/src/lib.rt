@@ -1,5 +1,7 @@
 // Infix signs that wait for their left operand, the latest last: the level of each stands in one array, the number of brackets that are
 // open there in another. Where a sign has both operands its byte is put in front of theirs, so that a formula is written from its end.
+#![tactic(auto)]
+
 ghost use Rattle.std.specs.Prelude.{◌≡◌};
 ghost use Rattle.kinds.specs.Kinds.{binary_code};
 ghost use Rattle.popping.specs.Waits.{sign_at, Room, Spare, Pops, Pushes};
@@ -7,7 +9,7 @@ ghost use Rattle.popping.specs.Waits.{sign_at, Room, Spare, Pops, Pushes};
 use kinds::{Binary, Kind};
 
 // How many signs wait, and where the bytes begin.
-#[derive(Drop)]
+#[derive(Clone, Copy)]
 pub struct Edges {
     pub top: usize,
     pub at: usize,

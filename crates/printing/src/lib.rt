@@ -1,4 +1,6 @@
 // The call `print`: a rule's formula as text, with the fewest brackets and no spaces.
+#![tactic(auto)]
+
 ghost use Rattle.std.specs.Prelude.{◌≡◌, length};
 ghost use Rattle.limits.specs.Limits.{rule_nodes_most};
 ghost use Rattle.lists.specs.Tests.{in_range};
@@ -7,7 +9,7 @@ ghost use Rattle.printing.specs.Print.{Printable, PrintsTo, Prints};
 use answers::Refusal;
 use limits::{PROPOSITIONS_MOST, RULE_NODES_MOST, TEXT_LENGTH};
 
-#[derive(Drop)]
+#[derive(Clone, Copy)]
 pub enum PrintAnswer {
     Refused(Refusal),
     Printed(usize),

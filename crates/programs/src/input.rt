@@ -11,7 +11,7 @@ use rules::MASKS_AT;
 pub const PIECE: usize = 4096;
 
 // The bytes in hand: those of the piece from `from` on and before `end`.
-#[derive(Drop)]
+#[derive(Clone, Copy)]
 pub struct Hand {
     pub from: usize,
     pub end: usize,
@@ -26,7 +26,7 @@ impl Hand {
 }
 
 // What one read brought.
-#[derive(Drop)]
+#[derive(Clone, Copy)]
 pub enum Brought {
     More(usize),
     End,
@@ -34,21 +34,21 @@ pub enum Brought {
 }
 
 // What is in hand once it is enough or the input has ended.
-#[derive(Drop)]
+#[derive(Clone, Copy)]
 pub enum Came {
     Bytes(Hand),
     Failed,
 }
 
 // An event, and what is in hand behind it.
-#[derive(Drop)]
+#[derive(Clone, Copy)]
 pub struct Taking {
     pub event: u64,
     pub rest: Hand,
 }
 
 // What was taken from the input.
-#[derive(Drop)]
+#[derive(Clone, Copy)]
 pub enum Taken {
     Event(Taking),
     End,

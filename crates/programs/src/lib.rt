@@ -1,4 +1,6 @@
 // What the programs share: how bytes are taken from standard input, the turns that a program makes of them, and how lines are written.
+#![tactic(auto)]
+
 pub mod input;
 pub mod output;
 pub mod turns;

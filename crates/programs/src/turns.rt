@@ -9,14 +9,14 @@ use crate::{goes_on, input, output};
 use answers::{Refusal, Verdict};
 
 // What a turn begins with.
-#[derive(Drop)]
+#[derive(Clone, Copy)]
 pub enum NextEvent {
     Event(Taking),
     Over,
 }
 
 // What a turn leaves: how many nodes wait for the next event, none where the program is over, and what is in hand behind the event.
-#[derive(Drop)]
+#[derive(Clone, Copy)]
 pub struct Turned {
     pub waiting: usize,
     pub hand: Hand,

@@ -2,6 +2,8 @@
 // `TICKS VERDICT NODES` for the rule, its constants folded, and for each event, until a verdict or the input's end.
 // A refusal, of a call or of the input, is a last line `refused N`, and a read that fails a last line `failed read`. Where a line
 // cannot be written the program ends at once. Bits that are no proposition of the rule are ignored.
+#![tactic(auto)]
+
 ghost use Rattle.std.specs.Prelude.{◌≡◌, ◌≤◌, length};
 ghost use Rattle.limits.specs.Limits.{central_nodes_most};
 ghost use Rattle.programs.specs.Hand.{InHand};

@@ -1,5 +1,7 @@
 // Which slots of a state are reached from slot 0: slot 0, and those that a reached slot holds. A slot holds slots of higher numbers alone,
 // so one pass from the first slot to the last is enough.
+#![tactic(auto)]
+
 ghost use Prim.Native.Nat.{◌<◌};
 ghost use Rattle.limits.specs.Limits.{holder_codes};
 ghost use Rattle.kinds.specs.Kinds.{end_code};

@@ -1,4 +1,6 @@
 // The call `read`: a rule file's counts, masks and formula, or the refusal.
+#![tactic(auto)]
+
 ghost use Rattle.rules.specs.Read.{Reads};
 
 use answers::Refusal;

@@ -1,4 +1,6 @@
 // Whether a text is in the grammar, and where not: one pass from the left, of any length, with three numbers in hand.
+#![tactic(auto)]
+
 ghost use Rattle.std.specs.Prelude.{◌≤◌, ◌<◌};
 ghost use Rattle.cursor.specs.Positions.{Stands};
 ghost use Rattle.recognising.specs.Recognises.{CheckTurn, Recognises};
@@ -6,7 +8,7 @@ ghost use Rattle.recognising.specs.Recognises.{CheckTurn, Recognises};
 use cursor::{TextCursor, Token};
 
 // The text is in the grammar, or it is refused at this place.
-#[derive(Drop)]
+#[derive(Clone, Copy)]
 pub enum Recognised {
     Accepted,
     Refused(TextCursor),
@@ -14,7 +16,7 @@ pub enum Recognised {
 
 // Where the check stands: the position, the brackets that are open, and the stage (0 an operand is wanted, 1 one has ended, 2 the text
 // is accepted, 3 it is refused at the position).
-#[derive(Drop)]
+#[derive(Clone, Copy)]
 struct TextCheck {
     at: TextCursor,
     depth: usize,

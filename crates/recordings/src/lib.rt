@@ -1,5 +1,6 @@
 // The recorder's file of a capture: the lengths of its parts, and the bytes that mark a record. What mending makes of a recording, and
 // what is proved of that, stands in specs/ and proofs/.
+#![tactic(auto)]
 
 // The bytes of a recording in front of its records.
 pub const RECORDS_AT: usize = 16;

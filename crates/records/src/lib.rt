@@ -1,5 +1,7 @@
 // The state check's clauses on bytes alone: the header, the boards' records, the slots' records, and the zeros behind each slot and
 // behind the nodes. Each function answers one clause of the definition.
+#![tactic(auto)]
+
 ghost use Rattle.std.specs.Prelude.{◌≡◌, true, ◌+◌, ◌<◌, ◌≤◌};
 ghost use Rattle.lists.specs.Tests.{in_range};
 ghost use Rattle.limits.specs.Limits.{boards_most};

@@ -1,5 +1,7 @@
 // The network of a state laid again in tokens: its slots are marked, then entered in a register of slots that are told apart, the last
 // one first, and then slot 0 is laid. A slot that is not reached is passed over, and one that only holds another passes that one's entry on.
+#![tactic(auto)]
+
 ghost use mathlib.Core.Path.{◌≡◌};
 ghost use mathlib.Core.Bool.{true};
 ghost use Prim.Native.Nat.{suc, ◌<◌};

@@ -1,4 +1,6 @@
 // The next state of a watch: its network is spread out, tagged, and laid out again into a second buffer with one more tick.
+#![tactic(auto)]
+
 ghost use Rattle.std.specs.Prelude.{◌≡◌};
 ghost use Rattle.renewing.specs.Renew.{next_state, NextAsk};
 

@@ -1,12 +1,14 @@
 // Runs the library on the requests of standard input and writes an answer line for each, as tests/PROTOCOL.md says.
 // The stored stream `stdin` and the second program's answers to it, `stdout`, are made by tests/store.
+#![tactic(auto)]
+
 mod calls;
 
 use requests::header::{HEADER_LENGTH, NONE, Request};
 use requests::{BYTES_MOST, EVENTS_MOST, header, lent, line, payload};
 
 // What became of a request: whether it was good, and whether what it was lent afresh is to be kept.
-#[derive(Drop)]
+#[derive(Clone, Copy)]
 struct Made {
     good: bool,
     keep: bool,

@@ -1,5 +1,7 @@
 // The call `report`: what a night's runs come to, rule by rule. The runs are counted in one pass, into tables on the stack, and the report
 // is written only where all of them are known.
+#![tactic(auto)]
+
 ghost use Rattle.reporting.specs.Report.{Reports, LengthsRight, TablesLent};
 
 use answers::Refusal;
@@ -8,7 +10,7 @@ use reports::{REPORT_LENGTH, RUN_LENGTH};
 use tallying::{COUNTS_ROOM, HIGHEST_TICK, counted, tabled};
 
 // `NoRun` is of a run that is not known, with its place.
-#[derive(Drop)]
+#[derive(Clone, Copy)]
 pub enum ReportAnswer {
     Refused(Refusal),
     NoRun(usize),

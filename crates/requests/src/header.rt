@@ -52,7 +52,7 @@ const BOARD_LENGTH: usize = 8;
 
 // The call by its number and its value; how many numbers, which are masks or events, and bytes are given or lent to it, how many
 // bytes are lent afresh, and how many of the kept state. A poke's bytes are the last of those that are lent of the kept state.
-#[derive(Drop)]
+#[derive(Clone, Copy)]
 pub struct Request {
     pub call: u32,
     pub value: u64,

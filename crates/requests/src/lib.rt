@@ -1,5 +1,7 @@
 // A request of the replay protocol (tests/PROTOCOL.md), without the calls: its header, its payload, what is lent to a call, and the
 // line that answers it.
+#![tactic(auto)]
+
 pub mod header;
 pub mod lent;
 pub mod line;

@@ -6,7 +6,7 @@ use answers::Refusal;
 
 // What a call has answered: 0 or the refusal's number, and so many values; a refusal has them where bytes are no text, or a run is not
 // known. A mend has also the hash of its marks, which stand nowhere else.
-#[derive(Drop)]
+#[derive(Clone, Copy)]
 pub struct Answered {
     pub number: u64,
     pub count: usize,

@@ -1,4 +1,6 @@
 // What a board sees at a tick, and what a node without operands becomes by it.
+#![tactic(auto)]
+
 ghost use Rattle.std.specs.Prelude.{◌≡◌, ◌<◌};
 ghost use Rattle.limits.specs.Limits.{propositions_most, holder_codes};
 ghost use Rattle.lists.specs.Tests as tests;
@@ -10,7 +12,7 @@ use kinds::{Kind, Leaf};
 use slot_sets::{SlotSet, has_slot};
 
 // What a board sees at a tick: its event, and which of the slots that it holds have answered true, and false.
-#[derive(Drop)]
+#[derive(Clone, Copy)]
 pub struct Seen {
     pub event: u64,
     pub yes: SlotSet,

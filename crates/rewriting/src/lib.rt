@@ -1,5 +1,7 @@
 // A formula rewritten in its own bytes as what it becomes: resolved there, moved to the front, and zeros behind it. The notes beside the
 // bytes are local: a small formula has a small array of them.
+#![tactic(auto)]
+
 ghost use Rattle.limits.specs.Limits.{nodes_room};
 ghost use Rattle.outlining.specs.Outlined.{small_nodes};
 ghost use Rattle.sweeping.specs.Passes.{Outlining};

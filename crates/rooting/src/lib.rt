@@ -1,5 +1,7 @@
 // A rule laid out in tokens: every node is marked, and the rule is laid on its chosen board, the parts that are cut out of it being entered
 // in the register.
+#![tactic(auto)]
+
 ghost use mathlib.Core.Path.{◌≡◌};
 ghost use lib.Dec.{eqb};
 ghost use Rattle.lists.specs.Tests.{pick};
@@ -12,7 +14,7 @@ use limits::SLOTS_ROOM;
 
 // The root: its board, its tokens on the desk, the nodes that they stand for, and the entries of the register; SLOTS_ROOM of them where
 // there is no room.
-#[derive(Drop)]
+#[derive(Clone, Copy)]
 pub struct RootLaid {
     pub board: u8,
     pub tokens: usize,

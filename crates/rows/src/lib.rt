@@ -1,4 +1,6 @@
 // A row of a report, read from its bytes, put there, and added to another; and whether its numbers agree.
+#![tactic(auto)]
+
 ghost use Rattle.std.specs.Prelude.{◌≡◌, ◌++◌, ◌+◌, ◌<◌, ◌≤◌, min, max, length, take, drop, eqb};
 ghost use Rattle.lists.specs.Tests.{pick};
 ghost use Rattle.reports.specs.Report.{added};

@@ -1,5 +1,7 @@
 // The rule file: where its parts stand, and what `read` and `write` answer. The calls themselves are in the crates `reading` and
 // `writing`; what they promise is in specs/ here, and the tests of their checks are in checks.rt.
+#![tactic(auto)]
+
 pub mod checks;
 
 use answers::Refusal;
@@ -15,20 +17,20 @@ pub const TOTAL_AT: usize = 12;
 // The length of the longest file.
 pub const FILE_MOST: usize = 1168;
 
-#[derive(Drop)]
+#[derive(Clone, Copy)]
 pub struct RuleCounts {
     pub boards: u64,
     pub propositions: u64,
     pub nodes: u64,
 }
 
-#[derive(Drop)]
+#[derive(Clone, Copy)]
 pub enum ReadAnswer {
     Refused(Refusal),
     Rule(RuleCounts),
 }
 
-#[derive(Drop)]
+#[derive(Clone, Copy)]
 pub enum WriteAnswer {
     Refused(Refusal),
     Written(usize),

@@ -1,6 +1,8 @@
 // The run program: reads a rule file and then events of 8 bytes from standard input, and writes a line `TICKS VERDICT SLOTS NODES`
 // for the load and for each close, until a verdict or the input's end. A refusal, of a call or of the input, is a last line
 // `refused N`, and a read that fails a last line `failed read`. Where a line cannot be written the program ends at once.
+#![tactic(auto)]
+
 ghost use Rattle.std.specs.Prelude.{◌≡◌, ◌≤◌, length};
 ghost use Rattle.programs.specs.Hand.{InHand};
 

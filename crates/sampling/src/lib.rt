@@ -1,4 +1,6 @@
 // The call `sample`: a board gives its sample for this tick.
+#![tactic(auto)]
+
 ghost use Rattle.taking.specs.Sample.{Samples};
 
 use answers::{Outcome, Refusal};

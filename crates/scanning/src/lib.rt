@@ -1,5 +1,7 @@
 // A slot's formula, checked in one pass over its bytes. Two counts tell which operands are still owed: those outside next and the
 // temporal operators, and those inside one, which come first.
+#![tactic(auto)]
+
 ghost use Rattle.std.specs.Prelude.{◌≡◌, ◌+◌, ◌<◌, ◌^◌};
 ghost use Rattle.kinds.specs.Kinds.{kind_of};
 ghost use Rattle.scanning.specs.OnePass.{leaf_outside, unary_outside, binary_outside, outside_after, inside_after, pass_after, pass, Fitted};
@@ -9,7 +11,7 @@ use slot_sets::{SlotSet, has_slot, with_slot};
 
 // What may stand in a slot's formula. Propositions are below `propositions`, and outside next and the temporal operators in `own`;
 // place holders are above `slot`, below `slots` and in `holders`. Temporal operators stand outside next where `temporal` says so.
-#[derive(Drop)]
+#[derive(Clone, Copy)]
 pub struct Allowed {
     pub propositions: u64,
     pub slots: u64,
@@ -20,7 +22,7 @@ pub struct Allowed {
 }
 
 // Where the pass stands: the operands owed outside and inside, and the slots whose place holders were seen.
-#[derive(Drop)]
+#[derive(Clone, Copy)]
 pub struct Pass {
     pub outer: usize,
     pub inner: usize,
@@ -28,14 +30,14 @@ pub struct Pass {
 }
 
 // Where the pass stands behind a node, or that the node may not stand there.
-#[derive(Drop)]
+#[derive(Clone, Copy)]
 pub enum Passed {
     On(Pass),
     Off,
 }
 
 // The slots whose place holders were seen up to a formula's end, or that the formula fails.
-#[derive(Drop)]
+#[derive(Clone, Copy)]
 pub enum Held {
     Slots(SlotSet),
     Wrong,

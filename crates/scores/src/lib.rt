@@ -1,5 +1,7 @@
 // The scores of all boards, taken together: a count for each board, added operand by operand, and the choice of a board by them. A
 // proposition's board is looked up in a table of owners, which `owners` fills from the boards' masks.
+#![tactic(auto)]
+
 ghost use Rattle.std.specs.Prelude.{◌≡◌, ℕ, ◌+◌, ◌<◌, ◌≤◌, length, get_or};
 ghost use Rattle.std.proofs.Math.Option.{none};
 ghost use Rattle.lists.specs.Tests.{pick, bit};
@@ -26,13 +28,13 @@ const LAST_BOARD: u32 = 15;
 const COUNTS_BELOW: u32 = 134217728;
 
 // How often each board's propositions occur in a part; a board that is not there counts 0.
-#[derive(Drop)]
+#[derive(Clone, Copy)]
 pub struct Scores {
     pub counts: [u32; BOARDS_MOST],
 }
 
 // The board that a part is chosen for, or that it stays where it is.
-#[derive(Drop)]
+#[derive(Clone, Copy)]
 pub enum BoardChoice {
     Board(u8),
     Stays,
@@ -94,7 +96,7 @@ impl Scores {
 }
 
 // How many bytes of a formula were read, and its scores.
-#[derive(Drop)]
+#[derive(Clone, Copy)]
 pub struct Tallied {
     pub read: usize,
     pub scores: Scores,

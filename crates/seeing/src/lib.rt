@@ -1,4 +1,6 @@
 // What a slot sees when it is stepped, found in one pass over its bytes: whether it is ready, and what the slots are that it holds.
+#![tactic(auto)]
+
 ghost use Rattle.std.specs.Prelude.{◌≡◌, ◌+◌, ◌<◌};
 ghost use Rattle.limits.specs.Limits.{holder_codes};
 ghost use Rattle.kinds.specs.Kinds.{hold_code};
@@ -14,7 +16,7 @@ use slot_sets::{no_slots, with_slot};
 use state::{Counts, Span};
 
 // A slot that is not ready waits; another sees its board's sample and what the slots are that it holds.
-#[derive(Drop)]
+#[derive(Clone, Copy)]
 pub enum Sight {
     Waits,
     Sees(Seen),

@@ -1,5 +1,7 @@
 // Laying a slot in tokens. Laying a slot cuts its parts, and each cut part lays a slot, which is entered in a register unless an equal one is
 // there: so slots on one board with equal nodes are one entry, held by several.
+#![tactic(auto)]
+
 ghost use Rattle.std.specs.Prelude.{◌<◌, ◌≤◌};
 ghost use Rattle.limits.specs.Limits.{slots_room};
 ghost use Rattle.separating.specs.Laying.{LayAsk, Cuts, LaysSlot};
@@ -12,7 +14,7 @@ use parting::PARTS;
 
 // Where laying a slot has come to: the tokens written, where the parts begin that are still to be looked at, the nodes that the tokens
 // stand for, and the entries of the register. Where there is no room for an entry, there are SLOTS_ROOM of them, and no part is left.
-#[derive(Drop)]
+#[derive(Clone, Copy)]
 pub struct SlotProgress {
     pub written: usize,
     pub rest: usize,
@@ -21,7 +23,7 @@ pub struct SlotProgress {
 }
 
 // A slot's own tokens, the nodes that they stand for, and the entries of the register then; SLOTS_ROOM where there is no room.
-#[derive(Drop)]
+#[derive(Clone, Copy)]
 pub struct Body {
     pub tokens: usize,
     pub nodes: usize,

@@ -1,4 +1,6 @@
 // The nodes that tokens spell, written with new numbers in the place holders: a token is a node's code, or next and a text that is copied.
+#![tactic(auto)]
+
 ghost use Rattle.std.specs.Prelude.{◌≡◌, ◌∷◌, ◌++◌, ◌≤◌, ◌<◌, length, drop};
 ghost use Rattle.kinds.specs.Kinds.{unary_code};
 ghost use Rattle.kinds.specs.declared.Unary.TheVariants.{Next};

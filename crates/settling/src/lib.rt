@@ -1,4 +1,6 @@
 // A slot settled in a state that was opened: what the call `step` does on a watch that goes on.
+#![tactic(auto)]
+
 mod putting;
 
 ghost use Rattle.std.specs.Prelude.{◌≡◌, false};

@@ -1,5 +1,7 @@
 // A formula shown as text: one loop forwards over its bytes, without recursion. What waits behind the formula that is shown next, closing
 // brackets and infix signs, stands in an array, the latest lowest.
+#![tactic(auto)]
+
 ghost use Rattle.std.specs.Prelude.{◌≡◌, ◌+◌, ◌≤◌, length, drop};
 ghost use Rattle.text.specs.Printing.{unary_sign, constant_text, digits, leaf_text};
 ghost use Rattle.showing.specs.Dues.{sign_before, closes_first};
@@ -9,7 +11,7 @@ use kinds::{Binary, Join, Kind, Leaf, Unary};
 use limits::RULE_NODES_MOST;
 
 // Where the text ends that is put, where what waits begins, and the level of text that the next place takes.
-#[derive(Drop)]
+#[derive(Clone, Copy)]
 struct Pen {
     at: usize,
     top: usize,

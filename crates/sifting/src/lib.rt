@@ -1,5 +1,7 @@
 // The pass that mends: each record is marked, and the kept ones are put one behind the other. A record is put behind those that were
 // kept before its mark is looked at; where it is dropped the next one takes its place.
+#![tactic(auto)]
+
 ghost use Rattle.std.specs.Prelude.{◌≡◌, ◌++◌, ◌+◌, ◌*◌, ◌≤◌, length, take, drop, eqb};
 ghost use Rattle.lists.specs.Tests.{both};
 ghost use Rattle.recordings.specs.Records.{broken};
@@ -10,14 +12,14 @@ ghost use Rattle.sifting.specs.Sifted.{SiftAsk, SiftedTo, SiftsTo, Sifts};
 use recordings::RECORD_LENGTH;
 
 // How many records were kept, and how many of these are in the first stretch.
-#[derive(Drop)]
+#[derive(Clone, Copy)]
 pub struct KeptCounts {
     pub kept: usize,
     pub first: usize,
 }
 
 // How far a pass has come, and how many records were kept by then.
-#[derive(Drop)]
+#[derive(Clone, Copy)]
 struct Reached {
     place: usize,
     kept: usize,

@@ -1,5 +1,7 @@
 // How many nodes a formula unfolds to, counted over its bytes as they stand, in a loop forwards: each node counts as one, and a
 // temporal operator that is unfolded adds what it becomes besides. What stands under next is passed over at once.
+#![tactic(auto)]
+
 ghost use Rattle.std.specs.Prelude.{◌≡◌};
 ghost use Rattle.sizing.specs.Sizes.{SizeAsk, CountsUnfolded};
 ghost use Rattle.sizing.specs.Sums.{ever_kind, SumsWhole, SumsEver, SumsOn};
@@ -8,7 +10,7 @@ use kinds::{Kind, Unary};
 use limits::NODES_ROOM;
 
 // Where the count goes on, and how many nodes were counted.
-#[derive(Drop)]
+#[derive(Clone, Copy)]
 struct Tally {
     i: usize,
     count: usize,

@@ -1,10 +1,12 @@
 // Sets of slots, one bit a slot. Others make a set and ask it by these functions alone, and never look at its bits.
+#![tactic(auto)]
+
 ghost use Rattle.std.specs.Prelude.{◌≡◌, ◌<◌};
 ghost use Rattle.limits.specs.Limits.{holder_codes};
 ghost use Rattle.slot_sets.specs.SlotSets.{no_slots, every_slot, with_slot, has_slot};
 
 // Some of the slots that place holders have codes for.
-#[derive(Drop)]
+#[derive(Clone, Copy)]
 pub struct SlotSet {
     pub bits: u64,
 }

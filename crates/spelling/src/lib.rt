@@ -1,4 +1,6 @@
 // Boards as they are typed and shown: a board is the propositions that it sees, as `p0` or `p0,p2,p5`, or `-` where it sees none.
+#![tactic(auto)]
+
 pub mod shown;
 pub mod typed;
 
@@ -7,7 +9,7 @@ ghost use Rattle.spelling.specs.Count.{HighestSeen};
 use limits::PROPOSITIONS_MOST;
 
 // What a text is: the mask of a board, or no board.
-#[derive(Drop)]
+#[derive(Clone, Copy)]
 pub enum BoardAnswer {
     NoBoard,
     Sees(u64),

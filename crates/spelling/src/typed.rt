@@ -8,7 +8,7 @@ use limits::PROPOSITIONS_MOST;
 
 // What must come next: a name, the first digit of a number, what may follow one digit, what may follow two. Nothing follows what is
 // wrong.
-#[derive(Drop)]
+#[derive(Clone, Copy)]
 pub enum NameStage {
     Name,
     First,
@@ -18,7 +18,7 @@ pub enum NameStage {
 }
 
 // How far a list is read: what must come next, and the mask of the names before.
-#[derive(Drop)]
+#[derive(Clone, Copy)]
 pub struct ListRead {
     pub stage: NameStage,
     pub mask: u64,

@@ -1,5 +1,7 @@
 // The slots that are reached from a network's root, unfolded one behind the other and tagged, each on its board, so that they can be
 // laid again: at each place holder the tag says how far on its slot stands.
+#![tactic(auto)]
+
 ghost use Rattle.spreading.specs.Spreads.{SpreadAsk, Spreads};
 
 use carrying::put_slot;

@@ -1,6 +1,8 @@
 // The results of the formulas that were read, from the last byte on: they stand one behind the other at the end of the bytes, the one
 // read last lowest, and beside their bytes is noted how long they are. Here is what the member rule does not concern: a result of one
 // byte more, and not of the lowest one.
+#![tactic(auto)]
+
 ghost use Rattle.std.specs.Prelude.{◌≡◌, ◌+◌, ◌-◌, ◌<◌, ◌≤◌, length, set};
 ghost use Rattle.stacking.specs.Stacks.{Negatable, Negates, JoinByte};
 

@@ -1,4 +1,6 @@
 // The first state of a watch: the rule is unfolded, tagged on its board, and laid out into the state.
+#![tactic(auto)]
+
 ghost use Rattle.state.specs.Form.{form_in};
 ghost use Rattle.starting.specs.Starting.{FirstAsk, Firsts};
 

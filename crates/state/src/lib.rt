@@ -1,5 +1,7 @@
 // The room of the state's bytes: its forms, and each field of header, board records and slot records, read and written. Nobody else
 // knows where a field is.
+#![tactic(auto)]
+
 mod boards;
 mod header;
 mod slots;
@@ -27,7 +29,7 @@ pub const STATE_ROOM: usize = 4768;
 pub const ROWS_ROOM: usize = 384;
 
 // The forms of a state. Its length tells which one it has.
-#[derive(Drop)]
+#[derive(Clone, Copy)]
 pub enum Form {
     Plain,
 }
@@ -85,7 +87,7 @@ impl Form {
 }
 
 // A state's counts, as its header has them, and where by them the slots' records and the nodes begin.
-#[derive(Drop)]
+#[derive(Clone, Copy)]
 pub struct Counts {
     pub boards: usize,
     pub slots: usize,

@@ -10,7 +10,7 @@ ghost use Rattle.state.specs.Counted.{Sized, InStretch, Spans, record_of};
 use crate::{Counts, SLOT_ROW};
 
 // Where a slot's nodes lie in the state.
-#[derive(Drop)]
+#[derive(Clone, Copy)]
 pub struct Span {
     pub from: usize,
     pub to: usize,

@@ -1,4 +1,6 @@
 // The call `step`: a slot is stepped.
+#![tactic(auto)]
+
 ghost use Rattle.settling.specs.Step.{StepsSlot};
 
 use answers::{Outcome, Refusal};

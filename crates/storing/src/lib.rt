@@ -1,4 +1,6 @@
 // Writing a whole state: the header, the boards with nothing sampled, and the network that a tagged formula is laid out to.
+#![tactic(auto)]
+
 ghost use Rattle.std.specs.Prelude.{◌≡◌, ◌⊎◌, ◌≤◌};
 ghost use Rattle.state.specs.Form.{form_in};
 ghost use Rattle.storing.specs.Stores.{NetworkAsk, StoresNetwork, StateAsk, Stores};

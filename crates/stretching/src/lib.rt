@@ -1,4 +1,6 @@
 // The call `stretch`: the events of a recording's first stretch, one a tick. As in `mend`, every record is looked at before one is written.
+#![tactic(auto)]
+
 ghost use Rattle.std.specs.Prelude.{◌≡◌, ◌++◌, ◌-◌, ◌≤◌, length, take, replicate};
 ghost use Rattle.stretching.specs.Stretch.{Stretches, StretchReady, GatherAsk, Gathers};
 
@@ -6,7 +8,7 @@ use answers::Refusal;
 use recordings::BROKEN;
 
 // `Taken` has the number of events.
-#[derive(Drop)]
+#[derive(Clone, Copy)]
 pub enum StretchAnswer {
     Refused(Refusal),
     Taken(usize),

@@ -1,6 +1,8 @@
 // Resolving a formula in place, in its own bytes, in one loop from the last byte to the first. The bytes that are not read yet stand in
 // front, the results of those that were read at the end, and what is written never reaches what is not read. Beside the bytes are
 // notes: in front which parts stay whole, at the end how long the results are.
+#![tactic(auto)]
+
 ghost use Rattle.std.specs.Prelude.{◌≡◌, ◌+◌, ◌<◌, ◌≤◌, length};
 ghost use Rattle.kinds.specs.declared.Leaf.TheVariants.{Const};
 ghost use Rattle.kinds.specs.Kinds.{leaf_code};
@@ -11,7 +13,7 @@ use kinds::{Binary, Join, Kind, Unary};
 use resolving::Seen;
 
 // Where reading stands, and where the lowest result begins.
-#[derive(Drop)]
+#[derive(Clone, Copy)]
 pub struct Spot {
     pub i: usize,
     pub w: usize,

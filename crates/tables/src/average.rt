@@ -4,7 +4,7 @@ ghost use Rattle.lines.specs.Lines.{Line};
 ghost use Rattle.tables.specs.Average.{tenths_of, average_text, average_most};
 
 // Whole ticks, and tenths behind them.
-#[derive(Drop)]
+#[derive(Clone, Copy)]
 pub struct AverageTick {
     pub whole: u64,
     pub tenths: u64,

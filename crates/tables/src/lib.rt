@@ -1,5 +1,7 @@
 // A report for people: a table with a line for each rule that ran, and the same as comma-separated values for a spreadsheet. The bytes
 // are put into a page. Nothing here writes.
+#![tactic(auto)]
+
 mod average;
 mod cells;
 mod row_lines;
@@ -14,14 +16,14 @@ use limits::RULES_MOST;
 use reports::ROW_LENGTH;
 
 // How a page is laid out: as a table, or as comma-separated values.
-#[derive(Drop)]
+#[derive(Clone, Copy)]
 pub enum Sheet {
     Table,
     Values,
 }
 
 // How many runs a report has, and how many rules ran.
-#[derive(Drop)]
+#[derive(Clone, Copy)]
 pub struct ReportTotals {
     pub runs: u64,
     pub rules: u64,

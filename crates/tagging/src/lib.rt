@@ -1,5 +1,7 @@
 // Tags for laying an unfolded formula: for each of its operands the board that it is chosen for, and how long it is in a slot on
 // that board. One walk from the leaves up, a tag for each node outside next, at the node's place.
+#![tactic(auto)]
+
 pub mod packed;
 
 ghost use Rattle.std.specs.Prelude.{◌≡◌, ◌+◌, ◌*◌, ◌<◌, ◌≤◌, length};
@@ -15,7 +17,7 @@ use kinds::{Binary, Kind, Unary};
 use scores::Scores;
 
 // A part that was tagged: its length, its scores, the board that it is laid on, and its length in a slot there.
-#[derive(Drop)]
+#[derive(Clone, Copy)]
 pub struct TaggedPart {
     pub read: usize,
     pub scores: Scores,

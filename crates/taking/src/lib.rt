@@ -1,4 +1,6 @@
 // A board's sample taken into a state that was opened: what the call `sample` does on a watch that goes on.
+#![tactic(auto)]
+
 ghost use Rattle.std.specs.Prelude.{◌≡◌, false};
 ghost use Rattle.state.specs.Calls.{finished_in};
 ghost use Rattle.state.specs.Opened.{Opened};

@@ -1,6 +1,8 @@
 // Runs counted into tables, in one pass, and the rows of a report that the tables come to. The tables are lent: how many runs of each
 // rule came to each verdict, those of one verdict one behind the other; and for each rule the earliest tick of false, the latest, and
 // the sum. At first the earliest ticks are the highest that there is, and all else is 0.
+#![tactic(auto)]
+
 pub mod counted;
 pub mod tabled;
 

@@ -1,4 +1,6 @@
 // How a watch stands whose state was opened: what the call `ask` answers of it.
+#![tactic(auto)]
+
 ghost use Rattle.std.specs.Prelude.{◌≡◌, true};
 ghost use Rattle.state.specs.Calls.{finished_in, verdict_in};
 ghost use Rattle.state.specs.Opened.{Opened};
@@ -7,7 +9,7 @@ ghost use Rattle.telling.specs.Ask.{Asks};
 use answers::{Refusal, Verdict};
 use state::Counts;
 
-#[derive(Drop)]
+#[derive(Clone, Copy)]
 pub struct Standing {
     pub verdict: Verdict,
     pub ticks: u32,
@@ -15,7 +17,7 @@ pub struct Standing {
     pub nodes: usize,
 }
 
-#[derive(Drop)]
+#[derive(Clone, Copy)]
 pub enum AskAnswer {
     Refused(Refusal),
     Told(Standing),

@@ -1,5 +1,7 @@
 // Rules as people type them: what a byte of a text is, and how tightly an infix sign binds. The grammar, the place of a refusal and the
 // print are definitions in specs/.
+#![tactic(auto)]
+
 ghost use Rattle.std.specs.Prelude.{◌≡◌};
 ghost use Rattle.text.specs.Signs.{sign_of, digit_of, level};
 
@@ -23,7 +25,7 @@ pub fn level_of(o: Binary) -> u8
 
 // A blank, a sign in front of its operand, one between its operands, a bracket, the first letter of a constant, of a proposition, a
 // digit, or none of these.
-#[derive(Drop)]
+#[derive(Clone, Copy)]
 pub enum Sign {
     Blank,
     Prefix(Unary),

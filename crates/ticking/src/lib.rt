@@ -1,5 +1,7 @@
 // One tick of a capture: the event is given in the second buffer, which holds a copy of the state, and the tick is closed back into the
 // state. That is written only where nothing can refuse any more, so a refusal leaves it as it was.
+#![tactic(auto)]
+
 ghost use Rattle.ticking.specs.Tick.{TickAsk, TicksOnce};
 
 use answers::Outcome;

@@ -1,5 +1,7 @@
 // Unfolding a formula from its bytes into an output: one loop forwards, with a list of what is still to be done. What is written is
 // outlined on the way: the notes say which of its parts stay whole when it is resolved.
+#![tactic(auto)]
+
 ghost use Rattle.std.specs.Prelude.{◌≡◌, ◌∷◌, ◌++◌, ◌+◌, ◌-◌, ◌<◌, ◌≤◌, length, set, take, drop};
 ghost use Rattle.kinds.specs.declared.Unary.TheVariants.{Next};
 ghost use Rattle.kinds.specs.Kinds.{unary_code};
@@ -12,7 +14,7 @@ use limits::NODES_ROOM;
 use outlining::SMALL_NODES;
 
 // Where an unfolding has come to: the place that is read next, how much is written, and where what is still to be done begins.
-#[derive(Drop)]
+#[derive(Clone, Copy)]
 struct Cursor {
     read: usize,
     written: usize,

@@ -1,4 +1,6 @@
 // The verdict that a formula is, read from its bytes: no other formula's bytes begin as a constant does.
+#![tactic(auto)]
+
 ghost use Rattle.std.specs.Prelude.{◌≡◌};
 ghost use Rattle.verdicts.specs.Verdicts.{verdict_byte};
 

@@ -1,6 +1,8 @@
 // The program `vydrulka`: its first argument is a word that says what to do, and the other arguments are for that. Each word has a file
 // here, and `report` and `csv` have one together. What a word is asked for goes to standard output, at once and only where everything
 // was accepted; all else goes to standard error, and its last line says what came of it.
+#![tactic(auto)]
+
 mod input;
 mod output;
 mod recording;
@@ -17,7 +19,7 @@ use tables::Sheet;
 const WORD_ROOM: usize = 16;
 
 // What to do.
-#[derive(Drop)]
+#[derive(Clone, Copy)]
 enum Word {
     Rule,
     Text,

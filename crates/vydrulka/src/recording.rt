@@ -19,7 +19,7 @@ pub const RECORDING_MOST: usize = RECORDS_AT + RECORD_LENGTH * RECORDS_MOST;
 pub const RECORDING_ROOM: usize = RECORDING_MOST + 1;
 
 // How many records a recording has, how many of them were kept, and how many of these are in the first stretch.
-#[derive(Drop)]
+#[derive(Clone, Copy)]
 pub struct RecordCounts {
     pub records: usize,
     pub kept: usize,
@@ -27,7 +27,7 @@ pub struct RecordCounts {
 }
 
 // What became of a recording. Where it was not mended, why has been told.
-#[derive(Drop)]
+#[derive(Clone, Copy)]
 pub enum RecordingAnswer {
     NotMended,
     Mended(RecordCounts),

@@ -1,4 +1,6 @@
 // The call `write`: a rule's file, or the refusal.
+#![tactic(auto)]
+
 ghost use Rattle.rules.specs.Write.{Writes};
 
 use answers::Refusal;
