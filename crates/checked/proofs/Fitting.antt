@@ -74,6 +74,7 @@ module _ (p : ℕ) (masks : List ℕ) where
     free-within end (leaf (Prop i)) x = masks-below p masks few rule i x.0 (masks-has masks i x.0 x.1)
     free-within end (one o f) x = free-within end f x
     free-within end (two o f g) x = (free-within end f x.0, free-within end g x.1)
+    free-within end (leaf (Hold _)) x = elim x [ ]
 
     fits_kept : Kept choose (OwnTop choose) PartFits
     unfolding tidy unfolded_own

@@ -141,6 +141,7 @@ bare-progressed e (two Until f g) b =
     let left = ⊎_elim {C = Clear (progressed e f)} (λ t. inl (ap (λ (x : Formula). is_either (progressed e x)) t ∙ either-constant true)) (λ h. bare-progressed e f h) b.0 in
     joined-clear Or (progressed e g) (joined And (progressed e f) (two Until f g)) (bare-progressed e g b.1)
     (joined-clear And (progressed e f) (two Until f g) left (inr b))
+bare-progressed e (leaf (Const _)) b = elim b [ ]
 
 clear-progressed : (e : Event) (f : Formula) → Clear f → Clear (progressed e f)
 clear-progressed e f (inl q) = let c = either_is f q in inl (ap (λ (x : Formula). is_either (progressed e x)) c.1 ∙ either-constant c.0)

@@ -26,10 +26,13 @@ spine-ends (here e i) = let k = ap size i in (omega arith, omega arith)
 spine-ends (deeper x) = let k = spine-ends x in (omega arith, omega arith)
 
 -- one further down
+more-at : {j : Join} {from at : ℕ} {g k a b : Formula} → OnSpine j from g at k → k ≡ join j a b → OnSpine j from g (at + 1 + size a) b
+more-at {j} {from} {at} {g} {k} {a} {b} (here e i) q =
+    subst (λ (x : Formula). OnSpine j from x (at + 1 + size a) b) (sym (i ∙ q)) (deeper (here (ap (λ (n : ℕ). n + 1 + size a) e) refl))
+more-at (deeper x) q = deeper (more-at x q)
+
 pub spine-more : {j : Join} {from at : ℕ} {g a b : Formula} → OnSpine j from g at (join j a b) → OnSpine j from g (at + 1 + size a) b
-spine-more {j} {from} {at} {g} {a} {b} (here e i) =
-    subst (λ (x : Formula). OnSpine j from x (at + 1 + size a) b) (sym i) (deeper (here (ap (λ (k : ℕ). k + 1 + size a) e) refl))
-spine-more (deeper x) = deeper (spine-more x)
+spine-more x = more-at x refl
 
 -- the right operand stands behind the left one
 right-front : (p : List ℕ) (from : ℕ) (j : Join) (a b : Formula) (rest : List ℕ) → Front (drop from p) (join j a b) rest → Front (drop (from + 1 + size a) p) b rest
@@ -55,17 +58,22 @@ module _ (notes : List ℕ) where
   spine-noted (deeper x) s = spine-noted x s.1
 
   -- noting the length of a left operand
-  pub spine-put : {j : Join} {from at : ℕ} {g a b : Formula} → OnSpine j from g at (join j a b) → (n : ℕ) → n ≡ size a → at + 1 < length notes → Spined notes from g
+  put-at : {j : Join} {from at : ℕ} {g l a b : Formula} → OnSpine j from g at l → l ≡ join j a b → (n : ℕ) → n ≡ size a → at + 1 < length notes → Spined notes from g
       → Spined (set notes (at + 1) n) from g
-  spine-put {j} {from} {at} {g} {a} {b} (here e i) n k h s =
-      subst (λ (x : Formula). Spined (set notes (at + 1) n) from x) (sym i)
+  put-at {j} {from} {at} {g} {l} {a} {b} (here e i) q n k h s =
+      let w = i ∙ q in
+      subst (λ (x : Formula). Spined (set notes (at + 1) n) from x) (sym w)
       (subst (λ (m : ℕ). Spined (set notes (at + 1) n) m (join j a b)) (sym e) (
         (λ _. get_or-set_same notes (at + 1) n 0 h ∙ k),
         spined-same b notes (set notes (at + 1) n) (at + 1 + size a) (λ q u v. let z = size-some a in get_or-set_other notes (at + 1) q n 0 (λ w. omega arith))
-            (subst (λ (m : ℕ). Spined notes m (join j a b)) e (subst (λ (x : Formula). Spined notes from x) i s)).1,
+            (subst (λ (m : ℕ). Spined notes m (join j a b)) e (subst (λ (x : Formula). Spined notes from x) w s)).1,
       ))
-  spine-put {at = at} (deeper {from = from} {a = c} x) n k h s =
+  put-at {at = at} (deeper {from = from} {a = c} x) q n k h s =
       let o = (spine-ends x).1 in
       let z = size-some c in
       let m = get_or-set_other notes (at + 1) (from + 1) n 0 (λ w. omega arith) in
-      ((λ u. m ∙ s.0 (omega arith)), spine-put x n k h s.1)
+      ((λ u. m ∙ s.0 (omega arith)), put-at x q n k h s.1)
+
+  pub spine-put : {j : Join} {from at : ℕ} {g a b : Formula} → OnSpine j from g at (join j a b) → (n : ℕ) → n ≡ size a → at + 1 < length notes → Spined notes from g
+      → Spined (set notes (at + 1) n) from g
+  spine-put x n k h s = put-at x refl n k h s

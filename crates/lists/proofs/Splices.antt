@@ -4,7 +4,7 @@ use mathlib.Core.List.{List, ◌++◌}
 use Prim.Native.Nat.{ℕ, ◌+◌, ◌-◌, ◌<◌, ◌≤◌}
 use native.Mathlib.Omega.{arith}
 use lib.ListN.{length, get_or, take, drop, get_or-append}
-use lib.Seq.{take_at, drop_at, take-take, take-append-le, get_or-append-add, get_or-take, get_or-drop, length-take-le}
+use lib.Seq.{drop_at, take-take, take-append-le, get_or-append-add, get_or-take, get_or-drop, length-take-le}
 
 -- x, of n numbers, put into p from a on
 pub record Spliced (p p' x : List ℕ) (a n : ℕ) : Type 0 where

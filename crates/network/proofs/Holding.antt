@@ -32,6 +32,7 @@ free-holds choose Q (one Next f) x = tt
 free-holds choose Q (one (Ever j) f) x = tt
 free-holds choose Q (two (Joined j) f g) x = (free-holds choose Q f x.0, free-holds choose Q g x.1)
 free-holds choose Q (two Until f g) x = tt
+free-holds choose Q (leaf (Hold _)) x = elim x [ ]
 
 pub unfolded-holds : (choose : Formula → Option ℕ) (Q : ℕ → Type 0) (f : Formula) → Clean choose f → HoldsIn Q f → HoldsIn Q (unfolded f)
 unfolded-holds choose Q (leaf a) c x = x

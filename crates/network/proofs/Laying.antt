@@ -104,3 +104,5 @@ module _ (choose : Formula → Option ℕ) where
         kept.on-joined b k j f g x (looked (choose g) b (k + length x.slots) (laid choose hold g))
         (looked-elim (choose f) b k f (laid choose hold f) refl (λ d n o. laid-elim f d n c.0 l.0 (tops.stays d f c.0 o) q.0))
         (looked-elim (choose g) b (k + length x.slots) g (laid choose hold g) refl (λ d n o. laid-elim g d n c.1 l.1 (tops.stays d g c.1 o) q.1))
+    laid-elim (one (Ever _) f) b k c l h q = elim l [ ]
+    laid-elim (two Until f g) b k c l h q = elim l [ ]

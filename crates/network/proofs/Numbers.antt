@@ -79,6 +79,7 @@ module _ (choose : Formula → Option ℕ) where
   free-none m (leaf (Prop i)) x = refl
   free-none m (one o f) x = free-none m f x
   free-none m (two o f g) x = omega (arith, free-none m f x.0, free-none m g x.1)
+  free-none m (leaf (Hold _)) x = elim x [ ]
 
   once-kept : Kept choose (OwnTop choose) Once
   unfolding given

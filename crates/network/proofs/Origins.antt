@@ -42,10 +42,14 @@ agrees-right F E k n (o ∷ os) ps e a = agrees-right F E (k + 1) n os ps (omega
 pub keeps-both : (F E : Env) (ss ts : List Slot) (os ps : List Formula) → Keeps F E ss os → Keeps F E ts ps → Keeps F E (ss ++ ts) (os ++ ps)
 keeps-both F E [] ts [] ps a b = b
 keeps-both F E (s ∷ ss) ts (o ∷ os) ps a b = (a.0, keeps-both F E ss ts os ps a.1 b)
+keeps-both F E [] ts (o ∷ os) ps a b = elim a [ ]
+keeps-both F E (s ∷ ss) ts [] ps a b = elim a [ ]
 
 pub keeps-length : (F E : Env) (ss : List Slot) (os : List Formula) → Keeps F E ss os → length os ≡ length ss
 keeps-length F E [] [] a = refl
 keeps-length F E (s ∷ ss) (o ∷ os) a = ap suc (keeps-length F E ss os a.1)
+keeps-length F E [] (o ∷ os) a = elim a [ ]
+keeps-length F E (s ∷ ss) [] a = elim a [ ]
 
 -- ---- a part that was laid from f, its slots numbered from k on
 pub record From (E : Env) (k : ℕ) (f : Formula) (x : Laid) : Type 0 where
@@ -137,6 +141,8 @@ models-from F E k [] [] a b i l u = absurd (omega arith)
 models-from F E k (s ∷ ss) (o ∷ os) a b zero l u = let q : k + 0 ≡ k = omega arith in ap (F u) q ∙ a.0 u ∙ sym (b.0 u)
 models-from F E k (s ∷ ss) (o ∷ os) a b (suc i) l u =
     let q : k + suc i ≡ k + 1 + i = omega arith in ap (F u) q ∙ models-from F E (k + 1) ss os a.1 b.1 i (omega arith) u
+models-from F E k [] (o ∷ os) a b i l u = elim b [ ]
+models-from F E k (s ∷ ss) [] a b i l u = elim b [ ]
 
 -- each slot has the value that the environment gives its number
 abbrev pub Models : Env → List Slot → Type 0

@@ -149,6 +149,8 @@ module _ (choose : Formula → Option ℕ) where
         let l = stepped-clean b f x.0 in
         let r = stepped-clean b g x.1 in
         joined-elim (λ h. Clean h) j (after f) (after g) (λ e. tt) (λ e. tt) (λ e. r) (λ e. l) (λ m. r) (l, r)
+    stepped-clean b (one (Ever _) f) x = elim x [ ]
+    stepped-clean b (two Until f g) x = elim x [ ]
 
     pub stepped-headed : (b : ℕ) (f : Formula) → Plain b f → Headed b (after f)
     stepped-headed b (leaf (Const v)) x = tt
@@ -160,3 +162,5 @@ module _ (choose : Formula → Option ℕ) where
         let l = stepped-headed b f x.0 in
         let r = stepped-headed b g x.1 in
         joined-elim (λ h. Headed b h) j (after f) (after g) (λ e. tt) (λ e. tt) (λ e. r) (λ e. l) (λ m. r) tt
+    stepped-headed b (one (Ever _) f) x = elim x [ ]
+    stepped-headed b (two Until f g) x = elim x [ ]

@@ -48,6 +48,7 @@ free-only choose test (leaf (Const v)) x = refl
 free-only choose test (leaf (Prop i)) x = refl
 free-only choose test (one o f) x = free-only choose test f x
 free-only choose test (two o f g) x = both_true (holds_only test f) (holds_only test g) (free-only choose test f x.0) (free-only choose test g x.1)
+free-only choose test (leaf (Hold _)) x = elim x [ ]
 
 holds-only : (choose : Formula → Option ℕ) (b : ℕ) (test : ℕ → Bool) (f : Formula) → Plain choose b f → HoldsIn (λ m. test m ≡ true) f → holds_only test f ≡ true
 unfolding holds_only
@@ -58,6 +59,8 @@ holds-only choose b test (one Not f) p x = holds-only choose b test f p x
 holds-only choose b test (one Next f) p x = free-only choose test f p.0
 holds-only choose b test (two (Joined j) f g) p x =
     both_true (holds_only test f) (holds_only test g) (holds-only choose b test f p.0 x.0) (holds-only choose b test g p.1 x.1)
+holds-only choose b test (one (Ever _) f) p x = elim p [ ]
+holds-only choose b test (two Until f g) p x = elim p [ ]
 
 -- a slot that may be stepped
 pub record Ready (slots : List Slot) (marks : List Bool) : Type 0 where

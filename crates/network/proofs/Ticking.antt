@@ -51,6 +51,8 @@ stepped-holds choose s held Q b (two (Joined j) f g) p x =
     let l = stepped-holds choose s held Q b f p.0 x.0 in
     let r = stepped-holds choose s held Q b g p.1 x.1 in
     joined-elim (λ h. HoldsIn (λ m. Q m × (held m ≡ Pending)) h) j (resolved s (filled held f)) (resolved s (filled held g)) (λ e. tt) (λ e. tt) (λ e. r) (λ e. l) (λ m. r) (l, r)
+stepped-holds choose s held Q b (one (Rattle.kinds.specs.declared.Unary.TheVariants.Ever _) f) p x = elim p [ ]
+stepped-holds choose s held Q b (two Rattle.kinds.specs.declared.Binary.TheVariants.Until f g) p x = elim p [ ]
 
 -- ---- the value of a held slot, filled in
 filled-value : (E : Env) (e s : Event) (m : ℕ) (g : Formula) → ((u : List Event) → value (shifted e E) u g ≡ E (e ∷ u) m)
@@ -81,6 +83,8 @@ module _ (choose : Formula → Option ℕ) (choice : Choice choose) (sampled : E
   step_value E e held b (two (Joined j) f g) p x u =
       value-joined (shifted e E) u j (resolved (sampled e b) (filled held f)) (resolved (sampled e b) (filled held g))
       ∙ ap₂ (together j) (step_value E e held b f p.0 x.0 u) (step_value E e held b g p.1 x.1 u)
+  step_value E e held b (one (Rattle.kinds.specs.declared.Unary.TheVariants.Ever _) f) p x u = elim p [ ]
+  step_value E e held b (two Rattle.kinds.specs.declared.Binary.TheVariants.Until f g) p x u = elim p [ ]
 
   -- ---- a tick whose slots are all stepped
   module _ (E : Env) (e : Event) (before : List Slot) (ok : AllOk choose choice (length before) 0 before) (models : Models E before)

@@ -141,6 +141,7 @@ module _ (choose : Formula → Option ℕ) where
   now-free s t l m e h (two (Joined j) f g) x = ap₂ (together j) (now-free s t l m e h f x.0) (now-free s t l m e h g x.1)
   now-free s t l m e h (two Until f g) x =
       ap₂ (together Or) (now-free s t l m e h g x.1) (ap₂ (together And) (now-free s t l m e h f x.0) (h (two Until f g) x))
+  now-free s t l m e h (leaf (Hold _)) x = elim x [ ]
 
   pub value-free : (E F : Env) (u : List Event) (f : Formula) → Free choose f → value E u f ≡ value F u f
   value-free E F [] f x = refl

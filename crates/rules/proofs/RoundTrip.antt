@@ -23,7 +23,7 @@ use Rattle.rules.specs.declared.ReadAnswer.{ReadAnswer}
 use Rattle.rules.specs.declared.ReadAnswer.TheVariants.{Rule}
 use Rattle.rules.specs.declared.WriteAnswer.{WriteAnswer}
 use Rattle.rules.specs.declared.WriteAnswer.TheVariants.{Written}
-use Rattle.rules.specs.RuleFile.{version, masks_at, file_formula_at, file_most, file_header, mask_bytes, file_of, counts_ok, total_of, boards_in_file, propositions_in_file, nodes_in_file, mask_in_file, masks_in_file, formula_in_file}
+use Rattle.rules.specs.RuleFile.{masks_at, file_formula_at, file_most, file_header, mask_bytes, file_of, counts_ok, total_of, boards_in_file, propositions_in_file, nodes_in_file, mask_in_file, masks_in_file, formula_in_file}
 use Rattle.rules.specs.Read.{read_lengths_ok, offsets_ok, said_read, Reads}
 use Rattle.rules.specs.Write.{said_write, Writes}
 use Rattle.rules.proofs.Files.{Fields, mask_bytes-length, header-length, file_of-length, header-fields, masks-written, header_is, masks-rewritten}

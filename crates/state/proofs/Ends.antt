@@ -1,7 +1,7 @@
 -- The places in the header (`unequal-boards`, `unequal-slots`, `places-last`), and where a slot's stretch ends (`end-next`, `end-last`),
 -- test by test. Assumes nothing.
-use mathlib.Core.Path.{◌≡◌, sym, ap, ap₂, ◌∙◌}
-use mathlib.Core.Bool.{Bool, true, false}
+use mathlib.Core.Path.{◌≡◌, ap₂}
+use mathlib.Core.Bool.{false}
 use mathlib.Core.List.{List}
 use Prim.Native.Nat.{ℕ, ◌+◌, ◌<◌, ◌≤◌}
 use native.Mathlib.Omega.{arith}
@@ -10,7 +10,7 @@ use borrow.Author.Tests.{eq-eqb, ne_eqb, lt-ltb, le-ltb}
 use Rattle.lists.specs.Tests.{pick, both}
 use Rattle.state.specs.declared.Counts.{Counts}
 use Rattle.state.specs.Form.{form_in, boards_at, slots_at}
-use Rattle.state.specs.Fields.{boards_in, slots_in, nodes_in, boards_offset_in, slots_offset_in, nodes_offset_in, nodes_from, start_in, stretch_end}
+use Rattle.state.specs.Fields.{boards_in, slots_in, boards_offset_in, slots_offset_in, nodes_offset_in, nodes_from, start_in, stretch_end}
 use Rattle.state.specs.Clauses.{places_ok}
 use Rattle.state.specs.Counted.{Header}
 

@@ -9,7 +9,7 @@ use lib.ListN.{length}
 use Rattle.limits.specs.Limits.{boards_most, slots_room, nodes_room, holder_codes}
 use Rattle.state.specs.declared.Form.{Form}
 use Rattle.state.specs.declared.Form.TheVariants.{Plain}
-use Rattle.state.specs.Form.{form_of, form_in, state_length, Formed, board_row, slots_most, nodes_most, boards_at, board_at, slots_at, nodes_at}
+use Rattle.state.specs.Form.{form_of, form_in, state_length, Formed, board_row, slots_most, nodes_most, boards_at, board_at, nodes_at}
 
 -- a state of a form's length has that form
 pub form-length : (φ : Form) → form_of (state_length φ) ≡ φ

@@ -13,7 +13,7 @@ use Rattle.limits.specs.Limits.{boards_most}
 use Rattle.lists.specs.Tests.{pick, both}
 use Rattle.le.specs.Le.{le_at}
 use Rattle.le.proofs.Laws.{le_at-behind}
-use Rattle.ltl.specs.Formula.{size, encode, Coded}
+use Rattle.ltl.specs.Formula.{size, Coded}
 use Rattle.network.specs.Layout.{Slot, slot_at}
 use Rattle.state.specs.declared.Form.{Form}
 use Rattle.state.specs.Form.{form_in, state_length, slots_most, nodes_most, board_row, boards_at, board_at, slots_at, nodes_at}

@@ -2,12 +2,12 @@
 -- Assumes nothing.
 use mathlib.Core.Path.{◌≡◌, sym, ap, ap₂, subst, ◌∙◌}
 use mathlib.Core.List.{List, ◌++◌}
-use Prim.Native.Nat.{ℕ, ◌+◌, ◌-◌, ◌*◌, ◌<◌, ◌≤◌}
+use Prim.Native.Nat.{ℕ, ◌+◌, ◌*◌, ◌<◌, ◌≤◌}
 use native.Mathlib.Omega.{arith}
 use lib.ListN.{length, drop}
 use Rattle.limits.specs.Limits.{boards_most, slots_room}
 use Rattle.state.specs.declared.Form.{Form}
-use Rattle.state.specs.Form.{form_in, state_length, slots_most, board_row, boards_at, slots_at, slot_rows, Formed}
+use Rattle.state.specs.Form.{form_in, slots_most, board_row, boards_at, slots_at, slot_rows, Formed}
 use Rattle.state.proofs.Forms.{slots-few, length-few, form-room, board-behind}
 use Rattle.lists.specs.Runs.{tail, tail_as}
 use Rattle.le.specs.Le.{le}

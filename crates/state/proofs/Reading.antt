@@ -1,14 +1,14 @@
 -- A state that was written reads back as the network: the laws `reads-..` have the header's counts, the slots' records and their
 -- formulas, `network-reads` the whole network. Assumes nothing.
-use mathlib.Core.Path.{◌≡◌, refl, sym, ap, ap₂, ◌∙◌}
-use mathlib.Core.List.{List, [], ◌∷◌, ◌++◌, append_assoc}
+use mathlib.Core.Path.{◌≡◌, sym, ap, ap₂, ◌∙◌}
+use mathlib.Core.List.{List, ◌++◌, append_assoc}
 use mathlib.Core.Option.{some}
-use Prim.Native.Nat.{ℕ, zero, suc, ◌+◌, ◌-◌, ◌*◌, ◌^◌, ◌<◌, ◌≤◌}
+use Prim.Native.Nat.{ℕ, ◌+◌, ◌<◌, ◌≤◌}
 use native.Mathlib.Omega.{arith}
-use lib.ListN.{length, get_or, take, drop}
+use lib.ListN.{length, get_or, drop}
 use lib.Seq.{drop_at, drop-drop, get_or-append-add, ext_get_or}
 use Rattle.limits.specs.Limits.{boards_most}
-use Rattle.le.specs.Le.{le, le_at}
+use Rattle.le.specs.Le.{le_at}
 use Rattle.le.proofs.Laws.{le_at-behind}
 use Rattle.ltl.specs.Formula.{size, encode, Coded}
 use Rattle.ltl.specs.Decode.{decoded, some_formula}

@@ -1,11 +1,10 @@
 -- What the calls on a state answer, and what they leave. Assumes nothing: these are definitions.
-use Rattle.std.specs.Prelude.{ℕ, ◌+◌, ◌^◌, Bool, not, List, [], ◌∷◌, ◌++◌, length, take, drop, get_or, set, leb, ltb, eqb}
+use Rattle.std.specs.Prelude.{ℕ, ◌+◌, ◌^◌, Bool, not, List, [], ◌∷◌, length, get_or, leb, ltb, eqb}
 use Rattle.lists.specs.Tests.{pick, both}
 use Rattle.lists.specs.Runs.{padded}
 use Rattle.answers.specs.Said.{Said, accepted, left, verdict_number, check, in_order}
 use Rattle.answers.specs.declared.Verdict.{Verdict}
 use Rattle.answers.specs.declared.Verdict.TheVariants.{False, True, Pending}
-use Rattle.le.specs.Le.{le}
 use Rattle.ltl.specs.Formula.{Formula, size, encode}
 use Rattle.ltl.specs.Progression.{resolved, filled, verdict_of}
 use Rattle.network.specs.Scores.{chosen}

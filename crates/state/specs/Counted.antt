@@ -1,5 +1,5 @@
 -- What the contracts on a state ask of its counts and slots, and what they tell. Assumes nothing: these are definitions.
-use Rattle.std.specs.Prelude.{◌≡◌, ℕ, ◌+◌, ◌*◌, ◌≤◌, List, length}
+use Rattle.std.specs.Prelude.{◌≡◌, ℕ, ◌+◌, ◌≤◌, List, length}
 use Rattle.limits.specs.Limits.{boards_most}
 use Rattle.state.specs.declared.Counts.{Counts}
 use Rattle.state.specs.Form.{form_in, slots_most, nodes_most, slot_rows, slots_at, Formed}

@@ -1,6 +1,6 @@
 -- The state's fields: a header of 16 bytes, a record for each board, one for each slot, the nodes, and zeros to the end. Where the
 -- records are is told by the state's form. Assumes nothing: these are definitions.
-use Rattle.std.specs.Prelude.{ℕ, ◌+◌, ◌*◌, List, take, drop, get_or, ltb}
+use Rattle.std.specs.Prelude.{ℕ, ◌+◌, List, take, drop, get_or, ltb}
 use Rattle.std.proofs.Math.Option.{Option}
 use Rattle.lists.specs.Tests.{pick}
 use Rattle.lists.specs.Listed.{listed}
