@@ -70,8 +70,8 @@ fn one_less(d: usize) -> usize
 
 // The byte b in front of the bytes.
 fn front(out: &mut [u8], x: Midway, b: u8) -> Midway
-    requires fact_1 { 0 < x.edges.at }
-    requires fact_2 { x.edges.at ≤ length out.old }
+    requires waiting { 0 < x.edges.at }
+    requires within { x.edges.at ≤ length out.old }
     ensures { Fronts b out.old x out.new result }
 {
     let at = x.edges.at - 1;

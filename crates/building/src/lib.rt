@@ -47,9 +47,9 @@ pub fn count_nodes(text: &[u8]) -> usize
 
 // The pass, with room for a sign that waits beside each byte.
 fn gather(text: &[u8], out: &mut [u8], levels: &mut [u8], depths: &mut [usize])
-    requires fact_1 { nodes_in text.now ≡ length out.old }
-    requires fact_2 { length out.old ≤ length levels.old }
-    requires fact_3 { length out.old ≤ length depths.old }
+    requires as_many { nodes_in text.now ≡ length out.old }
+    requires levels_long { length out.old ≤ length levels.old }
+    requires depths_long { length out.old ≤ length depths.old }
     ensures { (f : Formula) → Text text.now f → out.new ≡ encode f }
 {
     let mut x = Midway {

@@ -38,8 +38,8 @@ pub struct TextStep {
 
 // The position behind the next byte.
 fn past(text: &[u8], c: TextCursor) -> TextCursor
-    requires fact_1 { Stands text.now c }
-    requires fact_2 { c.byte < length text.now }
+    requires stands { Stands text.now c }
+    requires before_end { c.byte < length text.now }
     ensures { Behind text.now c result }
 {
     let at = c.byte;
@@ -166,8 +166,8 @@ fn digit_in(k: Sign) -> usize
 
 // The digits behind the first ones of a number, which are n.
 fn figures(text: &[u8], c: TextCursor, n: usize) -> TextStep
-    requires fact_1 { Stands text.now c }
-    requires fact_2 { n < propositions_most }
+    requires stands { Stands text.now c }
+    requires below { n < propositions_most }
     ensures { WordRead text.now c (figure n) result }
 {
     let mut cur = c;

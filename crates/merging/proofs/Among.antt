@@ -44,6 +44,7 @@ place_in d b t n (m ∷ ms) a = go (is_slot b t m) refl a (λ x. place_in d b t 
     go true e a ih = let s = slot_is b t m e in (omega arith, s.0, s.1)
     go false e (here p q r) ih = absurd (no_true (sym e ∙ slot_of b t m q r))
     go false e (there a) ih = let i = ih a in let l = i.0 in (omega arith, i.1, i.2)
+place_in d b t n [] a = elim a [ ]
 
 -- in the first of two rows
 pub place-left : (b : ℕ) (t : Tree) (n : ℕ) (ms ns : List Met) → Among n b t ms → place b t (ms ++ ns) < length ms
@@ -54,6 +55,7 @@ place-left b t n (m ∷ ms) ns a = go (is_slot b t m) refl a (λ x. place-left b
     go true e a ih = omega arith
     go false e (here p q r) ih = absurd (no_true (sym e ∙ slot_of b t m q r))
     go false e (there a) ih = let i = ih a in omega arith
+place-left b t n [] ns a = elim a [ ]
 
 -- not in the first of two rows
 pub place-right : (b : ℕ) (t : Tree) (ms ns : List Met) → (In b t ms → ⊥) → place b t (ms ++ ns) ≡ length ms + place b t ns
@@ -70,6 +72,7 @@ pub longest-upper : (n b : ℕ) (t : Tree) (ms : List Met) → Among n b t ms �
 unfolding longest pick
 longest-upper n b t (m ∷ ms) (here p q r) = rw (slot_of b t m q r) (omega arith)
 longest-upper n b t (m ∷ ms) (there a) = let i = longest-upper n b t ms a in omega arith
+longest-upper n b t [] x' = elim x' [ ]
 
 max-elim : (P : ℕ → Type 0) (x y : ℕ) → P x → P y → P (max x y)
 max-elim P x y p q = go (dec_lt x y)
@@ -127,6 +130,7 @@ in-firsts b t n seen (m ∷ ms) a = go (is_in m.board m.body seen) refl a (λ s 
         was : In b t (m ∷ seen) → In b t (m ∷ firsts (m ∷ seen) ms) ⊎ In b t seen
         was (k, here p q r) = inl (in-here b t m (firsts (m ∷ seen) ms) q r)
         was (k, there a) = inr (k, a)
+in-firsts b t n seen [] a = elim a [ ]
 
 pub none_in : (b : ℕ) (t : Tree) → In b t [] → ⊥
 none_in b t a = let i = place_in (record { chain = 0; board = b; body = t }) b t a.0 [] a.1 in let l = i.0 in omega arith
@@ -142,6 +146,7 @@ module _ (all : List Met) where
       go true q (there a) ih = there (ih a)
       go false q (here p r s) ih = absurd (no_true (sym q ∙ eq-eqb (longest m.board m.body all) k (ap₂ (λ (c : ℕ) (u : Tree). longest c u all) (sym r) (sym s) ∙ e)))
       go false q (there a) ih = ih a
+  in-level b t n k [] e a = elim a [ ]
 
   -- and no other
   pub level-only : (b : ℕ) (t : Tree) (n k : ℕ) (ms : List Met) → Among n b t (level all k ms) → longest b t all ≡ k
@@ -153,6 +158,7 @@ module _ (all : List Met) where
       go true q (here p r s) ih = ap₂ (λ (c : ℕ) (u : Tree). longest c u all) r s ∙ eqb-true (longest m.board m.body all) k q
       go true q (there a) ih = ih a
       go false q a ih = ih a
+  level-only b t n k [] a = elim a [ ]
 
   in-levels : (b : ℕ) (t : Tree) (n k more : ℕ) (ms : List Met) → k ≤ longest b t all → longest b t all < k + more → Among n b t ms → Among n b t (levels all ms k more)
   unfolding levels
@@ -196,6 +202,7 @@ holds-met n c u (slot b t) (itself p q) = here refl p q
 holds-met n c u (negation t) (under-not h) = holds-met n c u t h
 holds-met n c u (pair j t t') (on-left h) = among-left (met n t') (holds-met n c u t h)
 holds-met n c u (pair j t t') (on-right h) = among-right (met n t) (holds-met n c u t' h)
+holds-met n c u (stays _) x'' = elim x'' [ ]
 
 pub split-among : (n b : ℕ) (t : Tree) (ms ns : List Met) → Among n b t (ms ++ ns) → Among n b t ms ⊎ Among n b t ns
 split-among n b t [] ns a = inr a
@@ -210,6 +217,7 @@ met-closed k n b c t u (pair j r r') a h =
 met-closed k n b c t u (slot d r) (here p q s) h =
     there (subst (λ (i : ℕ). Among i c u (met (k + 1) r)) (ap (λ (i : ℕ). i + 1) (sym p)) (subst (λ (x : Tree). Holds c u x → Among (k + 1) c u (met (k + 1) r)) (sym s) (λ h. holds-met (k + 1) c u r h) h))
 met-closed k n b c t u (slot d r) (there a) h = there (met-closed (k + 1) n b c t u r a h)
+met-closed k n b c t u (stays _) a h = elim a [ ]
 
 -- chains are not shorter than where they begin, and shorter than the row
 pub met-range : (k n b : ℕ) (t r : Tree) → Among n b t (met k r) → (k ≤ n) × (n < k + length (met k r))
@@ -219,6 +227,7 @@ met-range k n b t (pair j r r') a =
     ⊎_elim (λ x. (let i = met-range k n b t r x in let h = i.1 in (i.0, omega arith))) (λ x. (let i = met-range k n b t r' x in let h = i.1 in (i.0, omega arith))) (split-among n b t (met k r) (met k r') a)
 met-range k n b t (slot d r) (here p q s) = (omega arith, omega arith)
 met-range k n b t (slot d r) (there a) = let i = met-range (k + 1) n b t r a in let l = i.0 in let h = i.1 in (omega arith, omega arith)
+met-range k n b t (stays _) a = elim a [ ]
 
 -- ---- the ordered row
 pub in-ordered : (n b : ℕ) (t r : Tree) → Among n b t (met 1 r) → In b t (ordered r)
@@ -254,6 +263,7 @@ firsts-only n b t seen (m ∷ ms) a = go (is_in m.board m.body seen) a (λ s x. 
     go true a ih = there (ih seen a)
     go false (here p q r) ih = here p q r
     go false (there a) ih = there (ih (m ∷ seen) a)
+firsts-only n b t seen [] a = elim a [ ]
 
 pub level-part : (all : List Met) (n b : ℕ) (t : Tree) (k : ℕ) (ms : List Met) → Among n b t (level all k ms) → Among n b t ms
 unfolding level pick
@@ -263,6 +273,7 @@ level-part all n b t k (m ∷ ms) a = go (eqb (longest m.board m.body all) k) a 
     go true (here p q r) ih = here p q r
     go true (there a) ih = there (ih a)
     go false a ih = there (ih a)
+level-part all n b t k [] a = elim a [ ]
 
 pub levels-part : (all : List Met) (n b : ℕ) (t : Tree) (k more : ℕ) (ms : List Met) → Among n b t (levels all ms k more) → Among n b t ms × (k ≤ longest b t all)
 unfolding levels

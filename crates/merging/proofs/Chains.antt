@@ -33,6 +33,7 @@ met-holder k n c u (slot d r) (here p q s) = inl (p, itself q s)
 met-holder k n c u (slot d r) (there a) =
     ⊎_elim (λ x. inr (record { chain = k; board = d; body = r; among = here refl refl refl; holds = x.1; more = x.0 }))
     (λ h. inr (record { chain = h.chain; board = h.board; body = h.body; among = there h.among; holds = h.holds; more = h.more })) (met-holder (k + 1) n c u r a)
+met-holder k n c u (stays _) a = elim a [ ]
 
 -- one that the root holds has a chain of 1 at least, and one that a slot holds one more than the slot at least
 pub chain-above : (n b c : ℕ) (t u r : Tree) → Among n b t (met 1 r) → Holds c u t → longest b t (met 1 r) + 1 ≤ longest c u (met 1 r)

@@ -34,6 +34,7 @@ removed-length n b t (m ∷ ms) a = go (is_slot b t m) refl a (λ x. removed-len
     go true e a ih = refl
     go false e (here p q r) ih = absurd (no_true (sym e ∙ slot_of b t m q r))
     go false e (there a) ih = ap suc (ih a)
+removed-length n b t [] a = elim a [ ]
 
 removed-has : (n b c : ℕ) (t u : Tree) (ms : List Met) → (b ≡ c → t ≡ u → ⊥) → Among n c u ms → Among n c u (removed b t ms)
 unfolding removed pick
@@ -44,6 +45,7 @@ removed-has n b c t u (m ∷ ms) d a = go (is_slot b t m) refl a (λ x. removed-
     go true e (there a) ih = a
     go false e (here p q r) ih = here p q r
     go false e (there a) ih = there (ih a)
+removed-has n b c t u [] d a = elim a [ ]
 
 pub once-few : (xs ys : List Met) → Once xs → ((n b : ℕ) (t : Tree) → Among n b t xs → In b t ys) → length xs ≤ length ys
 once-few [] ys o h = omega arith
@@ -67,6 +69,7 @@ firsts-new n b t seen (m ∷ ms) a e = go (is_in m.board m.body seen) refl a (λ
     go true q a ih = ih seen a e
     go false q (here p r s) ih = no_true (sym q ∙ ap₂ (λ (c : ℕ) (u : Tree). is_in c u seen) (sym r) (sym s) ∙ e)
     go false q (there a) ih = let i = is-in b t seen e in ih (m ∷ seen) a (in_is b t i.0 (m ∷ seen) (there i.1))
+firsts-new n b t seen [] a e = elim a [ ]
 
 -- each slot once, where it is first met
 pub firsts-once : (seen ms : List Met) → Once (firsts seen ms)
@@ -120,6 +123,7 @@ module _ (w : ℕ → Tree → ℕ) where
       go true e a ih = let s = slot_is b t m e in ap (λ (x : ℕ). x + total w ms) (ap₂ w s.0 s.1)
       go false e (here p q r) ih = absurd (no_true (sym e ∙ slot_of b t m q r))
       go false e (there a) ih = let i = ih a in omega arith
+  removed-total n b t [] a = elim a [ ]
 
   total-few : (xs ys : List Met) → Once xs → ((n b : ℕ) (t : Tree) → Among n b t xs → In b t ys) → total w xs ≤ total w ys
   total-few [] ys o h = omega arith

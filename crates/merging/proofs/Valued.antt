@@ -66,12 +66,15 @@ module _ (choose : Formula → Option ℕ) where
   grown-ok b held (one Not f) p h = grown-ok b held f p h
   grown-ok b held (one Next f) p h = (p, p.0)
   grown-ok b held (two (Joined j) f g) p h = (grown-ok b held f p.0 h.0, grown-ok b held g p.1 h.1)
+  grown-ok b held (one (Rattle.kinds.specs.declared.Unary.TheVariants.Ever _) f) p h = elim p [ ]
+  grown-ok b held (two Rattle.kinds.specs.declared.Binary.TheVariants.Until f g) p h = elim p [ ]
 
   pub met-ok : (k n b c : ℕ) (t r : Tree) → OkTree b r → Among n c t (met k r) → OkTree c t
   met-ok k n b c t (negation r) o a = met-ok k n b c t r o a
   met-ok k n b c t (pair j r s) o a = ⊎_elim (λ x. met-ok k n b c t r o.0 x) (λ x. met-ok k n b c t s o.1 x) (split-among n c t (met k r) (met k s) a)
   met-ok k n b c t (slot d r) o (here p q s) = subst (λ (i : ℕ). OkTree i t) (sym q) (subst (λ (x : Tree). OkTree d x) (sym s) o)
   met-ok k n b c t (slot d r) o (there a) = met-ok (k + 1) n d c t r o a
+  met-ok k n b c t (stays _) o a = elim a [ ]
 
   -- ---- numbers put back
   module _ (row : List Met) where
@@ -104,6 +107,8 @@ module _ (choose : Formula → Option ℕ) where
   grown-value E e us b held (one Not f) p h = ap opposite (grown-value E e us b held f p h)
   grown-value E e us b held (one Next f) p h = value-free choose E never us f p.0
   grown-value E e us b held (two (Joined j) f g) p h = ap₂ (together j) (grown-value E e us b held f p.0 h.0) (grown-value E e us b held g p.1 h.1)
+  grown-value E e us b held (one (Rattle.kinds.specs.declared.Unary.TheVariants.Ever _) f) p h = elim p [ ]
+  grown-value E e us b held (two Rattle.kinds.specs.declared.Binary.TheVariants.Until f g) p h = elim p [ ]
 
   module _ (choice : Choice choose) (slots : List Slot) (ok : AllOk choose choice (length slots) 0 slots) where
     pub slot_ok : (m : ℕ) → m < length slots → SlotOk choose choice (length slots) m (slot_at slots m)

@@ -66,6 +66,7 @@ after-has n b t seen (m ∷ ms) a = go (is_in m.board m.body seen) refl a (λ s 
     go true e (there a) ih = ih seen a
     go false e (here p q r) ih = after-keeps b t (m ∷ seen) ms (n, here p q r)
     go false e (there a) ih = ih (m ∷ seen) a
+after-has n b t seen [] a = elim a [ ]
 
 after-only : (n b : ℕ) (t : Tree) (seen ms : List Met) → Among n b t (after seen ms) → Among n b t seen ⊎ Among n b t ms
 unfolding after pick
@@ -89,6 +90,7 @@ in_is b t n (m ∷ ms) (there a) = go (is_slot b t m) (in_is b t n ms a)
     go : (x : Bool) → is_in b t ms ≡ true → pick x true (is_in b t ms) ≡ true
     go true e = refl
     go false e = e
+in_is b t n [] x' = elim x' [ ]
 
 -- nothing is new where all was seen
 after-seen : (seen ms : List Met) → ((n b : ℕ) (t : Tree) → Among n b t ms → In b t seen) → after seen ms ≡ seen
@@ -105,6 +107,7 @@ met-shift n k i b t (pair j r s) a =
     ⊎_elim (λ x. (let y = met-shift n k i b t r x in (y.0, among-left (met k s) y.1))) (λ x. (let y = met-shift n k i b t s x in (y.0, among-right (met k r) y.1))) (split-among i b t (met n r) (met n s) a)
 met-shift n k i b t (slot d r) (here p q s) = (k, here refl q s)
 met-shift n k i b t (slot d r) (there a) = let y = met-shift (n + 1) (k + 1) i b t r a in (y.0, there y.1)
+met-shift n k i b t (stays _) a = elim a [ ]
 
 -- what is met below a slot that is met is met
 met-below : (n k i j b c : ℕ) (t u r : Tree) → Among i b t (met n r) → Among j c u (met k t) → In c u (met n r)
@@ -114,6 +117,7 @@ met-below n k i j b c t u (pair o r s) a h =
 met-below n k i j b c t u (slot d r) (here p q s) h =
     let y = met-shift k (n + 1) j c u r (subst (λ (x : Tree). Among j c u (met k x)) s h) in (y.0, there y.1)
 met-below n k i j b c t u (slot d r) (there a) h = let y = met-below (n + 1) k i j b c t u r a h in (y.0, there y.1)
+met-below n k i j b c t u (stays _) a h = elim a [ ]
 
 -- below each slot that was seen and is smaller than s, all was seen
 abbrev Full : ℕ → List Met → Type 0

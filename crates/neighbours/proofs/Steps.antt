@@ -3,9 +3,8 @@
 use Rattle.std.proofs.Common.{◌≡◌, ℕ, zero, suc, ◌+◌, ◌%◌, ◌^◌, ◌<◌, ◌≤◌, Bool, true, false, eqb, List, sym, refl, ap, ◌∙◌, add-one, arith, eqb-true}
 use borrow.Author.Tests.{eqb-false}
 use Rattle.lists.specs.Tests.{pick}
-use Rattle.lists.proofs.Tests.{no_true}
 use Rattle.le.proofs.Laws.{Bytes}
-use Rattle.recordings.specs.Records.{Record, step_from, doubles, clashes, follows, kept, dropped, broken, mark_of}
+use Rattle.recordings.specs.Records.{Record, step_from, doubles, clashes, kept, dropped, broken, mark_of}
 use Rattle.recordings.specs.Mending.{mark_by, NoClash}
 use Rattle.recordings.specs.Recording.{record_in}
 use Rattle.recordings.proofs.Neighbours.{doubles-same, step-none, step-doubles, follows-one, follows-not}

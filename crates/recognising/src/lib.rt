@@ -25,8 +25,8 @@ struct TextCheck {
 
 // A gap and a sign where an operand is wanted, and what they make of the check.
 fn wanting(text: &[u8], c: TextCursor, depth: usize) -> TextCheck
-    requires fact_1 { Stands text.now c }
-    requires fact_2 { depth ≤ c.byte }
+    requires stands { Stands text.now c }
+    requires deep { depth ≤ c.byte }
     ensures { CheckTurn text.now (record { at = c; depth = depth; stage = 0 }) result }
 {
     let s = lending::operand_from(text, c);
@@ -68,8 +68,8 @@ fn wanting(text: &[u8], c: TextCursor, depth: usize) -> TextCheck
 
 // A gap and a sign where an operand has ended, and what they make of the check.
 fn having(text: &[u8], c: TextCursor, depth: usize) -> TextCheck
-    requires fact_1 { Stands text.now c }
-    requires fact_2 { depth ≤ c.byte }
+    requires stands { Stands text.now c }
+    requires deep { depth ≤ c.byte }
     ensures { CheckTurn text.now (record { at = c; depth = depth; stage = 1 }) result }
 {
     let s = lending::operator_from(text, c, depth);
@@ -111,9 +111,9 @@ fn having(text: &[u8], c: TextCursor, depth: usize) -> TextCheck
 
 // One turn of the check, in the stage that it stands in.
 fn turn(text: &[u8], x: TextCheck) -> TextCheck
-    requires fact_1 { Stands text.now x.at }
-    requires fact_2 { x.depth ≤ x.at.byte }
-    requires fact_3 { x.stage < 2 }
+    requires stands { Stands text.now x.at }
+    requires deep { x.depth ≤ x.at.byte }
+    requires early { x.stage < 2 }
     ensures { CheckTurn text.now x result }
 {
     if x.stage == 0 {

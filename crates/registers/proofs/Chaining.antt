@@ -28,6 +28,7 @@ inside-met n b t (slot c u) (inside-slot i) = let x = inside-met (n + 1) b t u i
 inside-met n b t (negation u) (inside-not i) = inside-met n b t u i
 inside-met n b t (pair j u v) (inside-left i) = let x = inside-met n b t u i in (x.0, among-left (met n v) x.1)
 inside-met n b t (pair j u v) (inside-right i) = let x = inside-met n b t v i in (x.0, among-right (met n u) x.1)
+inside-met n b t (Rattle.merging.specs.Merge.stays _) x'' = elim x'' [ ]
 
 -- what a formula holds, its tree holds
 pub grows-holds : (reg : List Slot) {f : Formula} {u : Tree} → Grows reg f u → (m b : ℕ) (t : Tree) → OneOf m (holds_of f) → Grows reg (leaf (Hold m)) (slot b t) → Holds b t u

@@ -38,6 +38,7 @@ pub inside-slot-on : (b c : ℕ) (t u : Tree) → Inside b t u → Inside b t (s
 inside-slot-on b c t (slot d u) i = i
 inside-slot-on b c t (negation u) i = inside-slot i
 inside-slot-on b c t (pair j u v) i = inside-slot i
+inside-slot-on b c t (stays _) i = elim i [ ]
 
 inside-looked : (o : Option ℕ) (d b : ℕ) (t : Tree) (lay : ℕ → Tree) → ((c : ℕ) → Inside b t (lay c)) → Inside b t (looked_tree o d lay)
 unfolding looked_tree pick

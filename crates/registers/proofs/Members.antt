@@ -43,6 +43,7 @@ pub among_of : (m : ℕ) (ks : List ℕ) → OneOf m ks → is_among m ks ≡ tr
 unfolding is_among either
 among_of m (k ∷ ks) (one-here e) = rw (eq-eqb m k e)
 among_of m (k ∷ ks) (one-there a) = rw (among_of m ks a) (either-right (eqb m k))
+among_of m [] x' = elim x' [ ]
 
 pub one_none : (m : ℕ) → OneOf m [] → ⊥
 unfolding is_among

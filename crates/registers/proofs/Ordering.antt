@@ -80,6 +80,7 @@ met-depth k n b t (pair j r s) a =
     ⊎_elim (λ x. (let l = met-depth k n b t r x in omega arith)) (λ x. (let l = met-depth k n b t s x in omega arith)) (split-among n b t (met k r) (met k s) a)
 met-depth k n b t (slot d r) (here p q s) = omega arith
 met-depth k n b t (slot d r) (there a) = let l = met-depth (k + 1) n b t r a in omega arith
+met-depth k n b t (Rattle.merging.specs.Merge.stays _) a = elim a [ ]
 
 pub row-place : (reg : List Slot) → Apart reg → {ks : List ℕ} {ms : List Met} → RowOf reg ks ms → (k b : ℕ) (t : Tree) → Grows reg (leaf (Hold k)) (slot b t) → place_in k ks ≡ place b t ms
 unfolding place_in place

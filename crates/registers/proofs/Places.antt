@@ -36,6 +36,7 @@ place_at k (n ∷ ns) a = go (eqb k n) refl a (λ x. place_at k ns x)
     go true e a ih = (omega arith, sym (eqb-true k n e))
     go false e (one-here q) ih = absurd (no_true (sym e ∙ eq-eqb k n q))
     go false e (one-there a) ih = let i = ih a in let l = i.0 in (omega arith, i.1)
+place_at k [] a = elim a [ ]
 
 pub place_of : (ks : List ℕ) → OnceOf ks → (i : ℕ) → i < length ks → place_in (get_or ks i 0) ks ≡ i
 unfolding place_in pick
@@ -80,6 +81,7 @@ without-sum w k (n ∷ ns) a = go (eqb k n) refl a (λ x. without-sum w k ns x)
     go true e a ih = ap (λ (x : ℕ). w x + sum_of w ns) (eqb-true k n e)
     go false e (one-here q) ih = absurd (no_true (sym e ∙ eq-eqb k n q))
     go false e (one-there a) ih = let i = ih a in omega arith
+without-sum w k [] a = elim a [ ]
 
 without-has : (k m : ℕ) (ks : List ℕ) → (k ≡ m → ⊥) → OneOf m ks → OneOf m (without k ks)
 unfolding without pick
@@ -90,6 +92,7 @@ without-has k m (n ∷ ns) d a = go (eqb k n) refl a (λ x. without-has k m ns d
     go true e (one-there a) ih = a
     go false e (one-here q) ih = one-here q
     go false e (one-there a) ih = one-there (ih a)
+without-has k m [] d a = elim a [ ]
 
 without-only : (k m : ℕ) (ks : List ℕ) → OneOf m (without k ks) → OneOf m ks
 unfolding without pick

@@ -1,26 +1,23 @@
 -- The two passes together: up to the first break what is kept is the first stretch (`first-reached`), where no break ends it all records are gone
 -- through (`all-reached`), and with zeros behind them the kept records are all that is put (`sifted`). Assumes nothing.
-use mathlib.Core.Path.{◌≡◌, refl, sym, ap, ◌∙◌, subst}
-use mathlib.Core.Bool.{Bool, true, false, not}
-use mathlib.Core.List.{List, [], ◌∷◌, ◌++◌}
-use Prim.Native.Nat.{ℕ, zero, suc, ◌-◌, ◌*◌, ◌<◌, ◌≤◌}
+use mathlib.Core.Path.{◌≡◌, refl, sym, ap, ◌∙◌}
+use mathlib.Core.Bool.{true, false}
+use mathlib.Core.List.{List, ◌++◌}
+use Prim.Native.Nat.{ℕ, ◌-◌, ◌*◌, ◌<◌, ◌≤◌}
 use native.Mathlib.Omega.{arith}
 use native.Mathlib.Decide.{ℕ_discrete}
-use lib.ListN.{length, take, drop, replicate, length-drop, take-append-drop}
+use lib.ListN.{length, drop, replicate, length-drop, take-append-drop}
 use lib.Seq.{take_all}
-use lib.Dec.{eqb}
-use borrow.Author.Tests.{eq-eqb, ne_eqb}
-use Rattle.lists.specs.Tests.{pick, both}
-use Rattle.lists.specs.Runs.{padded, tail, tail_as}
+use borrow.Author.Tests.{eq-eqb}
+use Rattle.lists.specs.Runs.{tail, tail_as}
 use Rattle.lists.specs.Listed.{listed}
 use Rattle.lists.proofs.Tests.{no_true}
 use Rattle.lists.proofs.Stretches.{tail-clear}
-use Rattle.recordings.specs.Records.{Record, broken}
-use Rattle.recordings.specs.Mending.{marks_of, not_dropped, before_break, kept_of, first_stretch, mark_by}
+use Rattle.recordings.specs.Records.{broken}
+use Rattle.recordings.specs.Mending.{not_dropped, before_break, kept_of, first_stretch, mark_by}
 use Rattle.recordings.specs.Recording.{record_length, record_in, record_bytes}
 use Rattle.recordings.proofs.Places.{whole, whole-all, marks-listed, stretch-whole, stretch-stops}
 use Rattle.recordings.proofs.Bytes.{records-length}
-use Rattle.sifting.specs.declared.KeptCounts.{KeptCounts}
 use Rattle.sifting.specs.declared.Reached.{Reached}
 use Rattle.sifting.specs.Sifted.{kept_to, SiftAsk, SiftsTo, Sifts}
 use Rattle.sifting.proofs.Turning.{kept-least}

@@ -24,7 +24,6 @@ use Rattle.recordings.specs.Recording.{record_length, record_in, one_record, rec
 use Rattle.recordings.proofs.Places.{kept_more, kept-few}
 use Rattle.recordings.proofs.Bytes.{record-length, records-both}
 use Rattle.neighbours.specs.Steps.{mark_of_step}
-use Rattle.sifting.specs.declared.Reached.{Reached}
 use Rattle.sifting.specs.Sifted.{kept_to, SiftedTo, NoBreak, SiftsTo}
 
 -- ---- a record put

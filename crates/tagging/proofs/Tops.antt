@@ -29,7 +29,7 @@ use Rattle.cutting.specs.Cuts.{looked_as, code_of, choice_of, place_of, stays_on
 use Rattle.cutting.proofs.Choices.{chosen-below, chosen-one, chosen-left, chosen-right}
 use Rattle.cutting.proofs.Looking.{looked-by, place_is, place-own}
 use Rattle.tagging.specs.declared.TaggedPart.{TaggedPart}
-use Rattle.tagging.specs.Packed.{board_room, tag_of}
+use Rattle.tagging.specs.Packed.{tag_of}
 use Rattle.tagging.specs.Tags.{here_on, Tags, Tagged, TaggedAs, shown_as, Seals, Showable, NotAsk, PairAsk, TagOver, OverNot, OverPair}
 use Rattle.tagging.proofs.Packing.{board-fits, length-fits, tag-has}
 use Rattle.tagging.proofs.Places.{Agree, tags-alike, tagged-same}

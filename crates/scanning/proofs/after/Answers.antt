@@ -10,8 +10,8 @@ returns-then-at-lt1 c = rw (le-ltb _ _ c.if-at-gt0.false, lt-ltb _ _ c.if-at-lt1
 
 pub returns-then-at-gt0 : goal.returns-then-at-gt0
 unfolding pass_after pick
-returns-then-at-gt0 c = rw (lt-ltb _ _ c.of.true, ← c.struct_known-then-at-gt0-1.ensures) c.inside.ensures
+returns-then-at-gt0 c = rw (lt-ltb _ _ c.if-at-gt0.true, ← c.of.ensures) c.inside.ensures
 
 pub returns : goal.returns
 unfolding pass_after pick
-returns c = rw (le-ltb _ _ c.struct_known-2-1.given, le-ltb _ _ c.of-2.false, ← c.struct_known-3-1.ensures) c.outside.ensures
+returns c = rw (le-ltb _ _ c.if-at-gt0.false, le-ltb _ _ c.if-at-lt1.false, ← c.of-2.ensures) c.outside.ensures

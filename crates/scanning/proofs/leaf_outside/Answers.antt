@@ -1,7 +1,7 @@
 -- The tests in the order of the definition, one arm for each kind of leaf. Assumes nothing.
 use mathlib.Core.Path.{◌≡◌, sym, ◌∙◌}
 use mathlib.Core.Bool.{true}
-use borrow.Author.Tests.{lt-ltb, le-ltb, eq-eqb, ne_eqb, not-false}
+use borrow.Author.Tests.{lt-ltb, le-ltb, eq-eqb, ne_eqb}
 use Rattle.lists.specs.Tests.{pick, both, bit}
 use Rattle.slot_sets.specs.SlotSets.{has_slot}
 use native.Mathlib.Omega.{arith}
@@ -30,25 +30,24 @@ returns-else-allowed-i-ne1 c = rw (c.in-Prop.is, lt-ltb _ _ c.if-allowed-i.false
 pub returns-then-m-allowed : goal.returns-then-m-allowed
 unfolding pick both bit
 returns-then-m-allowed c =
-    let a = c.args.before.args in
-    rw (c.in-Hold.is, lt-ltb _ _ c.if-allowed-m.false, le-ltb a.allowed.slot c.in-Hold.m (let l = c.if-m-allowed.true in omega arith))
+    rw (c.in-Hold.is, lt-ltb _ _ c.if-allowed-m.false, le-ltb c.args.allowed.slot c.in-Hold.m (let l = c.if-m-allowed.true in omega arith))
 
 pub returns-then-not-has_slot : goal.returns-then-not-has_slot
 unfolding pick both bit
 returns-then-not-has_slot c =
     let n = sym c.has_slot.ensures ∙ c.if-not-has_slot.true in
-    rw (c.in-Hold.is, lt-ltb _ _ c.struct_known-in-Hold-2-1.false, lt-ltb _ _ c.has_slot-arg-1.false, n)
+    rw (c.in-Hold.is, lt-ltb _ _ c.if-allowed-m.false, lt-ltb _ _ c.if-m-allowed.false, n)
 
 pub returns-then-has_slot : goal.returns-then-has_slot
 unfolding pick both bit
 returns-then-has_slot c =
-    let may-stand : has_slot c.args.args.allowed.holders c.in-Hold.m ≡ true = sym c.has_slot.ensures ∙ not-false _ c.if-not-has_slot.false in
+    let may-stand : has_slot c.args.allowed.holders c.in-Hold.m ≡ true = sym c.has_slot.ensures ∙ c.if-not-has_slot.false in
     let y = may-stand in let t = sym c.has_slot-in-Hold.ensures ∙ c.if-has_slot.true in
-    rw (c.in-Hold.is, lt-ltb _ _ c.struct_known-in-Hold-2-1.false, lt-ltb _ _ c.has_slot-arg-1.false, y, t)
+    rw (c.in-Hold.is, lt-ltb _ _ c.if-allowed-m.false, lt-ltb _ _ c.if-m-allowed.false, y, t)
 
 pub returns-else-has_slot : goal.returns-else-has_slot
 unfolding pick both bit
 returns-else-has_slot c =
-    let may-stand : has_slot c.args.args.allowed.holders c.in-Hold.m ≡ true = sym c.has_slot.ensures ∙ not-false _ c.if-not-has_slot.false in
+    let may-stand : has_slot c.args.allowed.holders c.in-Hold.m ≡ true = sym c.has_slot.ensures ∙ c.if-not-has_slot.false in
     let y = may-stand in let t = sym c.has_slot-in-Hold.ensures ∙ c.if-has_slot.false in
-    rw (c.in-Hold.is, lt-ltb _ _ c.struct_known-in-Hold-2-1.false, lt-ltb _ _ c.has_slot-arg-1.false, y, t, c.with_slot.ensures)
+    rw (c.in-Hold.is, lt-ltb _ _ c.if-allowed-m.false, lt-ltb _ _ c.if-m-allowed.false, y, t, c.with_slot.ensures)

@@ -1,9 +1,8 @@
 use mathlib.Core.Path.{◌≡◌, refl, sym, ◌∙◌}
-use Prim.Native.Nat.{◌-◌}
 use borrow.Author.Tests.{lt-ltb, le-ltb}
 use Rattle.lists.specs.Tests.{pick}
 use Rattle.scanning.specs.OnePass.{at, pass, ended}
-use Rattle.scanning.proofs.Owing.{turn-off, turn-ended}
+use Rattle.scanning.proofs.Owing.{owing-few, turn-next, turn-off, turn-ended}
 use native.Mathlib.Omega.{arith}
 use Rattle.scanning.proofs.pass_over.Goals as goal
 
@@ -33,6 +32,14 @@ returns c =
     let all_read : let a = c.args in pass a.allowed a.s.now (at 1 0 a.seen) ≡ ended c.loop-i.at = c.loop-i.invariant.2 ∙ turn-ended _ _ _ _ c.loop-i-test.false in
     sym (all_read ∙ rw (le-ltb _ _ c.if-at-gt0.false, le-ltb _ _ c.if-at-gt0-2.false))
 
+pub returns-in_default : goal.returns-in_default
+unfolding ended pick
+returns-in_default c = sym (c.loop-i.invariant.2 ∙ turn-off _ _ _ _ c.loop-i-test.true (sym c.after-next.ensures ∙ c.in_default.is))
+
 pub loop-i-preserved : goal.loop-i-preserved
 unfolding ended pick
-loop-i-preserved c = sym (c.loop-i-test.true.2 ∙ turn-off _ _ _ _ c.shared_slice_known-in-loop-i-1.true (sym c.in-On.ensures ∙ c.in-On.is))
+loop-i-preserved c =
+    let k = c.loop-i.invariant in
+    let e = sym c.after-next.ensures ∙ c.in-On.is in
+    let f = owing-few _ _ _ _ e in
+    (omega arith, omega arith, k.2 ∙ turn-next _ _ _ _ c.loop-i-test.true _ e)

@@ -2,7 +2,7 @@
 use mathlib.Core.Path.{◌≡◌}
 use Prim.Native.Nat.{◌+◌, ◌-◌, ◌≤◌}
 use lib.ListN.{length, drop}
-use Rattle.scanning.specs.OnePass.{at, pass}
+use Rattle.scanning.specs.OnePass.{pass}
 use Rattle.scanning.proofs.pass_over.Given as goal
 
 abbrev pub invariant-loop-i : goal.invariant-loop-i

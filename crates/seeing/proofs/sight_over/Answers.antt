@@ -1,5 +1,4 @@
-use Prim.Native.Nat.{◌-◌}
-use Rattle.seeing.proofs.Sights.{scanned-begins, scanned-waits, scanned-ends}
+use Rattle.seeing.proofs.Sights.{scanned-begins, scanned-more, scanned-waits, scanned-ends}
 use Rattle.seeing.proofs.sight_over.Goals as goal
 
 pub loop-i-init : goal.loop-i-init
@@ -12,4 +11,7 @@ pub returns : goal.returns
 returns c = scanned-ends c.loop-i.invariant c.loop-i-test.false
 
 pub loop-i-preserved : goal.loop-i-preserved
-loop-i-preserved c = scanned-waits c.loop-i-test.true c.shared_slice_known-in-loop-i-1.true c.in-Sees.ensures c.in-Sees.is
+loop-i-preserved c = scanned-more c.loop-i.invariant c.loop-i-test.true c.sight_after-next.ensures c.in-Sees.is
+
+pub returns-in_default : goal.returns-in_default
+returns-in_default c = scanned-waits c.loop-i.invariant c.loop-i-test.true c.sight_after-next.ensures c.in_default.is

@@ -1,0 +1,9 @@
+-- Small formulas apart, by what was counted. Assumes nothing.
+use Rattle.unfolding.proofs.Goings.{ask-size, ask-small}
+use Rattle.unfolding.proofs.unfold_into.Goals as goal
+
+pub count_unfolded-requires : goal.count_unfolded-requires
+count_unfolded-requires c = ask-size c.requires
+
+pub unfold_small-requires : goal.unfold_small-requires
+unfold_small-requires c = ask-small _ c.count_unfolded.ensures c.if-count_unfolded-le-SMALL_NODES.true c.requires
