@@ -1,14 +1,14 @@
 -- What laying writes, by the top node: one law for each (`lays-..`), over the bytes before and after. Assumes nothing.
 use mathlib.Core.Path.{◌≡◌, refl, sym, ap, ap₂, ◌∙◌}
 use mathlib.Core.List.{List, [], ◌∷◌, ◌++◌, append_assoc}
-use Prim.Native.Nat.{ℕ, suc, ◌+◌, ◌-◌, ◌*◌, ◌≤◌}
+use Prim.Native.Nat.{ℕ, suc, ◌+◌}
 use native.Mathlib.Omega.{arith}
 use lib.ListN.{length, take, drop, set, length-append}
 use lib.Seq.{drop_at}
 use Rattle.state.specs.Form.{slot_row, slot_rows}
 use Rattle.lists.specs.Runs.{tail, tail_as}
 use Rattle.lists.proofs.Parts.{lent-tail, handed-tail}
-use Rattle.lists.proofs.Stretches.{put_next, none-long}
+use Rattle.lists.proofs.Stretches.{none-long}
 use Rattle.kinds.specs.declared.Leaf.TheVariants.{Hold}
 use Rattle.kinds.specs.declared.Unary.{Unary}
 use Rattle.kinds.specs.declared.Binary.{Binary}

@@ -1,5 +1,5 @@
 -- Laying over bytes: what stands where before, and what was written. Assumes nothing: these are definitions.
-use Rattle.std.specs.Prelude.{◌≡◌, ℕ, ◌+◌, ◌*◌, ◌<◌, ◌≤◌, List, ◌++◌, length, get_or, drop}
+use Rattle.std.specs.Prelude.{◌≡◌, ℕ, ◌+◌, ◌<◌, ◌≤◌, List, ◌++◌, length, get_or, drop}
 use Rattle.std.proofs.Math.Option.{Option, some}
 use Rattle.state.specs.Form.{slot_rows}
 use Rattle.kinds.specs.declared.Join.{Join}

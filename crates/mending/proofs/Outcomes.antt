@@ -1,10 +1,10 @@
 -- One law for each way out of `mend`: a length that is wrong (`total-wrong`, `room-wrong`, `list-wrong`), a header (`header-wrong`), a clash
 -- (`clash-found`), and the mended recording (`mended-ready`); what its pass and its header
 -- are asked (`sift-ask`, `header-ask`), and the header's bytes (`header-put`). Assumes nothing.
-use mathlib.Core.Path.{◌≡◌, refl, sym, ap, ap₂, ◌∙◌, subst}
-use mathlib.Core.Bool.{Bool, true, false}
+use mathlib.Core.Path.{◌≡◌, refl, sym, ap, ap₂, ◌∙◌}
+use mathlib.Core.Bool.{true, false}
 use mathlib.Core.List.{List, [], ◌∷◌, ◌++◌, append_assoc}
-use Prim.Native.Nat.{ℕ, ◌+◌, ◌-◌, ◌*◌, ◌<◌, ◌≤◌, ◌^◌}
+use Prim.Native.Nat.{ℕ, ◌+◌, ◌-◌, ◌<◌, ◌≤◌, ◌^◌}
 use native.Mathlib.Omega.{arith}
 use lib.ListN.{length, take, drop, replicate, length-append}
 use borrow.Author.Tests.{eqb-true, eq-eqb, ne_eqb}
@@ -20,10 +20,10 @@ use Rattle.answers.proofs.Answers.{left-refused, left-accepted}
 use Rattle.le.specs.Le.{le}
 use Rattle.le.proofs.Laws.{Bytes, le_at-less}
 use Rattle.le.proofs.Puts.{number_put}
-use Rattle.recordings.specs.Mending.{marks_of, kept_of, first_stretch, agree}
-use Rattle.recordings.specs.Recording.{records_at, record_length, recording_length, count_in, total_in, record_in, records_in, total_ok, header_ok, header_of, record_bytes, recording_of}
+use Rattle.recordings.specs.Mending.{marks_of, kept_of, first_stretch}
+use Rattle.recordings.specs.Recording.{records_at, recording_length, count_in, total_in, record_in, records_in, total_ok, header_ok, header_of, record_bytes, recording_of}
 use Rattle.recordings.proofs.Places.{agree-all}
-use Rattle.recordings.proofs.Bytes.{header-length, records-length}
+use Rattle.recordings.proofs.Bytes.{header-length}
 use Rattle.inspecting.specs.Looked.{LooksOver}
 use Rattle.inspecting.proofs.Fits.{header-long}
 use Rattle.inspecting.proofs.Looking.{looked-clash}

@@ -5,7 +5,6 @@ use Rattle.lists.specs.Runs.{padded}
 use Rattle.answers.specs.Said.{Said, accepted, refused, number_of, check, in_order, left}
 use Rattle.recordings.specs.Mending.{marks_of, kept_of, first_stretch, agree, NoClash}
 use Rattle.recordings.specs.Recording.{count_in, record_in, records_in, total_ok, header_ok, recording_of}
-use Rattle.mending.specs.declared.Mended.{Mended}
 use Rattle.mending.specs.declared.MendAnswer.{MendAnswer}
 use Rattle.mending.specs.declared.MendAnswer.TheVariants as said
 

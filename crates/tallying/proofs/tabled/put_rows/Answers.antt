@@ -1,5 +1,4 @@
 use mathlib.Core.Path.{refl, ◌∙◌}
-use Prim.Native.Nat.{◌-◌}
 use native.Mathlib.Omega.{arith}
 use Rattle.rows.proofs.Written.{rows_none, rows_more, rows-done}
 use Rattle.tallying.proofs.tabled.put_rows.Goals as goal

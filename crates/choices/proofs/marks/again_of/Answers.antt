@@ -1,0 +1,12 @@
+-- A remainder of a quotient. Assumes nothing.
+use native.Mathlib.Omega.{arith}
+use Rattle.choices.specs.Marks.{again_in}
+use Rattle.choices.proofs.marks.again_of.Goals as goal
+
+pub overflow_cast-result : goal.overflow_cast-result
+unfolding again_in
+overflow_cast-result c = omega arith
+
+pub returns : goal.returns
+unfolding again_in
+returns c = (omega arith, omega arith)

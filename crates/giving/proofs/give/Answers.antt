@@ -1,0 +1,28 @@
+-- One law of proofs/Following.antt for each way out; a state that was opened has few boards. Assumes nothing.
+use Rattle.records.proofs.Opened.{opened-sized}
+use Rattle.giving.proofs.Kept.{gives-going, gives_as}
+use Rattle.giving.proofs.Following.{given-outside, given-sampled, given-stepped}
+use Rattle.giving.proofs.give.Goals as goal
+
+pub union-requires : goal.union-requires
+union-requires c = let z = opened-sized c.before.requires.opened in (z.long, z.few-boards)
+
+pub returns-then-event-union : goal.returns-then-event-union
+returns-then-event-union c =
+    let g = c.requires in let o = g.opened in
+    gives-going g (given-outside _ _ o.passes _ o.header.boards-are _ c.union.ensures c.if-event-union.true)
+
+pub returns-in_default : goal.returns-in_default
+returns-in_default c =
+    let o = c.requires.opened in
+    gives_as c.sample_all-sampled.ensures
+    (given-sampled _ _ o.passes _ o.header.boards-are _ c.union.ensures c.if-event-union.false _ _ _ c.in_default.is c.sample_all-sampled.ensures.comes)
+
+pub step_all-requires : goal.step_all-requires
+step_all-requires c = c.sample_all-sampled.ensures.going c.in-Done.is
+
+pub returns : goal.returns
+returns c =
+    let o = c.requires.opened in let s = c.step_all.ensures in
+    gives_as s
+    (given-stepped _ _ o.passes _ o.header.boards-are _ c.union.ensures c.if-event-union.false _ _ _ _ _ o.header.slots-are c.in-Done.is c.sample_all-sampled.ensures.comes s.comes)

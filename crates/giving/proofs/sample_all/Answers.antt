@@ -1,0 +1,28 @@
+use mathlib.Core.Path.{refl, ap}
+use Prim.Native.Nat.{ℕ, ◌-◌}
+use lib.Bits.{bit_and}
+use Rattle.records.proofs.Opened.{opened-sized}
+use Rattle.course.specs.Given.{sampled_from}
+use Rattle.giving.proofs.Kept.{gives-going, gives_same, sampled-same}
+use Rattle.giving.proofs.Following.{comes-by, sampled-ends, sampled-all}
+use native.Mathlib.Nat.{sub-zero}
+use native.Mathlib.Omega.{arith}
+use Rattle.giving.proofs.sample_all.Goals as goal
+
+pub loop-i-init : goal.loop-i-init
+loop-i-init c = let a = c.args in (c.requires, ap (λ (n : ℕ). sampled_from n a.event 0 a.state.now) (sub-zero a.c.boards), refl)
+
+pub mask_of-requires : goal.mask_of-requires
+mask_of-requires c = let z = opened-sized c.loop-i.invariant.0.opened in let f = z.few-boards in let l = c.loop-i-test.true in (z.long, omega arith)
+
+pub sample_going-outcome-requires : goal.sample_going-outcome-requires
+sample_going-outcome-requires c = let g = c.loop-i.invariant.0 in (g.opened, g.unfinished)
+
+pub loop-i-preserved : goal.loop-i-preserved
+loop-i-preserved c =
+    let a = c.args in let i = c.loop-i.invariant in
+    gives_same i.0 (sampled-same c.sample_going-outcome.ensures _ c.in-Done.is)
+    (comes-by _ _ _ _ i.1 (sampled-ends _ _ _ _ _ _ c.loop-i-test.true (ap (bit_and a.event) c.mask_of.ensures) _ _ c.in-Done.is c.sample_going-outcome.ensures))
+
+pub returns : goal.returns
+returns c = let i = c.loop-i.invariant in gives-going i.0 (comes-by _ _ _ _ i.1 (sampled-all _ _ _ _ c.loop-i-test.false))
