@@ -104,16 +104,13 @@ fn run<I: Read, W: Write>(
 {
     let mut hand = behind;
     let mut waiting = nodes;
-    let mut left = TURNS;
-    while 0 < left {
+    for _ in 0..TURNS {
         if waiting == 0 {
             return;
         }
         let turned = turn(input, out, piece, hand, state, second);
-        let rest = turned.hand;
-        hand = rest;
+        hand = turned.hand;
         waiting = turned.waiting;
-        left -= 1;
     }
 }
 
