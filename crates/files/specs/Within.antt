@@ -6,5 +6,5 @@ use Rattle.files.specs.declared.FileAnswer.TheVariants.{NotOpened, NotRead, Byte
 -- no fewer bytes than there were, and no more than there is room for
 abbrev pub Within : ℕ → ℕ → FileAnswer → Type 0
 Within had room (Bytes n) = (had ≤ n) × (n ≤ room)
-Within had room NotOpened = Unit {0}
-Within had room NotRead = Unit {0}
+Within had room (NotOpened _) = Unit {0}
+Within had room (NotRead _) = Unit {0}

@@ -14,8 +14,9 @@ pub fn text(line: &mut [u8], at: usize, text: &[u8]) -> usize
     requires { at + length text.now ≤ length line.old }
     ensures { Adds text.now line.old at line.new result }
 {
-    buffers::copy(&mut line[at..], text);
-    at + text.len()
+    let end = at + text.len();
+    line[at..end].copy_from_slice(text);
+    end
 }
 
 // A number in decimal digits.
@@ -51,7 +52,7 @@ pub fn verdict(line: &mut [u8], at: usize, verdict: Verdict) -> usize
 
 // The line of a watch: ticks, verdict, slots and nodes.
 pub fn standing(line: &mut [u8], ticks: u64, told: Verdict, slots: u64, nodes: u64) -> usize
-    requires* { do ⌜ (← ⟦line.len()⟧) ≡ (← ⟦LINE⟧) ⌝ }
+    requires { length line.old ≡ LINE }
     ensures { Line (standing_line ticks told slots nodes) line.new result }
 {
     let a = number(line, 0, ticks);
@@ -63,7 +64,7 @@ pub fn standing(line: &mut [u8], ticks: u64, told: Verdict, slots: u64, nodes: u
 
 // The line of a rule in one place: ticks, verdict and nodes.
 pub fn progress(line: &mut [u8], ticks: u64, told: Verdict, nodes: u64) -> usize
-    requires* { do ⌜ (← ⟦line.len()⟧) ≡ (← ⟦LINE⟧) ⌝ }
+    requires { length line.old ≡ LINE }
     ensures { Line (progress_line ticks told nodes) line.new result }
 {
     let a = number(line, 0, ticks);
@@ -74,7 +75,7 @@ pub fn progress(line: &mut [u8], ticks: u64, told: Verdict, nodes: u64) -> usize
 
 // The last line after a refusal.
 pub fn refused(line: &mut [u8], refusal: Refusal) -> usize
-    requires* { do ⌜ (← ⟦line.len()⟧) ≡ (← ⟦LINE⟧) ⌝ }
+    requires { length line.old ≡ LINE }
     ensures { Line (refused_line refusal) line.new result }
 {
     let a = text(line, 0, b"refused");

@@ -1,4 +1,4 @@
-// Standard input, read in pieces: one read takes whatever is there, up to the piece's end, and the events are taken from it one by one.
+// The input, read in pieces: one read takes whatever is there, up to the piece's end, and the events are taken from it one by one.
 // No read is made while a whole event is in hand. A read that fails is told as such, also one that a signal broke off; it never
 // looks like the end of the input.
 ghost use Rattle.std.specs.Prelude.{◌≡◌, ◌≤◌, [], length, take};
@@ -6,6 +6,7 @@ ghost use Rattle.programs.specs.Hand.{InHand, bytes_of, ReadsWithin, CameBehind,
 
 use came::{EVENT, Next};
 use rules::MASKS_AT;
+use std::io::Read;
 
 // The length of a piece.
 pub const PIECE: usize = 4096;
@@ -57,30 +58,25 @@ pub enum Taken {
 }
 
 // One read into the piece, from `end` on; what stands before stays.
-fn read_at(piece: &mut [u8], end: usize) -> Brought
+fn read_at<I: Read>(input: &mut I, piece: &mut [u8], end: usize) -> Brought
     requires { end ≤ length piece.old }
     ensures { ReadsWithin end (length piece.old) result × (take end piece.new ≡ take end piece.old) }
 {
-    let got = libc::read(libc::STDIN_FILENO, &mut piece[end..]);
-    if got < 0 {
-        return Brought::Failed;
+    match input.read(&mut piece[end..]) {
+        Err(_) => Brought::Failed,
+        Ok(0) => Brought::End,
+        Ok(more) => Brought::More(more),
     }
-    let more = io::count(got, &piece[end..]);
-    if more == 0 {
-        return Brought::End;
-    }
-    Brought::More(more)
 }
 
 // Reads behind the first `had` bytes until so many are in hand as are wanted, or the input has ended.
-fn fill(piece: &mut [u8], had: usize, wanted: usize) -> Came
+fn fill<I: Read>(input: &mut I, piece: &mut [u8], had: usize, wanted: usize) -> Came
     requires { (had ≤ length piece.old) × (wanted ≤ length piece.old) }
     ensures { CameBehind (take had piece.old) piece.new result }
 {
     let mut end = had;
     while end < wanted {
-        let brought = read_at(piece, end);
-        match brought {
+        match read_at(input, piece, end) {
             Brought::Failed => {
                 return Came::Failed;
             }
@@ -96,21 +92,21 @@ fn fill(piece: &mut [u8], had: usize, wanted: usize) -> Came
 }
 
 // Reads until the file is in hand, in front of the piece, or cannot come any more: its header, and then as much as that tells.
-pub fn await_file(piece: &mut [u8]) -> Came
-    requires* { do ⌜ (← ⟦piece.len()⟧) ≡ (← ⟦PIECE⟧) ⌝ }
+pub fn await_file<I: Read>(input: &mut I, piece: &mut [u8]) -> Came
+    requires { length piece.old ≡ PIECE }
     ensures { CameBehind [] piece.new result }
 {
-    let header = fill(piece, 0, MASKS_AT);
+    let header = fill(input, piece, 0, MASKS_AT);
     let Came::Bytes(hand) = header else {
         return Came::Failed;
     };
     let had = hand.end;
     let total = came::told(&piece[0..had]);
-    fill(piece, had, total)
+    fill(input, piece, had, total)
 }
 
 // Reads only where no whole event is in hand, with what is there of one moved to the front.
-fn await_event(piece: &mut [u8], hand: Hand) -> Came
+fn await_event<I: Read>(input: &mut I, piece: &mut [u8], hand: Hand) -> Came
     requires { InHand (length piece.old) hand × (8 ≤ length piece.old) }
     ensures { CameBehind (bytes_of piece.old hand) piece.new result }
 {
@@ -120,15 +116,15 @@ fn await_event(piece: &mut [u8], hand: Hand) -> Came
         return Came::Bytes(hand);
     }
     buffers::slide(piece, from, rest);
-    fill(piece, rest, EVENT)
+    fill(input, piece, rest, EVENT)
 }
 
 // Takes the next event.
-pub fn take_event(piece: &mut [u8], hand: Hand) -> Taken
+pub fn take_event<I: Read>(input: &mut I, piece: &mut [u8], hand: Hand) -> Taken
     requires { InHand (length piece.old) hand × (8 ≤ length piece.old) }
     ensures { TakenBehind (bytes_of piece.old hand) piece.new result }
 {
-    let awaited = await_event(piece, hand);
+    let awaited = await_event(input, piece, hand);
     let Came::Bytes(now) = awaited else {
         return Taken::Failed;
     };

@@ -1,4 +1,4 @@
-// What the programs share: how bytes are taken from standard input, the turns that a program makes of them, and how lines are written.
+// What the programs share: how bytes are taken from the input, the turns that a program makes of them, and how lines are written.
 #![tactic(auto)]
 
 pub mod input;

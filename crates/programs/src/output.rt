@@ -1,29 +1,38 @@
-// Standard output: one write for a line, which is out before anything more is read.
+// The output: one write for a line, which is out before anything more is read.
+ghost use Rattle.std.specs.Prelude.{◌≡◌, true};
+ghost use Rattle.std.specs.Io.KnownBytes.{Appends};
+ghost use Rattle.lines.specs.Lines.{standing_line, progress_line};
+
 use answers::{Refusal, Verdict};
 use lines::LINE;
+use std::io::Write;
 
 // The line of a watch: whether it was written whole. Where it was not, the program is to end.
-pub fn standing(ticks: u64, verdict: Verdict, slots: u64, nodes: u64) -> bool {
+pub fn standing<W: Write>(out: &mut W, ticks: u64, verdict: Verdict, slots: u64, nodes: u64) -> bool
+    ensures { result ≡ true → Appends (W.contents out.old) (W.contents out.new) (standing_line ticks verdict slots nodes) }
+{
     let mut line = [0u8; LINE];
     let end = lines::standing(&mut line, ticks, verdict, slots, nodes);
-    io::write_all(libc::STDOUT_FILENO, &line[0..end])
+    out.write_all(&line[0..end]).is_ok()
 }
 
 // The line of a rule in one place, in the same way.
-pub fn progress(ticks: u64, verdict: Verdict, nodes: u64) -> bool {
+pub fn progress<W: Write>(out: &mut W, ticks: u64, verdict: Verdict, nodes: u64) -> bool
+    ensures { result ≡ true → Appends (W.contents out.old) (W.contents out.new) (progress_line ticks verdict nodes) }
+{
     let mut line = [0u8; LINE];
     let end = lines::progress(&mut line, ticks, verdict, nodes);
-    io::write_all(libc::STDOUT_FILENO, &line[0..end])
+    out.write_all(&line[0..end]).is_ok()
 }
 
 // The last line after a refusal. The program ends behind it, whether it could be written or not.
-pub fn refused(refusal: Refusal) {
+pub fn refused<W: Write>(out: &mut W, refusal: Refusal) {
     let mut line = [0u8; LINE];
     let end = lines::refused(&mut line, refusal);
-    io::write_all(libc::STDOUT_FILENO, &line[0..end]);
+    let _ = out.write_all(&line[0..end]);
 }
 
 // The last line where a read has failed.
-pub fn failed_read() {
-    io::write_all(libc::STDOUT_FILENO, b"failed read\n");
+pub fn failed_read<W: Write>(out: &mut W) {
+    let _ = out.write_all(b"failed read\n");
 }

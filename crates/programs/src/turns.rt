@@ -7,6 +7,7 @@ ghost use Rattle.programs.specs.Turns.{FileInFront, EventBehind};
 use crate::input::{Came, Hand, PIECE, Taken, Taking};
 use crate::{goes_on, input, output};
 use answers::{Refusal, Verdict};
+use std::io::{Read, Write};
 
 // What a turn begins with.
 #[derive(Clone, Copy)]
@@ -34,13 +35,13 @@ impl Turned {
 }
 
 // The rule file, in front of the piece, and in hand what came behind it.
-pub fn file(piece: &mut [u8]) -> Came
-    requires* { do ⌜ (← ⟦piece.len()⟧) ≡ (← ⟦PIECE⟧) ⌝ }
+pub fn file<I: Read, W: Write>(input: &mut I, out: &mut W, piece: &mut [u8]) -> Came
+    requires { length piece.old ≡ PIECE }
     ensures { FileInFront piece.new result }
 {
-    let awaited = input::await_file(piece);
+    let awaited = input::await_file(input, piece);
     let Came::Bytes(all) = awaited else {
-        output::failed_read();
+        output::failed_read(out);
         return Came::Failed;
     };
     let end = all.end;
@@ -52,20 +53,25 @@ pub fn file(piece: &mut [u8]) -> Came
 }
 
 // The next event.
-pub fn event(piece: &mut [u8], hand: Hand) -> NextEvent
+pub fn event<I: Read, W: Write>(
+    input: &mut I,
+    out: &mut W,
+    piece: &mut [u8],
+    hand: Hand,
+) -> NextEvent
     requires { InHand (length piece.old) hand × (8 ≤ length piece.old) }
     ensures { EventBehind (bytes_of piece.old hand) piece.new result }
 {
-    let taken = input::take_event(piece, hand);
+    let taken = input::take_event(input, piece, hand);
     match taken {
         Taken::Event(taking) => NextEvent::Event(taking),
         Taken::End => NextEvent::Over,
         Taken::Leftover => {
-            output::refused(Refusal::Length);
+            output::refused(out, Refusal::Length);
             NextEvent::Over
         }
         Taken::Failed => {
-            output::failed_read();
+            output::failed_read(out);
             NextEvent::Over
         }
     }

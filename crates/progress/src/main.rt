@@ -16,6 +16,7 @@ use programs::input::{Came, Hand, PIECE};
 use programs::turns::{NextEvent, Turned};
 use programs::{output, turns};
 use rules::ReadAnswer;
+use std::io::{Read, Write};
 
 // Below this number two more ticks can be counted.
 const TICKS_MOST: u64 = 18446744073709551614;
@@ -52,8 +53,8 @@ fn fold_first(held: &mut [u8], nodes: usize, output: &mut [u8]) -> usize
 }
 
 // Writes a tick's line. Answers how many nodes wait for the next event: none after a verdict, or where the line was not written.
-fn report(ticks: u64, verdict: Verdict, nodes: usize) -> usize {
-    let written = output::progress(ticks, verdict, nodes as u64);
+fn report<W: Write>(out: &mut W, ticks: u64, verdict: Verdict, nodes: usize) -> usize {
+    let written = output::progress(out, ticks, verdict, nodes as u64);
     turns::waiting(written, verdict, nodes)
 }
 
@@ -69,22 +70,31 @@ fn progressed(held: &[u8], nodes: usize, event: u64, output: &mut [u8]) -> Centr
 }
 
 // One tick, from one buffer to the other. Answers as `report` does, and none after a refusal.
-fn tick(held: &[u8], nodes: usize, event: u64, output: &mut [u8], ticks: u64) -> usize {
+fn tick<W: Write>(
+    out: &mut W,
+    held: &[u8],
+    nodes: usize,
+    event: u64,
+    output: &mut [u8],
+    ticks: u64,
+) -> usize {
     let answer = progressed(held, nodes, event, output);
     match answer {
         CentralAnswer::Refused(refusal) => {
-            output::refused(refusal);
+            output::refused(out, refusal);
             0
         }
         CentralAnswer::Progressed(progress) => {
             let verdict = progress.verdict;
-            report(ticks, verdict, progress.length)
+            report(out, ticks, verdict, progress.length)
         }
     }
 }
 
 // Takes an event and ticks.
-fn turn(
+fn turn<I: Read, W: Write>(
+    input: &mut I,
+    out: &mut W,
     piece: &mut [u8],
     hand: Hand,
     held: &[u8],
@@ -95,20 +105,28 @@ fn turn(
     requires { InHand (length piece.old) hand × (8 ≤ length piece.old) }
     ensures { InHand (length piece.old) result.hand }
 {
-    let next = turns::event(piece, hand);
+    let next = turns::event(input, out, piece, hand);
     let NextEvent::Event(taking) = next else {
         return Turned::over();
     };
     let rest = taking.rest;
     Turned {
-        waiting: tick(held, nodes, taking.event, output, ticks),
+        waiting: tick(out, held, nodes, taking.event, output, ticks),
         hand: rest,
     }
 }
 
 // The buffers change places from tick to tick, so that no formula is copied: two ticks a turn.
 // Nothing says that the input ends, so the loop does where no more ticks can be counted.
-fn run(piece: &mut [u8], behind: Hand, held: &mut [u8], nodes: usize, output: &mut [u8])
+fn run<I: Read, W: Write>(
+    input: &mut I,
+    out: &mut W,
+    piece: &mut [u8],
+    behind: Hand,
+    held: &mut [u8],
+    nodes: usize,
+    output: &mut [u8],
+)
     requires { InHand (length piece.old) behind × (8 ≤ length piece.old) }
 {
     let mut hand = behind;
@@ -118,12 +136,21 @@ fn run(piece: &mut [u8], behind: Hand, held: &mut [u8], nodes: usize, output: &m
         if waiting == 0 {
             return;
         }
-        let first = turn(piece, hand, held, waiting, output, ticks + 1);
+        let first = turn(input, out, piece, hand, held, waiting, output, ticks + 1);
         if first.waiting == 0 {
             return;
         }
         let between = first.hand;
-        let then = turn(piece, between, output, first.waiting, held, ticks + 2);
+        let then = turn(
+            input,
+            out,
+            piece,
+            between,
+            output,
+            first.waiting,
+            held,
+            ticks + 2,
+        );
         let rest = then.hand;
         hand = rest;
         waiting = then.waiting;
@@ -133,31 +160,45 @@ fn run(piece: &mut [u8], behind: Hand, held: &mut [u8], nodes: usize, output: &m
 
 // The file is read from the front of the piece, behind which events may have come, and the rule into the front of the buffer from
 // which the first tick takes it.
-fn watch(piece: &mut [u8], masks: &mut [u64], held: &mut [u8], output: &mut [u8])
-    requires* do_value { do ⌜ (← ⟦piece.len()⟧) ≡ (← ⟦PIECE⟧) ⌝ }
-    requires* do_value_2 { do ⌜ (← ⟦held.len()⟧) ≡ (← ⟦CENTRAL_NODES_MOST⟧) ⌝ }
-    requires* do_value_3 { do ⌜ (← ⟦output.len()⟧) ≡ (← ⟦CENTRAL_NODES_MOST⟧) ⌝ }
+fn watch<I: Read, W: Write>(
+    input: &mut I,
+    out: &mut W,
+    piece: &mut [u8],
+    masks: &mut [u64],
+    held: &mut [u8],
+    output: &mut [u8],
+)
+    requires piece_whole { length piece.old ≡ PIECE }
+    requires held_whole { length held.old ≡ CENTRAL_NODES_MOST }
+    requires output_whole { length output.old ≡ CENTRAL_NODES_MOST }
 {
-    let came = turns::file(piece);
+    let came = turns::file(input, out, piece);
     let Came::Bytes(behind) = came else {
         return;
     };
     let length = behind.from;
     let answer = reading::read(&piece[0..length], masks, &mut held[0..RULE_NODES_MOST]);
     match answer {
-        ReadAnswer::Refused(refusal) => output::refused(refusal),
+        ReadAnswer::Refused(refusal) => output::refused(out, refusal),
         ReadAnswer::Rule(counts) => {
             let nodes = fold_first(held, counts.nodes as usize, output);
-            let waiting = report(0, verdict_before(held[0], nodes), nodes);
-            run(piece, behind, held, waiting, output);
+            let waiting = report(out, 0, verdict_before(held[0], nodes), nodes);
+            run(input, out, piece, behind, held, waiting, output);
         }
     }
 }
 
-fn main() {
+fn main(rt: HostRuntime) {
     let mut piece = [0u8; PIECE];
     let mut masks = [0u64; BOARDS_MOST];
     let mut held = [0u8; CENTRAL_NODES_MOST];
     let mut output = [0u8; CENTRAL_NODES_MOST];
-    watch(&mut piece, &mut masks, &mut held, &mut output);
+    watch(
+        &mut rt.stdin(),
+        &mut rt.stdout(),
+        &mut piece,
+        &mut masks,
+        &mut held,
+        &mut output,
+    );
 }

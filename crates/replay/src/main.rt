@@ -6,6 +6,8 @@ mod calls;
 
 use requests::header::{HEADER_LENGTH, NONE, Request};
 use requests::{BYTES_MOST, EVENTS_MOST, header, lent, line, payload};
+use std::io;
+use std::io::{Read, Write};
 
 // What became of a request: whether it was good, and whether what it was lent afresh is to be kept.
 #[derive(Clone, Copy)]
@@ -15,33 +17,41 @@ struct Made {
 }
 
 // Fills what is lent and takes what is given: whether that was not cut short.
-fn prepare(call: u32, given: &mut [u8], numbers: &mut [u64], fresh: &mut [u8]) -> bool {
+fn prepare<I: Read>(
+    input: &mut I,
+    call: u32,
+    given: &mut [u8],
+    numbers: &mut [u64],
+    fresh: &mut [u8],
+) -> io::Result<bool> {
     lent::fill_masks(numbers);
     lent::fill_bytes(fresh);
-    payload::take(call, numbers, given)
+    payload::take(input, call, numbers, given)
 }
 
 // Answers a request over the parts that are given and lent.
-fn answer_over(
+fn answer_over<I: Read, W: Write>(
+    input: &mut I,
+    out: &mut W,
     call: u32,
     value: u64,
     given: &mut [u8],
     numbers: &mut [u64],
     fresh: &mut [u8],
     kept: &mut [u8],
-) -> Made {
-    if !prepare(call, given, numbers, fresh) {
-        return Made {
+) -> io::Result<Made> {
+    if !prepare(input, call, given, numbers, fresh)? {
+        return Ok(Made {
             good: false,
             keep: false,
-        };
+        });
     }
     let answered = calls::make(call, value, given, numbers, fresh, kept);
-    line::write(call, answered, numbers, kept, fresh);
-    Made {
+    line::write(out, call, answered, numbers, kept, fresh)?;
+    Ok(Made {
         good: true,
         keep: answered.number == 0 && header::keeps(call),
-    }
+    })
 }
 
 // Copies the bytes that were lent afresh over the front of the kept state. There are always so many in both; the test spares a
@@ -57,83 +67,108 @@ fn keep(kept: &mut [u8], fresh: &[u8], length: usize) {
 }
 
 // Answers a request: whether it was a good one, of a call, within the buffers, which are the limits, and not cut short.
-fn answer(
+fn answer<I: Read, W: Write>(
+    input: &mut I,
+    out: &mut W,
     request: Request,
     given: &mut [u8],
     numbers: &mut [u64],
     fresh: &mut [u8],
     kept: &mut [u8],
-) -> bool {
+) -> io::Result<bool> {
     if request.call == NONE {
-        return false;
+        return Ok(false);
     }
     let g = request.given;
     let n = request.numbers;
     let f = request.fresh;
     let k = request.kept;
     if given.len() < g {
-        return false;
+        return Ok(false);
     }
     if numbers.len() < n {
-        return false;
+        return Ok(false);
     }
     if fresh.len() < f {
-        return false;
+        return Ok(false);
     }
     if kept.len() < k {
-        return false;
+        return Ok(false);
     }
     let made = answer_over(
+        input,
+        out,
         request.call,
         request.value,
         &mut given[0..g],
         &mut numbers[0..n],
         &mut fresh[0..f],
         &mut kept[0..k],
-    );
+    )?;
     if made.keep {
         keep(kept, fresh, f);
     }
-    made.good
+    Ok(made.good)
 }
 
-fn bad() -> bool {
-    line::write_bad();
-    false
+fn bad<W: Write>(out: &mut W) -> io::Result<bool> {
+    line::write_bad(out)?;
+    Ok(false)
 }
 
 // One request: whether another may follow.
-fn turn(given: &mut [u8], numbers: &mut [u64], fresh: &mut [u8], kept: &mut [u8]) -> bool {
+fn turn<I: Read, W: Write>(
+    input: &mut I,
+    out: &mut W,
+    given: &mut [u8],
+    numbers: &mut [u64],
+    fresh: &mut [u8],
+    kept: &mut [u8],
+) -> io::Result<bool> {
     let mut bytes = [0u8; HEADER_LENGTH];
-    let got = io::read_full(libc::STDIN_FILENO, &mut bytes);
+    let got = payload::take_front(input, &mut bytes)?;
     if got == 0 {
-        return false;
+        return Ok(false);
     }
     if got != HEADER_LENGTH {
-        return bad();
+        return bad(out);
     }
-    if !answer(header::request_in(&bytes), given, numbers, fresh, kept) {
-        return bad();
+    let request = header::request_in(&bytes);
+    if !answer(input, out, request, given, numbers, fresh, kept)? {
+        return bad(out);
     }
-    true
+    Ok(true)
 }
 
-// Nothing says that the input ends, so the turns are counted down.
-fn run(given: &mut [u8], numbers: &mut [u64], fresh: &mut [u8], kept: &mut [u8]) {
-    let mut turns: u64 = 18446744073709551615;
-    while 0 < turns {
-        if !turn(given, numbers, fresh, kept) {
-            return;
+// Nothing says that the input ends, so the turns are counted.
+fn run<I: Read, W: Write>(
+    input: &mut I,
+    out: &mut W,
+    given: &mut [u8],
+    numbers: &mut [u64],
+    fresh: &mut [u8],
+    kept: &mut [u8],
+) -> io::Result<()> {
+    for _ in 0..u64::MAX {
+        if !turn(input, out, given, numbers, fresh, kept)? {
+            break;
         }
-        turns -= 1;
     }
+    Ok(())
 }
 
 // What is given, masks or events, what is lent afresh, and the state that is kept.
-fn main() {
+fn main(rt: HostRuntime) -> io::Result<()> {
     let mut given = [0u8; BYTES_MOST];
     let mut numbers = [0u64; EVENTS_MOST];
     let mut fresh = [0u8; BYTES_MOST];
     let mut kept = [0u8; BYTES_MOST];
-    run(&mut given, &mut numbers, &mut fresh, &mut kept);
+    run(
+        &mut rt.stdin(),
+        &mut rt.stdout(),
+        &mut given,
+        &mut numbers,
+        &mut fresh,
+        &mut kept,
+    )
 }

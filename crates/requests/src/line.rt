@@ -3,6 +3,8 @@ ghost use Rattle.std.specs.Prelude.{◌≡◌, ◌+◌, ◌≤◌, length};
 
 use crate::{header, lent};
 use answers::Refusal;
+use std::io;
+use std::io::Write;
 
 // What a call has answered: 0 or the refusal's number, and so many values; a refusal has them where bytes are no text, or a run is not
 // known. A mend has also the hash of its marks, which stand nowhere else.
@@ -128,7 +130,14 @@ fn put_hashes(
     lines::text(line, d, b"\n")
 }
 
-pub fn write(call: u32, answered: Answered, numbers: &[u64], kept: &[u8], fresh: &[u8]) {
+pub fn write<W: Write>(
+    out: &mut W,
+    call: u32,
+    answered: Answered,
+    numbers: &[u64],
+    kept: &[u8],
+    fresh: &[u8],
+) -> io::Result<()> {
     let mut line = [0u8; LINE];
     let at = put_answer(&mut line, answered);
     let end = put_hashes(
@@ -140,10 +149,10 @@ pub fn write(call: u32, answered: Answered, numbers: &[u64], kept: &[u8], fresh:
         lent::hash_bytes(fresh),
         answered.marks,
     );
-    io::write_all(libc::STDOUT_FILENO, &line[0..end]);
+    out.write_all(&line[0..end])
 }
 
 // The last line, behind a request that is none.
-pub fn write_bad() {
-    io::write_all(libc::STDOUT_FILENO, b"bad request\n");
+pub fn write_bad<W: Write>(out: &mut W) -> io::Result<()> {
+    out.write_all(b"bad request\n")
 }

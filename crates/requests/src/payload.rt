@@ -1,23 +1,39 @@
-// A request's payload, taken from standard input: whether it was not cut short.
-ghost use Rattle.std.specs.Prelude.{◌≤◌, length};
+// A request's payload, taken from the input: whether it was not cut short.
+ghost use Rattle.std.specs.Prelude.{◌≤◌, length, IfOk};
 
 use crate::header::{CAPTURE, WRITE};
+use std::io;
+use std::io::Read;
 
-fn take_bytes(bytes: &mut [u8]) -> bool {
-    io::read_full(libc::STDIN_FILENO, bytes) == bytes.len()
+// Reads until the bytes are full or the input has ended: how many came.
+pub fn take_front<I: Read>(input: &mut I, bytes: &mut [u8]) -> io::Result<usize>
+    ensures { IfOk result (λ n. n ≤ length bytes.old) }
+{
+    let mut end: usize = 0;
+    while end < bytes.len() {
+        let got = input.read(&mut bytes[end..])?;
+        if got == 0 {
+            break;
+        }
+        end += got;
+    }
+    Ok(end)
 }
 
-fn take_numbers(numbers: &mut [u64]) -> bool {
-    let mut i: usize = 0;
-    while i < numbers.len() {
+fn take_bytes<I: Read>(input: &mut I, bytes: &mut [u8]) -> io::Result<bool> {
+    let came = take_front(input, bytes)?;
+    Ok(came == bytes.len())
+}
+
+fn take_numbers<I: Read>(input: &mut I, numbers: &mut [u64]) -> io::Result<bool> {
+    for number in numbers.iter_mut() {
         let mut eight = [0u8; 8];
-        if !take_bytes(&mut eight) {
-            return false;
+        if !take_bytes(input, &mut eight)? {
+            return Ok(false);
         }
-        numbers[i] = le::u64_at(&eight, 0);
-        i += 1;
+        *number = u64::from_le_bytes(eight);
     }
-    true
+    Ok(true)
 }
 
 // Write is given masks, and capture events.
@@ -29,19 +45,24 @@ fn is_given_numbers(call: u32) -> bool {
     }
 }
 
-fn take_numbers_of(call: u32, numbers: &mut [u64]) -> bool {
+fn take_numbers_of<I: Read>(input: &mut I, call: u32, numbers: &mut [u64]) -> io::Result<bool> {
     if !is_given_numbers(call) {
-        return true;
+        return Ok(true);
     }
-    take_numbers(numbers)
+    take_numbers(input, numbers)
 }
 
 // The numbers come first.
-pub fn take(call: u32, numbers: &mut [u64], given: &mut [u8]) -> bool {
-    if !take_numbers_of(call, numbers) {
-        return false;
+pub fn take<I: Read>(
+    input: &mut I,
+    call: u32,
+    numbers: &mut [u64],
+    given: &mut [u8],
+) -> io::Result<bool> {
+    if !take_numbers_of(input, call, numbers)? {
+        return Ok(false);
     }
-    take_bytes(given)
+    take_bytes(input, given)
 }
 
 // The bytes that are given, so many times over, to the front of the room: how many they are then. There is always room for all; the test
@@ -50,14 +71,13 @@ pub fn repeated(given: &[u8], times: u64, room: &mut [u8]) -> usize
     ensures { result ≤ length room.old }
 {
     let mut end: usize = 0;
-    let mut k: u64 = 0;
-    while k < times {
+    for _ in 0..times {
         if room.len() - end < given.len() {
             return end;
         }
-        buffers::copy(&mut room[end..], given);
-        end = end + given.len();
-        k += 1;
+        let behind = end + given.len();
+        room[end..behind].copy_from_slice(given);
+        end = behind;
     }
     end
 }

@@ -12,6 +12,7 @@ use programs::input::{Came, Hand, PIECE};
 use programs::turns::{NextEvent, Turned};
 use programs::{output, turns};
 use state::STATE_ROOM;
+use std::io::{Read, Write};
 use telling::AskAnswer;
 
 // A tick a turn. The state counts ticks in 32 bits, so the last of these ticks is refused at the latest.
@@ -19,16 +20,17 @@ const TURNS: u64 = 4294967296;
 
 // Writes the line for a state that was just loaded or closed. Answers how many nodes wait for the next event: none where the watch
 // is over.
-fn report(state: &[u8]) -> usize {
+fn report<W: Write>(out: &mut W, state: &[u8]) -> usize {
     let answer = asking::ask(state);
     match answer {
         AskAnswer::Refused(refusal) => {
-            output::refused(refusal);
+            output::refused(out, refusal);
             0
         }
         AskAnswer::Told(standing) => {
             let verdict = standing.verdict;
             let written = output::standing(
+                out,
                 standing.ticks as u64,
                 verdict,
                 standing.slots as u64,
@@ -40,36 +42,43 @@ fn report(state: &[u8]) -> usize {
 }
 
 // Reports the state that an accepted call has left; none waits after a refusal.
-fn report_after(outcome: Outcome, state: &[u8]) -> usize {
+fn report_after<W: Write>(out: &mut W, outcome: Outcome, state: &[u8]) -> usize {
     match outcome {
         Outcome::Refused(refusal) => {
-            output::refused(refusal);
+            output::refused(out, refusal);
             0
         }
-        Outcome::Done => report(state),
+        Outcome::Done => report(out, state),
     }
 }
 
 // Reports what a capture of one event has come to.
-fn report_captured(answer: CaptureAnswer, state: &[u8]) -> usize {
+fn report_captured<W: Write>(out: &mut W, answer: CaptureAnswer, state: &[u8]) -> usize {
     match answer {
         CaptureAnswer::Refused(refusal) => {
-            output::refused(refusal);
+            output::refused(out, refusal);
             0
         }
         CaptureAnswer::Captured(captured) => {
             let stop = captured.stop;
-            report_after(stop, state)
+            report_after(out, stop, state)
         }
     }
 }
 
 // Takes an event and captures it: each close has its line, so one event at a time.
-fn turn(piece: &mut [u8], hand: Hand, state: &mut [u8], second: &mut [u8]) -> Turned
+fn turn<I: Read, W: Write>(
+    input: &mut I,
+    out: &mut W,
+    piece: &mut [u8],
+    hand: Hand,
+    state: &mut [u8],
+    second: &mut [u8],
+) -> Turned
     requires { InHand (length piece.old) hand × (8 ≤ length piece.old) }
     ensures { InHand (length piece.old) result.hand }
 {
-    let next = turns::event(piece, hand);
+    let next = turns::event(input, out, piece, hand);
     let NextEvent::Event(taking) = next else {
         return Turned::over();
     };
@@ -77,46 +86,63 @@ fn turn(piece: &mut [u8], hand: Hand, state: &mut [u8], second: &mut [u8]) -> Tu
     let events = [taking.event; 1];
     let answer = capturing::capture(state, second, &events);
     Turned {
-        waiting: report_captured(answer, state),
+        waiting: report_captured(out, answer, state),
         hand: rest,
     }
 }
 
-fn run(piece: &mut [u8], behind: Hand, state: &mut [u8], nodes: usize, second: &mut [u8])
+fn run<I: Read, W: Write>(
+    input: &mut I,
+    out: &mut W,
+    piece: &mut [u8],
+    behind: Hand,
+    state: &mut [u8],
+    nodes: usize,
+    second: &mut [u8],
+)
     requires { InHand (length piece.old) behind × (8 ≤ length piece.old) }
 {
     let mut hand = behind;
     let mut waiting = nodes;
-    let mut left = TURNS;
-    while 0 < left {
+    for _ in 0..TURNS {
         if waiting == 0 {
             return;
         }
-        let turned = turn(piece, hand, state, second);
-        let rest = turned.hand;
-        hand = rest;
+        let turned = turn(input, out, piece, hand, state, second);
+        hand = turned.hand;
         waiting = turned.waiting;
-        left -= 1;
     }
 }
 
 // The file is loaded from the front of the piece, behind which events may have come.
-fn watch(piece: &mut [u8], state: &mut [u8], second: &mut [u8])
-    requires* { do ⌜ (← ⟦piece.len()⟧) ≡ (← ⟦PIECE⟧) ⌝ }
+fn watch<I: Read, W: Write>(
+    input: &mut I,
+    out: &mut W,
+    piece: &mut [u8],
+    state: &mut [u8],
+    second: &mut [u8],
+)
+    requires { length piece.old ≡ PIECE }
 {
-    let came = turns::file(piece);
+    let came = turns::file(input, out, piece);
     let Came::Bytes(behind) = came else {
         return;
     };
     let length = behind.from;
     let outcome = loading::load(&piece[0..length], state);
-    let waiting = report_after(outcome, state);
-    run(piece, behind, state, waiting, second);
+    let waiting = report_after(out, outcome, state);
+    run(input, out, piece, behind, state, waiting, second);
 }
 
-fn main() {
+fn main(rt: HostRuntime) {
     let mut piece = [0u8; PIECE];
     let mut state = [0u8; STATE_ROOM];
     let mut second = [0u8; STATE_ROOM];
-    watch(&mut piece, &mut state, &mut second);
+    watch(
+        &mut rt.stdin(),
+        &mut rt.stdout(),
+        &mut piece,
+        &mut state,
+        &mut second,
+    );
 }

@@ -31,39 +31,29 @@ enum Word {
 }
 
 fn word_in(arg: &[u8]) -> Word {
-    if check::same(arg, b"rule") {
-        return Word::Rule;
+    match arg {
+        b"rule" => Word::Rule,
+        b"text" => Word::Text,
+        b"report" => Word::Report,
+        b"csv" => Word::Csv,
+        b"mend" => Word::Mend,
+        b"watch" => Word::Watch,
+        _ => Word::Unknown,
     }
-    if check::same(arg, b"text") {
-        return Word::Text;
-    }
-    if check::same(arg, b"report") {
-        return Word::Report;
-    }
-    if check::same(arg, b"csv") {
-        return Word::Csv;
-    }
-    if check::same(arg, b"mend") {
-        return Word::Mend;
-    }
-    if check::same(arg, b"watch") {
-        return Word::Watch;
-    }
-    Word::Unknown
 }
 
-fn main() {
+fn main(rt: HostRuntime) {
     let mut arg = [0u8; WORD_ROOM];
-    let n = os::arg(1, &mut arg);
+    let n = input::argument(rt, 1, &mut arg);
     let word = word_in(&arg[0..n]);
-    let count = os::arg_count();
+    let count = input::argument_count(rt);
     match word {
-        Word::Rule => word_rule::run(count),
-        Word::Text => word_text::run(count),
-        Word::Report => word_report::run(count, Sheet::Table),
-        Word::Csv => word_report::run(count, Sheet::Values),
-        Word::Mend => word_mend::run(count),
-        Word::Watch => word_watch::run(count),
-        Word::Unknown => output::usage(),
+        Word::Rule => word_rule::run(rt, count),
+        Word::Text => word_text::run(rt, count),
+        Word::Report => word_report::run(rt, count, Sheet::Table),
+        Word::Csv => word_report::run(rt, count, Sheet::Values),
+        Word::Mend => word_mend::run(rt, count),
+        Word::Watch => word_watch::run(rt, count),
+        Word::Unknown => output::usage(rt),
     }
 }

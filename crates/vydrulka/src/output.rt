@@ -6,162 +6,195 @@ use answers::{Refusal, Verdict};
 use cursor::TextCursor;
 use lines::LINE;
 use pointing::POINT_ROOM;
+use std::io;
 use wording::accepted::ACCEPTED_ROOM;
 use wording::recorded::RECORDED_ROOM;
 use wording::refusals::REFUSAL_ROOM;
 use wording::{accepted, recorded, refusals};
 
 // Writes to standard error.
-fn tell(bytes: &[u8]) {
-    io::write_all(libc::STDERR_FILENO, bytes);
+fn tell(rt: HostRuntime, bytes: &[u8]) {
+    let _ = rt.stderr().write_all(bytes);
 }
 
 // Every word with its arguments.
-pub fn usage() {
+pub fn usage(rt: HostRuntime) {
     tell(
+        rt,
         b"usage: vydrulka rule TEXT BOARD..      writes the rule file of the rule typed in TEXT\n",
     );
-    tell(b"       vydrulka text RULE              prints the text and the boards of a rule file\n");
     tell(
+        rt,
+        b"       vydrulka text RULE              prints the text and the boards of a rule file\n",
+    );
+    tell(
+        rt,
         b"       vydrulka report NIGHT..         prints the report of some nights' runs as a table\n",
     );
-    tell(b"       vydrulka csv NIGHT..            prints it as comma-separated values\n");
     tell(
+        rt,
+        b"       vydrulka csv NIGHT..            prints it as comma-separated values\n",
+    );
+    tell(
+        rt,
         b"       vydrulka mend RECORDING         writes the recording without its doubled records\n",
     );
-    tell(b"       vydrulka watch RULE RECORDING   watches the recording up to its first break\n");
     tell(
+        rt,
+        b"       vydrulka watch RULE RECORDING   watches the recording up to its first break\n",
+    );
+    tell(
+        rt,
         b"A file named - is standard input. A board is its propositions, as p0,p2, or - for none.\n",
     );
 }
 
 // The whole result: whether it was written.
-pub fn result(bytes: &[u8]) -> bool {
-    let written = io::write_all(libc::STDOUT_FILENO, bytes);
-    if !written {
-        os::fail(b"failed write");
+pub fn result(rt: HostRuntime, bytes: &[u8]) -> bool {
+    match rt.stdout().write_all(bytes) {
+        Ok(()) => true,
+        Err(error) => {
+            fail(rt, b"failed write", error);
+            false
+        }
     }
-    written
 }
 
 // What was written is a rule file.
-pub fn rule(nodes: u64, propositions: u64, boards: u64, length: u64) {
+pub fn rule(rt: HostRuntime, nodes: u64, propositions: u64, boards: u64, length: u64) {
     let mut line = [0u8; ACCEPTED_ROOM];
     let end = accepted::rule(&mut line, nodes, propositions, boards, length);
-    tell(&line[0..end]);
+    tell(rt, &line[0..end]);
 }
 
 // What was written is the page of a report.
-pub fn report(runs: u64, rules: u64, nights: u64) {
+pub fn report(rt: HostRuntime, runs: u64, rules: u64, nights: u64) {
     let mut line = [0u8; ACCEPTED_ROOM];
     let end = accepted::report(&mut line, runs, rules, nights);
-    tell(&line[0..end]);
+    tell(rt, &line[0..end]);
 }
 
 // The result is the line of a watch: whether it was written.
-pub fn standing(ticks: u64, verdict: Verdict, slots: u64, nodes: u64) -> bool {
+pub fn standing(rt: HostRuntime, ticks: u64, verdict: Verdict, slots: u64, nodes: u64) -> bool {
     let mut line = [0u8; LINE];
     let end = lines::standing(&mut line, ticks, verdict, slots, nodes);
-    result(&line[0..end])
+    result(rt, &line[0..end])
 }
 
 // ---- recordings
 // A break, by the record behind it.
-pub fn put_break(place: u64, before: u64, counter: u64) {
+pub fn put_break(rt: HostRuntime, place: u64, before: u64, counter: u64) {
     let mut line = [0u8; RECORDED_ROOM];
     let end = recorded::put_break(&mut line, place, before, counter);
-    tell(&line[0..end]);
+    tell(rt, &line[0..end]);
 }
 
 // A recording was mended.
-pub fn recording(records: u64, kept: u64, dropped: u64, breaks: u64, first: u64) {
+pub fn recording(rt: HostRuntime, records: u64, kept: u64, dropped: u64, breaks: u64, first: u64) {
     let mut line = [0u8; RECORDED_ROOM];
     let end = recorded::recording(&mut line, records, kept, dropped, breaks, first);
-    tell(&line[0..end]);
+    tell(rt, &line[0..end]);
 }
 
 // Its first stretch was watched.
-pub fn watched(closed: u64, ticks: u64, verdict: Verdict) {
+pub fn watched(rt: HostRuntime, closed: u64, ticks: u64, verdict: Verdict) {
     let mut line = [0u8; RECORDED_ROOM];
     let end = recorded::watched(&mut line, closed, ticks, verdict);
-    tell(&line[0..end]);
+    tell(rt, &line[0..end]);
 }
 
 // ---- refusals
 // A refusal, in words.
-pub fn refused(refusal: Refusal, words: &[u8])
+pub fn refused(rt: HostRuntime, refusal: Refusal, words: &[u8])
     requires { length words.now ≤ 100 }
 {
     let mut line = [0u8; REFUSAL_ROOM];
     let end = refusals::refused(&mut line, refusal, words);
-    tell(&line[0..end]);
+    tell(rt, &line[0..end]);
 }
 
 // The same of a file.
-pub fn refused_file(refusal: Refusal, name: &[u8], words: &[u8])
+pub fn refused_file(rt: HostRuntime, refusal: Refusal, name: &[u8], words: &[u8])
     requires { length words.now ≤ 80 }
 {
     let mut line = [0u8; REFUSAL_ROOM];
     let end = refusals::refused_file(&mut line, refusal, name, words);
-    tell(&line[0..end]);
+    tell(rt, &line[0..end]);
 }
 
 // A run that cannot be counted.
-pub fn no_run(name: &[u8], place: u64, rule: u64, verdict: u64) {
+pub fn no_run(rt: HostRuntime, name: &[u8], place: u64, rule: u64, verdict: u64) {
     let mut line = [0u8; REFUSAL_ROOM];
     let end = refusals::no_run(&mut line, name, place, rule, verdict);
-    tell(&line[0..end]);
+    tell(rt, &line[0..end]);
 }
 
 // Two records of a recording that clash.
-pub fn clash(name: &[u8], place: u64) {
+pub fn clash(rt: HostRuntime, name: &[u8], place: u64) {
     let mut line = [0u8; REFUSAL_ROOM];
     let end = refusals::clash(&mut line, name, place);
-    tell(&line[0..end]);
+    tell(rt, &line[0..end]);
 }
 
 // An event of the first stretch that is refused.
-pub fn refused_event(refusal: Refusal, place: u64, words: &[u8])
+pub fn refused_event(rt: HostRuntime, refusal: Refusal, place: u64, words: &[u8])
     requires { length words.now ≤ 100 }
 {
     let mut line = [0u8; REFUSAL_ROOM];
     let end = refusals::refused_event(&mut line, refusal, place, words);
-    tell(&line[0..end]);
+    tell(rt, &line[0..end]);
 }
 
 // A text that is no rule: the line in which the place is, the mark below it, and the refusal.
-pub fn no_rule(text: &[u8], place: TextCursor) {
+pub fn no_rule(rt: HostRuntime, text: &[u8], place: TextCursor) {
     let mut lines = [0u8; POINT_ROOM];
     let shown = pointing::put(&mut lines, text, place.byte);
-    tell(&lines[0..shown]);
+    tell(rt, &lines[0..shown]);
     let mut line = [0u8; REFUSAL_ROOM];
     let end = refusals::no_rule(&mut line, place.line as u64, place.byte as u64);
-    tell(&line[0..end]);
+    tell(rt, &line[0..end]);
 }
 
 // An argument that is no board.
-pub fn no_board(board: u64, arg: &[u8]) {
+pub fn no_board(rt: HostRuntime, board: u64, arg: &[u8]) {
     let mut line = [0u8; REFUSAL_ROOM];
     let end = refusals::no_board(&mut line, board, arg);
-    tell(&line[0..end]);
+    tell(rt, &line[0..end]);
 }
 
 // ---- failures
-// The line ends with what errno says, so nothing may be called between the failure and this.
-pub fn failed(doing: &[u8], name: &[u8])
+// What failed, and what the system says of the error, without its number.
+fn fail(rt: HostRuntime, what: &[u8], error: io::Error) {
+    tell(rt, what);
+    tell(rt, b": ");
+    if let Ok(text) = error.to_string(rt.alloc()) {
+        let said = text.as_str();
+        match said.split_once(" (os error ") {
+            Some((words, _)) => tell(rt, words.as_bytes()),
+            None => tell(rt, said.as_bytes()),
+        }
+    }
+    tell(rt, b"\n");
+}
+
+// The same of a file.
+pub fn failed(rt: HostRuntime, doing: &[u8], name: &[u8], error: io::Error)
     requires { length doing.now ≤ 100 }
 {
     let mut line = [0u8; REFUSAL_ROOM];
     let end = refusals::failed(&mut line, doing, name);
-    os::fail(&line[0..end]);
+    fail(rt, &line[0..end], error);
 }
 
 // A text that there is no room for.
-pub fn too_long() {
-    tell(b"failed read: a text of more than 1,048,576 bytes\n");
+pub fn too_long(rt: HostRuntime) {
+    tell(rt, b"failed read: a text of more than 1,048,576 bytes\n");
 }
 
 // A recording that there is no room for.
-pub fn too_many_records() {
-    tell(b"failed read: a recording of more than 100,000 records\n");
+pub fn too_many_records(rt: HostRuntime) {
+    tell(
+        rt,
+        b"failed read: a recording of more than 100,000 records\n",
+    );
 }

@@ -4,6 +4,7 @@ ghost use Rattle.answers.specs.declared.Refusal.TheVariants as refusal;
 ghost use Rattle.recordings.specs.Recording.{record_length, recording_length};
 ghost use Rattle.vydrulka.specs.Rooms.{records_most, RecordingRooms, CountedTo};
 
+use crate::input::NAME_ROOM;
 use crate::{input, output};
 use answers::Refusal;
 use files::FileAnswer;
@@ -35,40 +36,46 @@ pub enum RecordingAnswer {
 
 // ---- a recording that is refused
 // The header's numbers do not agree.
-fn no_header(i: usize) {
-    input::refused(i, Refusal::Offset, b"header numbers that do not agree");
+fn no_header(rt: HostRuntime, i: usize) {
+    input::refused(rt, i, Refusal::Offset, b"header numbers that do not agree");
 }
 
 // Two records clash: the first place where that is so is told.
-fn clash(i: usize, recording: &[u8], records: usize)
+fn clash(rt: HostRuntime, i: usize, recording: &[u8], records: usize)
     requires { recording_length records ≤ length recording.now }
 {
-    let mut name = io::buffer();
-    let n = os::arg(i, &mut name);
+    let mut name = [0u8; NAME_ROOM];
+    let n = input::argument(rt, i, &mut name);
     let place = inspecting::first_clash(recording, records);
-    output::clash(&name[0..n], place as u64);
+    output::clash(rt, &name[0..n], place as u64);
 }
 
 // Any refusal of `mend`.
-fn refused(i: usize, recording: &[u8], records: usize, why: Refusal)
+fn refused(rt: HostRuntime, i: usize, recording: &[u8], records: usize, why: Refusal)
     requires { why ≡ refusal.Clash → recording_length records ≤ length recording.now }
 {
     match why {
-        Refusal::Clash => clash(i, recording, records),
-        Refusal::Offset => no_header(i),
-        _ => input::refused(i, why, b"not as long as its header says"),
+        Refusal::Clash => clash(rt, i, recording, records),
+        Refusal::Offset => no_header(rt, i),
+        _ => input::refused(rt, i, why, b"not as long as its header says"),
     }
 }
 
 // ---- a recording that is mended
 // Mends with as many marks as there are records.
-fn mend(i: usize, recording: &[u8], mended: &mut [u8], marks: &mut [u8]) -> RecordingAnswer
+fn mend(
+    rt: HostRuntime,
+    i: usize,
+    recording: &[u8],
+    mended: &mut [u8],
+    marks: &mut [u8],
+) -> RecordingAnswer
     ensures { CountedTo (length marks.old) result }
 {
     let answer = mending::mend(recording, mended, marks);
     match answer {
         MendAnswer::Refused(why) => {
-            refused(i, recording, marks.len(), why);
+            refused(rt, i, recording, marks.len(), why);
             RecordingAnswer::NotMended
         }
         MendAnswer::Mended(m) => RecordingAnswer::Mended(RecordCounts {
@@ -90,37 +97,49 @@ fn count_of(recording: &[u8]) -> usize {
 
 // Mends what was read. The bytes are no more than there is room for, so a header with more records than that has numbers that do not
 // agree. `mend` would say so where it is lent as many marks, and there is no room for those.
-fn mend_read(i: usize, recording: &[u8], mended: &mut [u8], marks: &mut [u8]) -> RecordingAnswer
+fn mend_read(
+    rt: HostRuntime,
+    i: usize,
+    recording: &[u8],
+    mended: &mut [u8],
+    marks: &mut [u8],
+) -> RecordingAnswer
     requires { length marks.old ≡ records_most }
     ensures { CountedTo records_most result }
 {
     let records = count_of(recording);
     if RECORDS_MOST < records {
-        no_header(i);
+        no_header(rt, i);
         return RecordingAnswer::NotMended;
     }
-    mend(i, recording, mended, &mut marks[0..records])
+    mend(rt, i, recording, mended, &mut marks[0..records])
 }
 
 // Reads the recording that argument i names into the room, and mends it.
-pub fn take(i: usize, room: &mut [u8], mended: &mut [u8], marks: &mut [u8]) -> RecordingAnswer
+pub fn take(
+    rt: HostRuntime,
+    i: usize,
+    room: &mut [u8],
+    mended: &mut [u8],
+    marks: &mut [u8],
+) -> RecordingAnswer
     requires { RecordingRooms room.old mended.old marks.old }
     ensures { CountedTo records_most result }
 {
-    let answer = input::take(i, room);
+    let answer = input::take(rt, i, room);
     let FileAnswer::Bytes(n) = answer else {
         return RecordingAnswer::NotMended;
     };
     if RECORDING_MOST < n {
-        output::too_many_records();
+        output::too_many_records(rt);
         return RecordingAnswer::NotMended;
     }
-    mend_read(i, &room[0..n], &mut mended[0..n], marks)
+    mend_read(rt, i, &room[0..n], &mut mended[0..n], marks)
 }
 
 // ---- what is told of it
 // The break before record i, where its mark is that of one: how many were told.
-fn tell_break(recording: &[u8], i: usize, mark: u8) -> u64
+fn tell_break(rt: HostRuntime, recording: &[u8], i: usize, mark: u8) -> u64
     requires { (0 < i) × (recording_length i + record_length ≤ length recording.now) }
     ensures { result ≤ 1 }
 {
@@ -130,30 +149,31 @@ fn tell_break(recording: &[u8], i: usize, mark: u8) -> u64
     let at = RECORDS_AT + RECORD_LENGTH * i;
     let before = le::u32_at(recording, at - RECORD_LENGTH);
     let counter = le::u32_at(recording, at);
-    output::put_break(i as u64, before as u64, counter as u64);
+    output::put_break(rt, i as u64, before as u64, counter as u64);
     1
 }
 
 // Each break, in order: how many there are. Before the first record there is none.
-fn tell_breaks(recording: &[u8], marks: &[u8]) -> u64
+fn tell_breaks(rt: HostRuntime, recording: &[u8], marks: &[u8]) -> u64
     requires { recording_length (length marks.now) ≤ length recording.now }
 {
     let mut breaks: u64 = 0;
     let mut i: usize = 1;
     while i < marks.len() {
-        breaks += tell_break(recording, i, marks[i]);
+        breaks += tell_break(rt, recording, i, marks[i]);
         i += 1;
     }
     breaks
 }
 
 // The breaks, and then what the recording has.
-pub fn tell(recording: &[u8], marks: &[u8], counts: RecordCounts)
+pub fn tell(rt: HostRuntime, recording: &[u8], marks: &[u8], counts: RecordCounts)
     requires { (counts.kept ≤ counts.records) × (recording_length (length marks.now) ≤ length recording.now) }
 {
-    let breaks = tell_breaks(recording, marks);
+    let breaks = tell_breaks(rt, recording, marks);
     let dropped = counts.records - counts.kept;
     output::recording(
+        rt,
         counts.records as u64,
         counts.kept as u64,
         dropped as u64,

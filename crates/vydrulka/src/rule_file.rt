@@ -8,26 +8,26 @@ use answers::Refusal;
 pub const FILE_ROOM: usize = 1169;
 
 // Tells a refusal. A word with no other file gives no name: there is no file without one.
-fn told(refusal: Refusal, name: &[u8], words: &[u8])
+fn told(rt: HostRuntime, refusal: Refusal, name: &[u8], words: &[u8])
     requires { length words.now ≤ 80 }
 {
     if name.len() == 0 {
-        output::refused(refusal, words);
+        output::refused(rt, refusal, words);
         return;
     }
-    output::refused_file(refusal, name, words);
+    output::refused_file(rt, refusal, name, words);
 }
 
 // The words for each refusal of `read` and `load`.
-pub fn refused(refusal: Refusal, name: &[u8]) {
+pub fn refused(rt: HostRuntime, refusal: Refusal, name: &[u8]) {
     match refusal {
-        Refusal::Length => told(refusal, name, b"wrong length"),
-        Refusal::Version => told(refusal, name, b"unknown version"),
-        Refusal::Range => told(refusal, name, b"count out of range"),
-        Refusal::Offset => told(refusal, name, b"wrong offset"),
-        Refusal::Masks => told(refusal, name, b"masks do not fit"),
-        Refusal::Slots => told(refusal, name, b"more than 64 slots"),
-        Refusal::Nodes => told(refusal, name, b"more than 4,096 nodes"),
-        _ => told(refusal, name, b"not a formula"),
+        Refusal::Length => told(rt, refusal, name, b"wrong length"),
+        Refusal::Version => told(rt, refusal, name, b"unknown version"),
+        Refusal::Range => told(rt, refusal, name, b"count out of range"),
+        Refusal::Offset => told(rt, refusal, name, b"wrong offset"),
+        Refusal::Masks => told(rt, refusal, name, b"masks do not fit"),
+        Refusal::Slots => told(rt, refusal, name, b"more than 64 slots"),
+        Refusal::Nodes => told(rt, refusal, name, b"more than 4,096 nodes"),
+        _ => told(rt, refusal, name, b"not a formula"),
     }
 }

@@ -10,33 +10,33 @@ use recordings::{RECORD_LENGTH, RECORDS_AT};
 const ARGUMENTS: usize = 3;
 
 // Mends in these rooms. What is told of the recording stands behind the result.
-fn mend_in(room: &mut [u8], mended: &mut [u8], marks: &mut [u8])
+fn mend_in(rt: HostRuntime, room: &mut [u8], mended: &mut [u8], marks: &mut [u8])
     requires { RecordingRooms room.old mended.old marks.old }
 {
-    let answer = recording::take(FILE_AT, room, mended, marks);
+    let answer = recording::take(rt, FILE_AT, room, mended, marks);
     let RecordingAnswer::Mended(counts) = answer else {
         return;
     };
     let length = RECORDS_AT + RECORD_LENGTH * counts.kept;
-    if output::result(&mended[0..length]) {
+    if output::result(rt, &mended[0..length]) {
         let records = counts.records;
-        recording::tell(room, &marks[0..records], counts);
+        recording::tell(rt, room, &marks[0..records], counts);
     }
 }
 
 // The rooms are made in a function of their own: they are too large to be looked at with what is done in them.
-fn mend() {
+fn mend(rt: HostRuntime) {
     let mut room = [0u8; RECORDING_ROOM];
     let mut mended = [0u8; RECORDING_MOST];
     let mut marks = [0u8; RECORDS_MOST];
-    mend_in(&mut room, &mut mended, &mut marks);
+    mend_in(rt, &mut room, &mut mended, &mut marks);
 }
 
 // Runs the word, with so many arguments, the program's name and the word among them.
-pub fn run(count: usize) {
+pub fn run(rt: HostRuntime, count: usize) {
     if count != ARGUMENTS {
-        output::usage();
+        output::usage(rt);
         return;
     }
-    mend();
+    mend(rt);
 }

@@ -2,7 +2,7 @@
 ghost use Rattle.std.specs.Prelude.{◌<◌, ◌≤◌, length};
 ghost use Rattle.limits.specs.Limits.{boards_most};
 
-use crate::input::FILE_AT;
+use crate::input::{FILE_AT, NAME_ROOM};
 use crate::{input, output};
 use answers::Refusal;
 use files::FileAnswer;
@@ -20,26 +20,26 @@ const TEXT_MOST: usize = 1048576;
 const TEXT_ROOM: usize = 1048577;
 
 // Board i. Where the argument is none that is told here.
-fn take_board(i: usize) -> BoardAnswer
+fn take_board(rt: HostRuntime, i: usize) -> BoardAnswer
     requires { i < boards_most }
 {
-    let mut arg = io::buffer();
-    let n = os::arg(BOARDS_AT + i, &mut arg);
+    let mut arg = [0u8; NAME_ROOM];
+    let n = input::argument(rt, BOARDS_AT + i, &mut arg);
     let answer = typed::board(&arg[0..n]);
     match answer {
-        BoardAnswer::NoBoard => output::no_board(i as u64, &arg[0..n]),
+        BoardAnswer::NoBoard => output::no_board(rt, i as u64, &arg[0..n]),
         BoardAnswer::Sees(_) => {}
     }
     answer
 }
 
 // The masks of all boards: whether each argument is a board.
-fn take_boards(masks: &mut [u64]) -> bool
+fn take_boards(rt: HostRuntime, masks: &mut [u64]) -> bool
     requires { length masks.old ≤ boards_most }
 {
     let mut i: usize = 0;
     while i < masks.len() {
-        let answer = take_board(i);
+        let answer = take_board(rt, i);
         let BoardAnswer::Sees(mask) = answer else {
             return false;
         };
@@ -51,27 +51,29 @@ fn take_boards(masks: &mut [u64]) -> bool
 
 // What `write` has refused. The text is a rule by then, and there are neither too few boards nor too many: what is wrong is the boards'
 // propositions.
-fn refused(refusal: Refusal) {
+fn refused(rt: HostRuntime, refusal: Refusal) {
     match refusal {
-        Refusal::Range => output::refused(refusal, b"no board sees a proposition"),
+        Refusal::Range => output::refused(rt, refusal, b"no board sees a proposition"),
         Refusal::Masks => output::refused(
+            rt,
             refusal,
             b"a proposition on two boards, or a number left out",
         ),
-        _ => output::refused(refusal, b"a proposition that no board sees"),
+        _ => output::refused(rt, refusal, b"a proposition that no board sees"),
     }
 }
 
 // Writes the rule file, and tells what it has.
-fn write(masks: &[u64], formula: &[u8]) {
+fn write(rt: HostRuntime, masks: &[u64], formula: &[u8]) {
     let propositions = spelling::propositions(masks);
     let mut file = [0u8; FILE_MOST];
     let answer = writing::write(masks, propositions, formula, &mut file);
     match answer {
-        WriteAnswer::Refused(refusal) => refused(refusal),
+        WriteAnswer::Refused(refusal) => refused(rt, refusal),
         WriteAnswer::Written(length) => {
-            if output::result(&file[0..length]) {
+            if output::result(rt, &file[0..length]) {
                 output::rule(
+                    rt,
                     formula.len() as u64,
                     propositions,
                     masks.len() as u64,
@@ -83,55 +85,55 @@ fn write(masks: &[u64], formula: &[u8]) {
 }
 
 // Reads the text as a rule. The formula's buffer has its length, so a refusal without a place is one of too many nodes.
-fn parse(masks: &[u64], text: &[u8]) {
+fn parse(rt: HostRuntime, masks: &[u64], text: &[u8]) {
     let mut formula = [0u8; RULE_NODES_MOST];
     let answer = parsing::parse(text, &mut formula);
     match answer {
-        ParseAnswer::Refused(refusal) => output::refused(refusal, b"more than 1,024 nodes"),
-        ParseAnswer::NoText(place) => output::no_rule(text, place),
-        ParseAnswer::Parsed(nodes) => write(masks, &formula[0..nodes]),
+        ParseAnswer::Refused(refusal) => output::refused(rt, refusal, b"more than 1,024 nodes"),
+        ParseAnswer::NoText(place) => output::no_rule(rt, text, place),
+        ParseAnswer::Parsed(nodes) => write(rt, masks, &formula[0..nodes]),
     }
 }
 
 // Reads the file with the text into the room.
-fn read_into(masks: &[u64], room: &mut [u8]) {
-    let answer = input::take(FILE_AT, room);
+fn read_into(rt: HostRuntime, masks: &[u64], room: &mut [u8]) {
+    let answer = input::take(rt, FILE_AT, room);
     let FileAnswer::Bytes(n) = answer else {
         return;
     };
     if TEXT_MOST < n {
-        output::too_long();
+        output::too_long(rt);
         return;
     }
-    parse(masks, &room[0..n]);
+    parse(rt, masks, &room[0..n]);
 }
 
 // The room is made in a function of its own: it is too large to be looked at with what is done in it.
-fn read(masks: &[u64]) {
+fn read(rt: HostRuntime, masks: &[u64]) {
     let mut room = [0u8; TEXT_ROOM];
-    read_into(masks, &mut room);
+    read_into(rt, masks, &mut room);
 }
 
 // Takes the boards, before the text is read.
-fn run_on(masks: &mut [u64])
+fn run_on(rt: HostRuntime, masks: &mut [u64])
     requires { length masks.old ≤ boards_most }
 {
-    if take_boards(masks) {
-        read(masks);
+    if take_boards(rt, masks) {
+        read(rt, masks);
     }
 }
 
 // Runs the word, with so many arguments, the program's name and the word among them.
-pub fn run(count: usize) {
+pub fn run(rt: HostRuntime, count: usize) {
     if count <= BOARDS_AT {
-        output::usage();
+        output::usage(rt);
         return;
     }
     let boards = count - BOARDS_AT;
     if BOARDS_MOST < boards {
-        output::refused(Refusal::Range, b"more than 16 boards");
+        output::refused(rt, Refusal::Range, b"more than 16 boards");
         return;
     }
     let mut masks = [0u64; BOARDS_MOST];
-    run_on(&mut masks[0..boards]);
+    run_on(rt, &mut masks[0..boards]);
 }

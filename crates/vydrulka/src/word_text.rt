@@ -18,58 +18,58 @@ const ARGUMENTS: usize = 3;
 const PAGE: usize = 12753;
 
 // Puts a line for each board behind the text, which stands in front of the page, and writes the page.
-fn finish(masks: &[u64], page: &mut [u8], length: usize)
-    requires* { do ⌜ ((← ⟦page.len()⟧) ≡ (← ⟦PAGE⟧)) × (length ≤ text_length) × ((← ⟦masks.len()⟧) ≤ boards_most) ⌝ }
+fn finish(rt: HostRuntime, masks: &[u64], page: &mut [u8], text: usize)
+    requires { (length page.old ≡ PAGE) × (text ≤ text_length) × (length masks.now ≤ boards_most) }
 {
-    page[length] = b'\n';
-    let end = accepted::put_boards(page, length + 1, masks);
-    output::result(&page[0..end]);
+    page[text] = b'\n';
+    let end = accepted::put_boards(page, text + 1, masks);
+    output::result(rt, &page[0..end]);
 }
 
 // Prints the formula to the front of the page. What `read` has accepted is always printed.
-fn print_into(masks: &[u64], formula: &[u8], page: &mut [u8])
-    requires* { do ⌜ ((← ⟦page.len()⟧) ≡ (← ⟦PAGE⟧)) × ((← ⟦masks.len()⟧) ≤ boards_most) ⌝ }
+fn print_into(rt: HostRuntime, masks: &[u64], formula: &[u8], page: &mut [u8])
+    requires { (length page.old ≡ PAGE) × (length masks.now ≤ boards_most) }
 {
     let answer = printing::print(formula, &mut page[0..TEXT_LENGTH]);
     match answer {
-        PrintAnswer::Refused(refusal) => rule_file::refused(refusal, b""),
-        PrintAnswer::Printed(length) => finish(masks, page, length),
+        PrintAnswer::Refused(refusal) => rule_file::refused(rt, refusal, b""),
+        PrintAnswer::Printed(length) => finish(rt, masks, page, length),
     }
 }
 
 // Makes the page.
-fn print(masks: &[u64], formula: &[u8])
+fn print(rt: HostRuntime, masks: &[u64], formula: &[u8])
     requires { length masks.now ≤ boards_most }
 {
     let mut page = [0u8; PAGE];
-    print_into(masks, formula, &mut page);
+    print_into(rt, masks, formula, &mut page);
 }
 
 // Reads the rule from its file.
-fn read(file: &[u8]) {
+fn read(rt: HostRuntime, file: &[u8]) {
     let mut masks = [0u64; BOARDS_MOST];
     let mut formula = [0u8; RULE_NODES_MOST];
     let answer = reading::read(file, &mut masks, &mut formula);
     match answer {
-        ReadAnswer::Refused(refusal) => rule_file::refused(refusal, b""),
+        ReadAnswer::Refused(refusal) => rule_file::refused(rt, refusal, b""),
         ReadAnswer::Rule(counts) => {
             let boards = counts.boards as usize;
             let nodes = counts.nodes as usize;
-            print(&masks[0..boards], &formula[0..nodes]);
+            print(rt, &masks[0..boards], &formula[0..nodes]);
         }
     }
 }
 
 // Runs the word, with so many arguments, the program's name and the word among them.
-pub fn run(count: usize) {
+pub fn run(rt: HostRuntime, count: usize) {
     if count != ARGUMENTS {
-        output::usage();
+        output::usage(rt);
         return;
     }
     let mut file = [0u8; FILE_ROOM];
-    let answer = input::take(FILE_AT, &mut file);
+    let answer = input::take(rt, FILE_AT, &mut file);
     let FileAnswer::Bytes(n) = answer else {
         return;
     };
-    read(&file[0..n]);
+    read(rt, &file[0..n]);
 }

@@ -3,7 +3,7 @@
 ghost use Rattle.std.specs.Prelude.{◌≡◌, length};
 ghost use Rattle.vydrulka.specs.Rooms.{records_most, RecordingRooms};
 
-use crate::input::FILE_AT;
+use crate::input::{FILE_AT, NAME_ROOM};
 use crate::recording::{RECORDING_MOST, RECORDING_ROOM, RECORDS_MOST, RecordingAnswer};
 use crate::rule_file::FILE_ROOM;
 use crate::{input, output, recording, rule_file};
@@ -24,48 +24,58 @@ const RECORDING_AT: usize = 3;
 // ---- the watch
 // Writes the line of the state that is left, and tells how much of the first stretch was watched. The state comes from `load` or `capture`,
 // so it is never refused.
-fn report(state: &[u8], closed: usize, ticks: usize) {
+fn report(rt: HostRuntime, state: &[u8], closed: usize, ticks: usize) {
     let answer = asking::ask(state);
     match answer {
-        AskAnswer::Refused(refusal) => output::refused(refusal, b"the state that is left"),
+        AskAnswer::Refused(refusal) => output::refused(rt, refusal, b"the state that is left"),
         AskAnswer::Told(standing) => {
             let verdict = standing.verdict;
             let written = output::standing(
+                rt,
                 standing.ticks as u64,
                 verdict,
                 standing.slots as u64,
                 standing.nodes as u64,
             );
             if written {
-                output::watched(closed as u64, ticks as u64, verdict);
+                output::watched(rt, closed as u64, ticks as u64, verdict);
             }
         }
     }
 }
 
 // The event at this place of the first stretch is refused.
-fn refused_event(refusal: Refusal, place: usize) {
+fn refused_event(rt: HostRuntime, refusal: Refusal, place: usize) {
     let at = place as u64;
     match refusal {
-        Refusal::Slots => output::refused_event(refusal, at, b"more than 64 slots"),
-        Refusal::Nodes => output::refused_event(refusal, at, b"more than 4,096 nodes"),
-        Refusal::State => output::refused_event(refusal, at, b"a state that fails its check"),
-        Refusal::Outside => output::refused_event(refusal, at, b"a bit that no board sees"),
-        Refusal::Already => output::refused_event(refusal, at, b"a board that has sampled already"),
-        _ => output::refused_event(refusal, at, b"the tick counter is at its end"),
+        Refusal::Slots => output::refused_event(rt, refusal, at, b"more than 64 slots"),
+        Refusal::Nodes => output::refused_event(rt, refusal, at, b"more than 4,096 nodes"),
+        Refusal::State => output::refused_event(rt, refusal, at, b"a state that fails its check"),
+        Refusal::Outside => output::refused_event(rt, refusal, at, b"a bit that no board sees"),
+        Refusal::Already => output::refused_event(
+            rt,
+            refusal,
+            at,
+            b"a board that has sampled already",
+        ),
+        _ => output::refused_event(rt, refusal, at, b"the tick counter is at its end"),
     }
 }
 
 // Watches the events, one a tick. The watch goes on, so what is refused is an event and not the call.
-fn capture(state: &mut [u8], second: &mut [u8], events: &[u64]) {
+fn capture(rt: HostRuntime, state: &mut [u8], second: &mut [u8], events: &[u64]) {
     let answer = capturing::capture(state, second, events);
     match answer {
-        CaptureAnswer::Refused(refusal) => output::refused(refusal, b"the state that was loaded"),
+        CaptureAnswer::Refused(refusal) => output::refused(
+            rt,
+            refusal,
+            b"the state that was loaded",
+        ),
         CaptureAnswer::Captured(captured) => {
             let stop = captured.stop;
             match stop {
-                Outcome::Refused(refusal) => refused_event(refusal, captured.closed),
-                Outcome::Done => report(state, captured.closed, events.len()),
+                Outcome::Refused(refusal) => refused_event(rt, refusal, captured.closed),
+                Outcome::Done => report(rt, state, captured.closed, events.len()),
             }
         }
     }
@@ -85,26 +95,33 @@ fn decided(state: &[u8]) -> bool {
 }
 
 // A watch that is over takes no event.
-fn watch(state: &mut [u8], second: &mut [u8], events: &[u64]) {
+fn watch(rt: HostRuntime, state: &mut [u8], second: &mut [u8], events: &[u64]) {
     if decided(state) {
-        report(state, 0, events.len());
+        report(rt, state, 0, events.len());
         return;
     }
-    capture(state, second, events);
+    capture(rt, state, second, events);
 }
 
 // ---- the recording
 // Takes the events of a mended recording, which is never refused.
-fn take_events(state: &mut [u8], second: &mut [u8], mended: &[u8], events: &mut [u64]) {
+fn take_events(
+    rt: HostRuntime,
+    state: &mut [u8],
+    second: &mut [u8],
+    mended: &[u8],
+    events: &mut [u64],
+) {
     let answer = stretching::stretch(mended, events);
     match answer {
-        StretchAnswer::Refused(refusal) => output::refused(refusal, b"the mended recording"),
-        StretchAnswer::Taken(n) => watch(state, second, &events[0..n]),
+        StretchAnswer::Refused(refusal) => output::refused(rt, refusal, b"the mended recording"),
+        StretchAnswer::Taken(n) => watch(rt, state, second, &events[0..n]),
     }
 }
 
 // Mends the recording in these rooms. What is told of it stands before what came of the watch.
 fn mend_in(
+    rt: HostRuntime,
     state: &mut [u8],
     second: &mut [u8],
     room: &mut [u8],
@@ -114,66 +131,79 @@ fn mend_in(
 )
     requires { RecordingRooms room.old mended.old marks.old × (length events.old ≡ records_most) }
 {
-    let answer = recording::take(RECORDING_AT, room, mended, marks);
+    let answer = recording::take(rt, RECORDING_AT, room, mended, marks);
     let RecordingAnswer::Mended(counts) = answer else {
         return;
     };
     let records = counts.records;
-    recording::tell(room, &marks[0..records], counts);
+    recording::tell(rt, room, &marks[0..records], counts);
     let kept = counts.kept;
     let length = RECORDS_AT + RECORD_LENGTH * kept;
-    take_events(state, second, &mended[0..length], &mut events[0..kept]);
+    take_events(rt, state, second, &mended[0..length], &mut events[0..kept]);
 }
 
 // ---- the rule
 // Its file is refused: the name is asked for again.
-fn refused_rule(refusal: Refusal) {
-    let mut name = io::buffer();
-    let n = os::arg(FILE_AT, &mut name);
-    rule_file::refused(refusal, &name[0..n]);
+fn refused_rule(rt: HostRuntime, refusal: Refusal) {
+    let mut name = [0u8; NAME_ROOM];
+    let n = input::argument(rt, FILE_AT, &mut name);
+    rule_file::refused(rt, refusal, &name[0..n]);
 }
 
 // Begins the watch, before the recording is read.
-fn load(file: &[u8], room: &mut [u8], mended: &mut [u8], marks: &mut [u8], events: &mut [u64])
+fn load(
+    rt: HostRuntime,
+    file: &[u8],
+    room: &mut [u8],
+    mended: &mut [u8],
+    marks: &mut [u8],
+    events: &mut [u64],
+)
     requires { RecordingRooms room.old mended.old marks.old × (length events.old ≡ records_most) }
 {
     let mut state = [0u8; STATE_ROOM];
     let outcome = loading::load(file, &mut state);
     match outcome {
-        Outcome::Refused(refusal) => refused_rule(refusal),
+        Outcome::Refused(refusal) => refused_rule(rt, refusal),
         Outcome::Done => {
             let mut second = [0u8; STATE_ROOM];
-            mend_in(&mut state, &mut second, room, mended, marks, events);
+            mend_in(rt, &mut state, &mut second, room, mended, marks, events);
         }
     }
 }
 
 // Reads the rule file.
-fn read_in(room: &mut [u8], mended: &mut [u8], marks: &mut [u8], events: &mut [u64])
+fn read_in(
+    rt: HostRuntime,
+    room: &mut [u8],
+    mended: &mut [u8],
+    marks: &mut [u8],
+    events: &mut [u64],
+)
     requires { RecordingRooms room.old mended.old marks.old × (length events.old ≡ records_most) }
 {
     let mut file = [0u8; FILE_ROOM];
-    let answer = input::take(FILE_AT, &mut file);
+    let answer = input::take(rt, FILE_AT, &mut file);
     let FileAnswer::Bytes(n) = answer else {
         return;
     };
-    load(&file[0..n], room, mended, marks, events);
+    load(rt, &file[0..n], room, mended, marks, events);
 }
 
 // The rooms are made in a function of their own: they are too large to be looked at with what is done in them.
-fn read() {
+fn read(rt: HostRuntime) {
     let mut room = [0u8; RECORDING_ROOM];
     let mut mended = [0u8; RECORDING_MOST];
     let mut marks = [0u8; RECORDS_MOST];
     let mut events = [0u64; RECORDS_MOST];
-    read_in(&mut room, &mut mended, &mut marks, &mut events);
+    read_in(rt, &mut room, &mut mended, &mut marks, &mut events);
 }
 
 // Runs the word, with so many arguments, the program's name and the word among them.
-pub fn run(count: usize) {
+pub fn run(rt: HostRuntime, count: usize) {
     if count != ARGUMENTS {
-        output::usage();
+        output::usage(rt);
         return;
     }
-    read();
+    read(rt);
 }
