@@ -12,7 +12,7 @@ use Rattle.answers.specs.Said.{Said, verdict_number, said_outcome}
 use Rattle.ltl.specs.Meaning.{Event}
 use Rattle.state.specs.Form.{form_in, state_length}
 use Rattle.course.specs.Course.{Course}
-use Rattle.exports.specs.Exported.{CaptureExported}
+use Rattle.exported.specs.Exported.{CaptureExported}
 use Rattle.demand.specs.Claims.{standing}
 use Rattle.demand.specs.Stopping.{WatchStops}
 use Rattle.demand.specs.Singly.{RunSingly}

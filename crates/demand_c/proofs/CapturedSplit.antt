@@ -12,7 +12,7 @@ use Rattle.capturing.specs.declared.Captured.{Captured}
 use Rattle.capturing.specs.declared.CaptureAnswer.{CaptureAnswer}
 use Rattle.capturing.specs.declared.CaptureAnswer.TheVariants as capture-said
 use Rattle.capturing.specs.Capture.{said_capture, Captures}
-use Rattle.exports.specs.Exported.{CaptureExported}
+use Rattle.exported.specs.Exported.{CaptureExported}
 use Rattle.demand.specs.Capturing.{RanThrough}
 use Rattle.capturing.proofs.Determined.{outcome-injective}
 use Rattle.demand.proofs.CapturedSplit.{captured-split}

@@ -12,7 +12,7 @@ use Rattle.ltl.specs.Meaning.{Event}
 use Rattle.telling.specs.declared.Standing.{Standing}
 use Rattle.taking.specs.Sample.{Samples}
 use Rattle.settling.specs.Step.{StepsSlot}
-use Rattle.exports.specs.Exported.{SampleExported, StepExported, AskExported, value_at}
+use Rattle.exported.specs.Exported.{SampleExported, StepExported, AskExported, value_at}
 use Rattle.demand.specs.Called.{SameGiven}
 use Rattle.demand.specs.Claims as claim
 use Rattle.demand.specs.Claims.{Gets, CloseGets, GoesOn, AskGets, standing}

@@ -12,8 +12,8 @@ use Rattle.ltl.specs.Meaning.{Event}
 use Rattle.recordings.specs.Mending.{first_events}
 use Rattle.recordings.specs.Recording.{recording_length, records_in}
 use Rattle.stretching.proofs.Mended.{mended-taken, stretch-taken}
-use Rattle.exports.specs.Exported.{CaptureExported, MendExported, StretchExported}
-use Rattle.exports.proofs.Recordings.{mend-from-c, stretch-from-c}
+use Rattle.exported.specs.Exported.{CaptureExported, MendExported, StretchExported}
+use Rattle.exported.proofs.Recordings.{mend-from-c, stretch-from-c}
 use Rattle.demand.specs.Claims.{standing}
 use Rattle.demand_c.specs.FromC.{WatchedFromC}
 use Rattle.demand_c.specs.Demanded.{DemandedFromC}

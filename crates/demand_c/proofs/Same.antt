@@ -39,7 +39,7 @@ use Rattle.reporting.proofs.Outcomes.{report-answers}
 use Rattle.adding.specs.Add.{add_says, AddsReport}
 use Rattle.mending.specs.declared.MendAnswer.TheVariants as mend-said
 use Rattle.mending.specs.Mend.{mend_says, Mends}
-use Rattle.exports.specs.Exported.{value_at, ReadExported, WriteExported, ParseExported, PrintExported, CentralExported, LoadExported, SampleExported, StepExported, CloseExported, CaptureExported, ReportExported, AddExported, MendExported}
+use Rattle.exported.specs.Exported.{value_at, ReadExported, WriteExported, ParseExported, PrintExported, CentralExported, LoadExported, SampleExported, StepExported, CloseExported, CaptureExported, ReportExported, AddExported, MendExported}
 use Rattle.demand.proofs.Allowed.{Either, order-either, sample-outcome, step-outcome, close-outcome, load-outcome}
 use Rattle.demand.proofs.Capturing.{CaptureCase, may-run, not-run, capture-case, capture-exists}
 use Rattle.demand_c.specs.FromC.{Refuses}

@@ -10,7 +10,7 @@ use Rattle.ltl.specs.Progression.{progressed_over, verdict_of}
 use Rattle.rules.specs.RuleFile.{masks_in_file}
 use Rattle.state.specs.Calls.{done_in}
 use Rattle.loading.specs.Load.{rule_in, start_in}
-use Rattle.exports.specs.Exported.{CloseExported, AskExported}
+use Rattle.exported.specs.Exported.{CloseExported, AskExported}
 use Rattle.demand.specs.Claims.{OneNetwork, standing}
 use Rattle.demand_c.specs.FromC.{CalledFromC, SameGivenFromC, TickedFromC, WatchedFromC}
 use Rattle.demand_c.specs.Demanded.{GoesOnFromC, Stores}

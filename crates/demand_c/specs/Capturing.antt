@@ -2,7 +2,7 @@
 use Rattle.std.specs.Prelude.{◌≡◌, List, ℕ, ◌+◌}
 use Rattle.answers.specs.declared.Verdict.TheVariants.{Pending}
 use Rattle.answers.specs.Said.{verdict_number}
-use Rattle.exports.specs.Exported.{CaptureExported}
+use Rattle.exported.specs.Exported.{CaptureExported}
 use Rattle.demand_c.specs.FromC.{Refuses}
 
 -- what a capture stored behind its pointers, and its answer

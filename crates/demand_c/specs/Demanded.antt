@@ -9,7 +9,7 @@ use Rattle.state.specs.Form.{form_in, state_length}
 use Rattle.state.specs.Calls.{done_in}
 use Rattle.loading.specs.Load.{rule_in}
 use Rattle.telling.specs.declared.Standing.{Standing}
-use Rattle.exports.specs.Exported.{SampleExported, StepExported, CloseExported, AskExported}
+use Rattle.exported.specs.Exported.{SampleExported, StepExported, CloseExported, AskExported}
 use Rattle.demand.specs.Claims.{OneNetwork, standing, as_written}
 use Rattle.demand_c.specs.FromC.{CalledFromC, SameGivenFromC, TickedFromC, WatchedFromC}
 

@@ -4,7 +4,7 @@ use Rattle.std.specs.Prelude.{◌≡◌, List, [], ◌∷◌, ◌++◌, ◌⊎�
 use Rattle.ltl.specs.Meaning.{Event}
 use Rattle.network.specs.Scores.{sample_of}
 use Rattle.rules.specs.RuleFile.{masks_in_file}
-use Rattle.exports.specs.Exported.{ReadExported, WriteExported, ParseExported, PrintExported, CentralExported, LoadExported, SampleExported, StepExported, CloseExported, AskExported, CaptureExported, ReportExported, AddExported, MendExported}
+use Rattle.exported.specs.Exported.{ReadExported, WriteExported, ParseExported, PrintExported, CentralExported, LoadExported, SampleExported, StepExported, CloseExported, AskExported, CaptureExported, ReportExported, AddExported, MendExported}
 
 -- the number is a refusal's
 abbrev pub Refuses : ℕ → Type 0

@@ -1,6 +1,6 @@
 -- The loop that takes the events of the first stretch: what stands after i records (`GatheredTo`), one more (`gather-more`), and its end, at a
 -- break (`gather-stops`) or behind the last record (`gather-done`). Assumes nothing.
-use mathlib.Core.Path.{◌≡◌, refl, sym, ap, ap₂, ◌∙◌, subst}
+use mathlib.Core.Path.{◌≡◌, refl, sym, ap, ap₂, ◌∙◌}
 use mathlib.Core.Bool.{Bool, true, false, not}
 use mathlib.Core.List.{List, [], ◌∷◌, ◌++◌, map, map-append, append-nil}
 use Prim.Native.Nat.{ℕ, suc, ◌+◌, ◌<◌, ◌≤◌}
@@ -11,11 +11,11 @@ use lib.ListN.{length, set, take, length-append}
 use lib.Seq.{take-set-le, take-suc-set}
 use lib.Dec.{eqb}
 use borrow.Author.Tests.{eq-eqb, ne_eqb}
-use Rattle.lists.specs.Tests.{pick, both}
+use Rattle.lists.specs.Tests.{pick}
 use Rattle.lists.specs.Listed.{listed}
 use Rattle.lists.proofs.Tests.{pick-ap, both_true}
 use Rattle.recordings.specs.Records.{Record, dropped, broken}
-use Rattle.recordings.specs.Mending.{marks_of, before_break, first_stretch, first_events, mark_by}
+use Rattle.recordings.specs.Mending.{before_break, first_stretch, mark_by}
 use Rattle.recordings.specs.Recording.{record_in}
 use Rattle.recordings.proofs.Places.{whole, whole-more, marks-listed, stretch-more, stretch-stops, stretch-few}
 use Rattle.stretching.specs.Stretch.{Gathers}

@@ -79,7 +79,7 @@ fn put_rows(page: &mut [u8], at: usize, report: &[u8], sheet: Sheet) -> usize
 
 // Puts the page of a report, of any bytes that have a report's length: where it ends.
 pub fn put(page: &mut [u8], report: &[u8], sheet: Sheet) -> usize
-    requires* { do ⌜ ((← ⟦page.len()⟧) ≡ (← ⟦PAGE_ROOM⟧)) × ((← ⟦report.len()⟧) ≡ report_length) ⌝ }
+    requires { (length page.old ≡ PAGE_ROOM) × (length report.now ≡ report_length) }
     ensures { Line (page_of sheet report.now) page.new result }
 {
     let behind = put_header(page, sheet);

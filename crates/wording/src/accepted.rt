@@ -35,7 +35,7 @@ fn put_sizes(line: &mut [u8], word: &[u8], m: u64, first: &[u8], n: u64, second:
 
 // The line of a rule: what it has, and the length of its file.
 pub fn rule(line: &mut [u8], nodes: u64, propositions: u64, boards: u64, length: u64) -> usize
-    requires* { do ⌜ (← ⟦line.len()⟧) ≡ (← ⟦ACCEPTED_ROOM⟧) ⌝ }
+    requires { length line.old ≡ ACCEPTED_ROOM }
     ensures { Line (rule_line nodes propositions boards length) line.new result }
 {
     let a = put_sizes(

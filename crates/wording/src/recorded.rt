@@ -20,7 +20,7 @@ fn put_field(line: &mut [u8], at: usize, text: &[u8], n: u64) -> usize
 
 // A break: the record behind it, the counter of the one before and its own.
 pub fn put_break(line: &mut [u8], place: u64, before: u64, counter: u64) -> usize
-    requires* { do ⌜ (← ⟦line.len()⟧) ≡ (← ⟦RECORDED_ROOM⟧) ⌝ }
+    requires { length line.old ≡ RECORDED_ROOM }
     ensures { Line (break_line place before counter) line.new result }
 {
     let a = put_field(line, 0, b"break before record", place);
@@ -49,7 +49,7 @@ pub fn recording(
     breaks: u64,
     first: u64,
 ) -> usize
-    requires* { do ⌜ (← ⟦line.len()⟧) ≡ (← ⟦RECORDED_ROOM⟧) ⌝ }
+    requires { length line.old ≡ RECORDED_ROOM }
     ensures { Line (recording_line records kept dropped breaks first) line.new result }
 {
     let a = put_records(line, records, kept, dropped);
@@ -71,7 +71,7 @@ fn put_ticks(line: &mut [u8], closed: u64, ticks: u64) -> usize
 
 // The line of a watch: how many ticks of the first stretch were closed, and what is known then.
 pub fn watched(line: &mut [u8], closed: u64, ticks: u64, verdict: Verdict) -> usize
-    requires* { do ⌜ (← ⟦line.len()⟧) ≡ (← ⟦RECORDED_ROOM⟧) ⌝ }
+    requires { length line.old ≡ RECORDED_ROOM }
     ensures { Line (watched_line closed ticks verdict) line.new result }
 {
     let a = put_ticks(line, closed, ticks);

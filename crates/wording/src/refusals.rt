@@ -34,7 +34,7 @@ pub fn refused(line: &mut [u8], refusal: Refusal, words: &[u8]) -> usize
 
 // A text that is no rule, with the place.
 pub fn no_rule(line: &mut [u8], row: u64, byte: u64) -> usize
-    requires* { do ⌜ (← ⟦line.len()⟧) ≡ (← ⟦REFUSAL_ROOM⟧) ⌝ }
+    requires { length line.old ≡ REFUSAL_ROOM }
     ensures { Line (no_rule row byte) line.new result }
 {
     let a = put_number(line, Refusal::Text);
@@ -87,7 +87,7 @@ fn put_run(line: &mut [u8], name: &[u8], place: u64) -> usize
 
 // A run that cannot be counted, with the numbers that stand for its rule and its verdict.
 pub fn no_run(line: &mut [u8], name: &[u8], place: u64, rule: u64, verdict: u64) -> usize
-    requires* { do ⌜ (← ⟦line.len()⟧) ≡ (← ⟦REFUSAL_ROOM⟧) ⌝ }
+    requires { length line.old ≡ REFUSAL_ROOM }
     ensures { Line (no_run name.now place rule verdict) line.new result }
 {
     let a = put_run(line, name, place);
@@ -100,7 +100,7 @@ pub fn no_run(line: &mut [u8], name: &[u8], place: u64, rule: u64, verdict: u64)
 
 // Two records of a recording that clash, with the place of the second.
 pub fn clash(line: &mut [u8], name: &[u8], place: u64) -> usize
-    requires* { do ⌜ (← ⟦line.len()⟧) ≡ (← ⟦REFUSAL_ROOM⟧) ⌝ }
+    requires { length line.old ≡ REFUSAL_ROOM }
     ensures { Line (clash_line name.now place) line.new result }
 {
     let a = put_about(line, Refusal::Clash, name);
@@ -128,7 +128,7 @@ pub fn refused_event(line: &mut [u8], refusal: Refusal, place: u64, words: &[u8]
 
 // An argument that is no board.
 pub fn no_board(line: &mut [u8], board: u64, arg: &[u8]) -> usize
-    requires* { do ⌜ (← ⟦line.len()⟧) ≡ (← ⟦REFUSAL_ROOM⟧) ⌝ }
+    requires { length line.old ≡ REFUSAL_ROOM }
     ensures { Line (no_board board arg.now) line.new result }
 {
     let a = lines::text(line, 0, b"refused: board");

@@ -2,7 +2,7 @@
 use mathlib.Core.Path.{ap, ◌∙◌}
 use mathlib.Core.List.{[], ◌∷◌}
 use Rattle.answers.specs.Said.{Said, verdict_number}
-use Rattle.exports.proofs.Values.{value-refused, value-accepted}
+use Rattle.exported.proofs.Values.{value-refused, value-accepted}
 use borrow.Author.Rules.{rules}
 use Rattle.exports.proofs.vydrulka_ask.Statement.{statement}
 use Rattle.exports.proofs.vydrulka_ask.Tie as tie

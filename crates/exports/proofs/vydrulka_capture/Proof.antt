@@ -2,7 +2,7 @@
 use mathlib.Core.Path.{sym, ap, ◌∙◌}
 use Rattle.answers.specs.Said.{Said}
 use Rattle.capturing.specs.Capture.{values_of, said_capture}
-use Rattle.exports.proofs.Values.{value-refused, value-accepted}
+use Rattle.exported.proofs.Values.{value-refused, value-accepted}
 use borrow.Author.Rules.{rules}
 use Rattle.exports.proofs.vydrulka_capture.Statement.{statement}
 use Rattle.exports.proofs.vydrulka_capture.Tie as tie

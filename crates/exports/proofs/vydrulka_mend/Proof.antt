@@ -3,7 +3,7 @@ use mathlib.Core.Path.{sym, ap, ◌∙◌}
 use mathlib.Core.List.{[], ◌∷◌}
 use Rattle.answers.specs.Said.{Said}
 use Rattle.mending.specs.Mend.{said_mend}
-use Rattle.exports.proofs.Values.{value-refused, value-accepted}
+use Rattle.exported.proofs.Values.{value-refused, value-accepted}
 use borrow.Author.Rules.{rules}
 use Rattle.exports.proofs.vydrulka_mend.Statement.{statement}
 use Rattle.exports.proofs.vydrulka_mend.Tie as tie

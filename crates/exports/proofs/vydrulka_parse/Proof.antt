@@ -7,7 +7,7 @@ use Rattle.cursor.specs.declared.TextCursor.{TextCursor}
 use Rattle.parsing.specs.declared.ParseAnswer.TheVariants.{Refused, NoText, Parsed}
 use Rattle.parsing.specs.Parse.{said_parse}
 use Rattle.parsing.proofs.Outcomes.{parse-as}
-use Rattle.exports.proofs.Values.{value-refused, value-with, value-accepted, told-refused, told_with, told-accepted}
+use Rattle.exported.proofs.Values.{value-refused, value-with, value-accepted, told-refused, told_with, told-accepted}
 use Rattle.exports.proofs.vydrulka_parse.Statement.{statement}
 use Rattle.exports.proofs.vydrulka_parse.Tie as tie
 

@@ -4,7 +4,7 @@ use mathlib.Core.Path.{sym, ap, ◌∙◌}
 use mathlib.Core.List.{[], ◌∷◌}
 use Rattle.answers.specs.Said.{Said}
 use Rattle.printing.specs.Print.{said_print}
-use Rattle.exports.proofs.Values.{value-refused, value-accepted}
+use Rattle.exported.proofs.Values.{value-refused, value-accepted}
 use Rattle.exports.proofs.vydrulka_print.Statement.{statement}
 use Rattle.exports.proofs.vydrulka_print.Tie as tie
 

@@ -4,7 +4,7 @@ use mathlib.Core.Path.{sym, ap, ◌∙◌}
 use mathlib.Core.List.{[], ◌∷◌}
 use Rattle.answers.specs.Said.{Said}
 use Rattle.rules.specs.Read.{said_read}
-use Rattle.exports.proofs.Values.{value-refused, value-accepted}
+use Rattle.exported.proofs.Values.{value-refused, value-accepted}
 use Rattle.exports.proofs.vydrulka_read.Statement.{statement}
 use Rattle.exports.proofs.vydrulka_read.Tie as tie
 

@@ -5,7 +5,7 @@ use native.Mathlib.Omega.{arith}
 use borrow.Author.Rules.{rules}
 use Rattle.answers.specs.Said.{Said}
 use Rattle.reporting.specs.Report.{said_report}
-use Rattle.exports.proofs.Values.{told-refused, told_with, told-accepted}
+use Rattle.exported.proofs.Values.{told-refused, told_with, told-accepted}
 use Rattle.exports.proofs.vydrulka_report.Statement.{statement}
 use Rattle.exports.proofs.vydrulka_report.Tie as tie
 

@@ -3,7 +3,7 @@ use mathlib.Core.Path.{sym, ap, ◌∙◌}
 use mathlib.Core.List.{[], ◌∷◌}
 use Rattle.answers.specs.Said.{Said}
 use Rattle.stretching.specs.Stretch.{said_stretch}
-use Rattle.exports.proofs.Values.{value-refused, value-accepted}
+use Rattle.exported.proofs.Values.{value-refused, value-accepted}
 use borrow.Author.Rules.{rules}
 use Rattle.exports.proofs.vydrulka_stretch.Statement.{statement}
 use Rattle.exports.proofs.vydrulka_stretch.Tie as tie

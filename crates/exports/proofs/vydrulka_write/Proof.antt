@@ -3,7 +3,7 @@ use borrow.Author.Rules.{rules}
 use mathlib.Core.Path.{ap, ◌∙◌}
 use mathlib.Core.List.{[], ◌∷◌}
 use Rattle.answers.specs.Said.{Said}
-use Rattle.exports.proofs.Values.{value-refused, value-accepted}
+use Rattle.exported.proofs.Values.{value-refused, value-accepted}
 use Rattle.exports.proofs.vydrulka_write.Statement.{statement}
 use Rattle.exports.proofs.vydrulka_write.Tie as tie
 

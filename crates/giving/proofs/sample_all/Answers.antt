@@ -1,10 +1,10 @@
-use mathlib.Core.Path.{refl, ap}
-use Prim.Native.Nat.{ℕ, ◌-◌}
+use mathlib.Core.Path.{refl, sym, ap, ◌∙◌}
+use Prim.Native.Nat.{ℕ}
 use lib.Bits.{bit_and}
 use Rattle.records.proofs.Opened.{opened-sized}
 use Rattle.course.specs.Given.{sampled_from}
-use Rattle.giving.proofs.Kept.{gives-going, gives_same, sampled-same}
-use Rattle.giving.proofs.Following.{comes-by, sampled-ends, sampled-all}
+use Rattle.giving.proofs.Kept.{gives-going, gives_same, sampled-same, sampled-going}
+use Rattle.giving.proofs.Following.{comes-by, sampled-more, sampled-ends, sampled-all}
 use native.Mathlib.Nat.{sub-zero}
 use native.Mathlib.Omega.{arith}
 use Rattle.giving.proofs.sample_all.Goals as goal
@@ -18,11 +18,19 @@ mask_of-requires c = let z = opened-sized c.loop-i.invariant.0.opened in let f =
 pub sample_going-outcome-requires : goal.sample_going-outcome-requires
 sample_going-outcome-requires c = let g = c.loop-i.invariant.0 in (g.opened, g.unfinished)
 
+pub returns-in_default : goal.returns-in_default
+returns-in_default c =
+    let a = c.args in let i = c.loop-i.invariant in
+    gives_same i.0 (sampled-same c.sample_going-outcome.ensures _ c.in_default.is)
+    (comes-by _ _ _ _ i.1 (sampled-ends _ _ _ _ _ _ c.loop-i-test.true (ap (bit_and a.event) c.mask_of.ensures) _ _ c.in_default.is c.sample_going-outcome.ensures))
+
 pub loop-i-preserved : goal.loop-i-preserved
 loop-i-preserved c =
-    let a = c.args in let i = c.loop-i.invariant in
-    gives_same i.0 (sampled-same c.sample_going-outcome.ensures _ c.in-Done.is)
-    (comes-by _ _ _ _ i.1 (sampled-ends _ _ _ _ _ _ c.loop-i-test.true (ap (bit_and a.event) c.mask_of.ensures) _ _ c.in-Done.is c.sample_going-outcome.ensures))
+    let a = c.args in let i = c.loop-i.invariant in (
+      sampled-going c.sample_going-outcome.ensures c.in-Done.is i.0,
+      sym (sampled-more _ _ _ _ _ _ c.loop-i-test.true (ap (bit_and a.event) c.mask_of.ensures) _ c.in-Done.is c.sample_going-outcome.ensures) ∙ i.1,
+      c.sample_going-outcome.auto.state ∙ i.2,
+    )
 
 pub returns : goal.returns
 returns c = let i = c.loop-i.invariant in gives-going i.0 (comes-by _ _ _ _ i.1 (sampled-all _ _ _ _ c.loop-i-test.false))

@@ -1,7 +1,6 @@
 -- The slots left, stepped from here on, come to what all come to from the entry, and the watch goes on; the slots left fall. A slot that
 -- strays ends them: the next call would refuse the state. Assumes nothing.
 use mathlib.Core.Path.{◌≡◌}
-use Prim.Native.Nat.{◌-◌}
 use lib.ListN.{length}
 use Rattle.course.specs.Given.{follow, stepped_below}
 use Rattle.giving.specs.Give.{passing, GoingOn}

@@ -13,7 +13,7 @@ pub put_rows-requires : goal.put_rows-requires
 put_rows-requires c =
     let k = c.tally-n.auto in let p = c.requires in
     rows-asked p.lengths c.tally-n.ensures c.if-n-runs.false
-    (long-more p.tables.long k.1.0 k.1.1.0 k.1.1.1.0 k.1.1.1.1.0)
+    (long-more p.tables.long k.counts k.earliest k.latest k.sums)
 
 pub returns : goal.returns
 returns c = reported c.requires.lengths c.tally-n.ensures c.if-n-runs.false c.put_rows.ensures

@@ -1,5 +1,5 @@
 use mathlib.Core.Path.{◌≡◌, refl, ◌∙◌}
-use Prim.Native.Nat.{◌+◌, ◌-◌, ◌<◌, ◌≤◌}
+use Prim.Native.Nat.{◌+◌, ◌<◌, ◌≤◌}
 use native.Mathlib.Omega.{arith}
 use lib.ListN.{length, length-set}
 use Rattle.le.proofs.Laws.{Bytes}
@@ -23,8 +23,8 @@ counter_at-counter-requires c =
 
 pub returns-then-mark-eq-BROKEN : goal.returns-then-mark-eq-BROKEN
 returns-then-mark-eq-BROKEN c =
-    let marked : c.mark_of-mark.result ≡ mark_by (record_in c.args.recording.now) c.loop-i.i = let h = c.loop-i-test.true in let s = c.args.recording.now in let bytes : Bytes s = λ j. let z = c.shared_slice_known-1.given j in omega arith in mark-read s c.loop-i.before bytes c.requires.clear h (c.loop-i.invariant.1 h) c.counter_at-counter.ensures c.step.ensures c.mark_of-mark.ensures in
-    gather-stops c.loop-i.invariant.0 (marked) c.loop-i-test.true c.if-mark-eq-BROKEN.true
+    let marked : c.mark_of-mark.result ≡ mark_by (record_in c.args.recording.now) c.loop-i.i = let h = c.loop-i-test.true in let s = c.args.recording.now in let bytes : Bytes s = λ j. let z = c.type_inv.recording j in omega arith in mark-read s c.loop-i.before bytes c.requires.clear h (c.loop-i.invariant.1 h) c.counter_at-counter.ensures c.step.ensures c.mark_of-mark.ensures in
+    gather-stops c.loop-i.invariant.0 marked c.loop-i-test.true c.if-mark-eq-BROKEN.true
 
 pub event_at-requires : goal.event_at-requires
 event_at-requires c =
@@ -34,7 +34,7 @@ event_at-requires c =
 pub offset_bounds-events-kept : goal.offset_bounds-events-kept
 offset_bounds-events-kept c =
     let room : let l = c.loop-i in l.kept < length l.events = let h = c.loop-i-test.true in let t = c.loop-i.invariant in let k = gather-few t.0 in let e = t.2 in omega arith in
-    let h = room in search rules
+    search rules
 
 pub bounds-events-kept : goal.bounds-events-kept
 bounds-events-kept c =
@@ -44,18 +44,18 @@ bounds-events-kept c =
 pub overflow_add-kept : goal.overflow_add-kept
 overflow_add-kept c =
     let room : let l = c.loop-i in l.kept < length l.events = let h = c.loop-i-test.true in let t = c.loop-i.invariant in let k = gather-few t.0 in let e = t.2 in omega arith in
-    let h = room in let o = kept-most c.mark_of-mark.result c.kept_by-kept.ensures in search rules
+    let o = kept-most c.mark_of-mark.result c.kept_by-kept.ensures in search rules
 
 pub loop-i-smaller : goal.loop-i-smaller
 loop-i-smaller c = omega arith
 
 pub loop-i-preserved : goal.loop-i-preserved
 loop-i-preserved c =
-    let marked : c.mark_of-mark.result ≡ mark_by (record_in c.args.recording.now) c.loop-i.i = let h = c.loop-i-test.true in let s = c.args.recording.now in let bytes : Bytes s = λ j. let z = c.shared_slice_known-1.given j in omega arith in mark-read s c.loop-i.before bytes c.requires.clear h (c.loop-i.invariant.1 h) c.counter_at-counter.ensures c.step.ensures c.mark_of-mark.ensures in
+    let marked : c.mark_of-mark.result ≡ mark_by (record_in c.args.recording.now) c.loop-i.i = let h = c.loop-i-test.true in let s = c.args.recording.now in let bytes : Bytes s = λ j. let z = c.type_inv.recording j in omega arith in mark-read s c.loop-i.before bytes c.requires.clear h (c.loop-i.invariant.1 h) c.counter_at-counter.ensures c.step.ensures c.mark_of-mark.ensures in
     let room : let l = c.loop-i in l.kept < length l.events = let h = c.loop-i-test.true in let t = c.loop-i.invariant in let k = gather-few t.0 in let e = t.2 in omega arith in
     let t = c.loop-i.invariant in
     let h = c.loop-i-test.true in (
-      gather-more t.0 (marked) c.if-mark-eq-BROKEN.false (room) c.event_at.ensures c.kept_by-kept.ensures,
+      gather-more t.0 marked c.if-mark-eq-BROKEN.false room c.event_at.ensures c.kept_by-kept.ensures,
       λ k. steps_next c.args.recording.now c.loop-i.i c.counter_at-counter.ensures,
       length-set c.loop-i.events c.loop-i.kept c.event_at.result ∙ t.2,
       omega arith,

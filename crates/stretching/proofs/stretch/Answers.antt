@@ -2,7 +2,6 @@
 use mathlib.Core.Path.{◌≡◌, sym, ◌∙◌}
 use mathlib.Core.Bool.{true}
 use native.Mathlib.Omega.{arith}
-use borrow.Author.Tests.{not-false}
 use Rattle.recordings.specs.Recording.{total_ok, header_ok}
 use Rattle.inspecting.proofs.Fits.{total-long, header-long}
 use Rattle.inspecting.proofs.Looking.{looked-clear}
@@ -14,40 +13,40 @@ returns-then-not-total_fits c = total-wrong _ _ (sym c.total_fits.ensures ∙ c.
 
 pub count_in-n-requires : goal.count_in-n-requires
 count_in-n-requires c =
-    let total : total_ok c.args.recording.now ≡ true = sym c.total_fits.ensures ∙ not-false _ c.if-not-total_fits.false in
-    total-long _ (total)
+    let total : total_ok c.args.recording.now ≡ true = sym c.total_fits.ensures ∙ c.if-not-total_fits.false in
+    total-long _ total
 
 pub returns-then-events-n : goal.returns-then-events-n
 returns-then-events-n c =
-    let total : total_ok c.args.recording.now ≡ true = sym c.total_fits.ensures ∙ not-false _ c.if-not-total_fits.false in
-    room-wrong _ _ (total) (λ e. c.if-events-n.true (e ∙ sym c.count_in-n.ensures.0))
+    let total : total_ok c.args.recording.now ≡ true = sym c.total_fits.ensures ∙ c.if-not-total_fits.false in
+    room-wrong _ _ total (λ e. c.if-events-n.true (e ∙ sym c.count_in-n.ensures.0))
 
 pub header_fits-requires : goal.header_fits-requires
 header_fits-requires c =
-    let total : total_ok c.args.recording.now ≡ true = sym c.total_fits.ensures ∙ not-false _ c.if-not-total_fits.false in
-    total-long _ (total)
+    let total : total_ok c.args.recording.now ≡ true = sym c.total_fits.ensures ∙ c.if-not-total_fits.false in
+    total-long _ total
 
 pub returns-then-not-header_fits : goal.returns-then-not-header_fits
 returns-then-not-header_fits c =
-    let total : total_ok c.args.recording.now ≡ true = sym c.total_fits.ensures ∙ not-false _ c.if-not-total_fits.false in
-    header-wrong _ _ (total) (c.if-events-n.false ∙ c.count_in-n.ensures.0) (sym c.header_fits.ensures ∙ c.if-not-header_fits.true)
+    let total : total_ok c.args.recording.now ≡ true = sym c.total_fits.ensures ∙ c.if-not-total_fits.false in
+    header-wrong _ _ total (c.if-events-n.false ∙ c.count_in-n.ensures.0) (sym c.header_fits.ensures ∙ c.if-not-header_fits.true)
 
 pub first_clash-requires : goal.first_clash-requires
 first_clash-requires c =
-    let total : total_ok c.args.recording.now ≡ true = sym c.total_fits.ensures ∙ not-false _ c.if-not-total_fits.false in
-    let header : header_ok c.args.recording.now ≡ true = sym c.header_fits.ensures ∙ not-false _ c.if-not-header_fits.false in
-    let k = c.count_in-n.ensures.0 in let l = header-long _ (total) (header) in omega arith
+    let total : total_ok c.args.recording.now ≡ true = sym c.total_fits.ensures ∙ c.if-not-total_fits.false in
+    let header : header_ok c.args.recording.now ≡ true = sym c.header_fits.ensures ∙ c.if-not-header_fits.false in
+    let k = c.count_in-n.ensures.0 in let l = header-long _ total header in omega arith
 
 pub returns-then-first_clash-n : goal.returns-then-first_clash-n
 returns-then-first_clash-n c =
-    let total : total_ok c.args.recording.now ≡ true = sym c.total_fits.ensures ∙ not-false _ c.if-not-total_fits.false in
-    let header : header_ok c.args.recording.now ≡ true = sym c.header_fits.ensures ∙ not-false _ c.if-not-header_fits.false in
-    clash-found _ _ (total) (c.if-events-n.false ∙ c.count_in-n.ensures.0) (header) c.first_clash.ensures c.count_in-n.ensures.0 c.if-first_clash-n.true
+    let total : total_ok c.args.recording.now ≡ true = sym c.total_fits.ensures ∙ c.if-not-total_fits.false in
+    let header : header_ok c.args.recording.now ≡ true = sym c.header_fits.ensures ∙ c.if-not-header_fits.false in
+    clash-found _ _ total (c.if-events-n.false ∙ c.count_in-n.ensures.0) header c.first_clash.ensures c.count_in-n.ensures.0 c.if-first_clash-n.true
 
 pub stretch_ready-requires : goal.stretch_ready-requires
 stretch_ready-requires c =
-    let total : total_ok c.args.recording.now ≡ true = sym c.total_fits.ensures ∙ not-false _ c.if-not-total_fits.false in
-    let header : header_ok c.args.recording.now ≡ true = sym c.header_fits.ensures ∙ not-false _ c.if-not-header_fits.false in
+    let total : total_ok c.args.recording.now ≡ true = sym c.total_fits.ensures ∙ c.if-not-total_fits.false in
+    let header : header_ok c.args.recording.now ≡ true = sym c.header_fits.ensures ∙ c.if-not-header_fits.false in
     record {
       total = total;
       room = c.if-events-n.false ∙ c.count_in-n.ensures.0;

@@ -9,7 +9,7 @@ use Rattle.lists.specs.Tests.{pick}
 use Rattle.answers.specs.declared.Refusal.{Refusal}
 use Rattle.answers.specs.Said.{Said, accepted, refused, refused_with, number_of}
 use Rattle.answers.proofs.Answers.{number-some}
-use Rattle.exports.specs.Exported.{value_at, told_at}
+use Rattle.exported.specs.Exported.{value_at, told_at}
 
 kept : (why : Refusal) (i before : ℕ) → value_at (refused (number_of why)) i before ≡ before
 unfolding value_at pick

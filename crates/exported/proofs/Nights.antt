@@ -26,7 +26,7 @@ use Rattle.reporting.specs.Report.{report_says, report_for, Reports}
 use Rattle.reporting.proofs.Told.{report-told, report-night, report-left}
 use Rattle.adding.specs.Add.{add_says, sum_for, AddsReport}
 use Rattle.adding.proofs.Lists.{add-too-many, add-accepted, add-lists}
-use Rattle.exports.specs.Exported.{ReportExported, AddExported}
+use Rattle.exported.specs.Exported.{ReportExported, AddExported}
 
 -- ---- a list whose report was accepted, and what that left
 pub record ReportKept (runs report : List ℕ) : Type 0 where

@@ -17,7 +17,7 @@ use Rattle.mending.specs.Mend.{Mends}
 use Rattle.stretching.specs.declared.StretchAnswer.TheVariants.{Taken}
 use Rattle.stretching.specs.Stretch.{Stretches}
 use Rattle.stretching.proofs.Mended.{mend-told, stretch-told, again-allowed, stretch-allowed, mended-stretch, either-allowed, stretch-either}
-use Rattle.exports.specs.Exported.{value_at, MendExported, StretchExported}
+use Rattle.exported.specs.Exported.{value_at, MendExported, StretchExported}
 
 -- ---- accepted
 pub mend-from-c : {s mended marks mended' marks' : List ℕ} {k f kept first : ℕ} → MendExported s mended marks mended' marks' k f kept first 0

@@ -19,8 +19,8 @@ use Rattle.parsing.proofs.Determined.{parse-one, said_parse-injective}
 use Rattle.printing.specs.declared.PrintAnswer.TheVariants.{Printed}
 use Rattle.printing.specs.Print.{Prints}
 use Rattle.printing.proofs.Told.{PrintTold, print-told}
-use Rattle.exports.specs.Exported.{ParseExported, PrintExported}
-use Rattle.exports.proofs.Values.{value-accepted, value-zero}
+use Rattle.exported.specs.Exported.{ParseExported, PrintExported}
+use Rattle.exported.proofs.Values.{value-accepted, value-zero}
 
 -- what parsing the printed bytes says
 told_back : {s text' d e : List ℕ} {n : ℕ} {x : Said} → PrintTold s text' n → length d ≡ rule_nodes_most → ParseSays rule_nodes_most (take n text') d x e
