@@ -2,7 +2,7 @@
 -- `node-pair`, `node-none`, `part-top-node`, `part-top-later`, `part-top-again`. `from-kind` and its like say that the node's byte, lent in
 -- front, is the one at its place. Assumes nothing.
 use mathlib.Core.Path.{◌≡◌, refl, sym, ap, ◌∙◌, subst}
-use mathlib.Core.List.{List, ◌∷◌}
+use mathlib.Core.List.{List}
 use mathlib.Core.Option.{Option}
 use Prim.Native.Nat.{ℕ, ◌+◌, ◌*◌, ◌/◌, ◌%◌, ◌<◌}
 use native.Mathlib.Omega.{arith}
@@ -20,7 +20,7 @@ use Rattle.kinds.specs.declared.Binary.TheVariants.{Joined, Until}
 use Rattle.kinds.specs.declared.Kind.{Kind}
 use Rattle.kinds.specs.declared.Kind.TheVariants.{Zero, One, Two, NoCode}
 use Rattle.kinds.specs.Kinds.{kind_of, leaf_code, leaf_coded, unary_code, join_code, hold_code}
-use Rattle.ltl.specs.Formula.{Formula, leaf, one, two, size}
+use Rattle.ltl.specs.Formula.{Formula, leaf, size}
 use Rattle.ltl.specs.Progression.{unfolded}
 use Rattle.ltl.proofs.Decoding.{size-some}
 use Rattle.nodes.proofs.Fronts.{Parts, is_zero, parts-as, zero_is, leaf-within, no_code}

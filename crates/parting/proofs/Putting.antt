@@ -8,7 +8,7 @@ use lib.ListN.{length, take, drop, set, length-set}
 use lib.Seq.{drop-set-lt, take-set-le, take-suc-set}
 use Rattle.lists.proofs.Drops.{put-below}
 use Rattle.parting.specs.declared.PartTop.{PartTop}
-use Rattle.parting.specs.Tops.{operand_parts, parts_of, PutsTop}
+use Rattle.parting.specs.Tops.{operand_parts, PutsTop}
 
 take_put : (l : List ℕ) (w v : ℕ) → w < length l → take (w + 1) (set l w v) ≡ take w l ++ (v ∷ [])
 take_put l w v i = let e : w + 1 ≡ suc w = omega arith in ap (λ (n : ℕ). take n (set l w v)) e ∙ take-suc-set l w v i

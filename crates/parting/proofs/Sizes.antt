@@ -1,15 +1,14 @@
 -- How large a part can be (`part-size`), that each number in it has a code (`part-coded`), and what holds of its top
 -- (`top-fits`): its numbers are small, its operands are as many as it says, and there is a token for the top and each of them at least.
 -- Assumes nothing.
-use mathlib.Core.Path.{◌≡◌, refl, sym, ap, ◌∙◌, subst}
+use mathlib.Core.Path.{◌≡◌, refl, sym, ap, subst}
 use mathlib.Core.Bool.{true, false}
 use mathlib.Core.List.{List, [], ◌∷◌}
 use mathlib.Core.Option.{Option}
-use Prim.Native.Nat.{ℕ, zero, suc, ◌+◌, ◌*◌, ◌/◌, ◌^◌, ◌<◌, ◌≤◌}
+use Prim.Native.Nat.{ℕ, zero, suc, ◌+◌, ◌*◌, ◌^◌, ◌<◌, ◌≤◌}
 use native.Mathlib.Omega.{arith}
-use lib.ListN.{length, get_or, drop, length-drop}
+use lib.ListN.{length, drop, length-drop}
 use Rattle.limits.specs.Limits.{nodes_room, slots_room, propositions_most, holder_codes}
-use Rattle.kinds.specs.declared.Leaf.TheVariants.{Const, Prop, Hold}
 use Rattle.kinds.specs.declared.Unary.TheVariants.{Not, Next, Ever}
 use Rattle.kinds.specs.declared.Join.{Join}
 use Rattle.kinds.specs.declared.Join.TheVariants.{And, Or}
@@ -21,9 +20,9 @@ use Rattle.ltl.proofs.Decoding.{size-some, unfolded-coded}
 use Rattle.nodes.proofs.Fronts.{front_length}
 use Rattle.registers.specs.Outer.{outer}
 use Rattle.registers.proofs.Outers.{outer-some}
-use Rattle.tokens.specs.Tokens.{text_code, TextAt}
+use Rattle.tokens.specs.Tokens.{TextAt}
 use Rattle.parting.specs.declared.PartTop.{PartTop}
-use Rattle.parting.specs.Parts.{parts_room, PartAt, part-node, part-later, part-again, PartsAt}
+use Rattle.parting.specs.Parts.{PartAt, part-node, part-later, part-again, PartsAt}
 use Rattle.parting.specs.Tops.{TopOf, top-constant, top-proposition, top-hold, top-not, top-next, top-join, operand_parts, parts_of, TopsAs, SmallTop}
 use Rattle.parting.proofs.Standing.{node-inside, part-inside}
 

@@ -1,9 +1,9 @@
 -- Formulas that stand at a place and are marked, and the parts of such nodes: where operands stand (`operand_at`, `left_at`, `right-at`),
 -- and which part a number is (`node-part`, `later-part`, `again_part`). Assumes nothing.
-use mathlib.Core.Path.{◌≡◌, refl, sym, ap, ◌∙◌, subst}
-use mathlib.Core.List.{List, [], ◌∷◌, ◌++◌, append_assoc}
+use mathlib.Core.Path.{◌≡◌, sym, ap, ◌∙◌, subst}
+use mathlib.Core.List.{List, ◌∷◌, ◌++◌, append_assoc}
 use mathlib.Core.Option.{Option}
-use Prim.Native.Nat.{ℕ, suc, ◌+◌, ◌*◌, ◌/◌, ◌%◌, ◌-◌, ◌<◌, ◌≤◌}
+use Prim.Native.Nat.{ℕ, ◌+◌, ◌/◌, ◌%◌, ◌<◌, ◌≤◌}
 use native.Mathlib.Omega.{arith}
 use lib.ListN.{length, get_or, drop, length-drop}
 use lib.Seq.{drop-drop, drop_at}
@@ -15,7 +15,6 @@ use Rattle.kinds.specs.declared.Binary.TheVariants.{Until}
 use Rattle.ltl.specs.Formula.{Formula, leaf, one, two, size, encode}
 use Rattle.ltl.specs.Progression.{unfolded}
 use Rattle.ltl.proofs.Decoding.{size-some, length-encode}
-use Rattle.nodes.specs.Begins.{Front}
 use Rattle.nodes.proofs.Fronts.{front_length}
 use Rattle.choices.specs.Marks.{MarkOf, Marked, later_of}
 use Rattle.tokens.specs.Tokens.{TextAt}

@@ -1,11 +1,11 @@
 -- The top of a part, by which part it is and by the kind of its node: `leaf-tops`, `single-tops`, `pair-tops`, `later-tops`, `again-tops`.
 -- Assumes nothing.
 use mathlib.Core.Path.{◌≡◌, refl, sym, ap, ◌∙◌, subst}
-use mathlib.Core.List.{List, [], ◌∷◌, ◌++◌}
+use mathlib.Core.List.{List, [], ◌∷◌}
 use mathlib.Core.Option.{Option}
-use Prim.Native.Nat.{ℕ, suc, ◌+◌, ◌*◌, ◌<◌, ◌≤◌}
+use Prim.Native.Nat.{ℕ, ◌+◌}
 use native.Mathlib.Omega.{arith}
-use lib.ListN.{length, get_or, drop}
+use lib.ListN.{get_or}
 use Rattle.kinds.specs.declared.Leaf.{Leaf}
 use Rattle.kinds.specs.declared.Leaf.TheVariants.{Const, Prop, Hold}
 use Rattle.kinds.specs.declared.Unary.{Unary}
@@ -13,13 +13,12 @@ use Rattle.kinds.specs.declared.Unary.TheVariants.{Not, Next, Ever}
 use Rattle.kinds.specs.declared.Join.TheVariants.{And, Or}
 use Rattle.kinds.specs.declared.Binary.{Binary}
 use Rattle.kinds.specs.declared.Binary.TheVariants.{Joined, Until}
-use Rattle.kinds.specs.Kinds.{leaf_code, unary_code, join_code}
-use Rattle.ltl.specs.Formula.{Formula, leaf, one, two, join, size}
+use Rattle.kinds.specs.Kinds.{leaf_code, join_code}
+use Rattle.ltl.specs.Formula.{Formula, leaf, one, two, size}
 use Rattle.ltl.specs.Progression.{unfolded}
 use Rattle.choices.specs.Marks.{length_in, later_of}
-use Rattle.parting.specs.declared.PartTop.{PartTop}
-use Rattle.parting.specs.Parts.{node_code, later_code, again_code, NodeMarked, PartAt, part-node, part-later, part-again, PartsAt}
-use Rattle.parting.specs.Tops.{TopOf, top-constant, top-proposition, top-hold, top-not, top-next, top-join, HeldBy, alone_top, between_top, text_top, single_top, pair_top, held_leaf, TopsAs, parts_of}
+use Rattle.parting.specs.Parts.{node_code, later_code, again_code, NodeMarked, part-node, part-later, part-again}
+use Rattle.parting.specs.Tops.{TopOf, top-constant, top-proposition, top-hold, top-not, top-next, top-join, HeldBy, alone_top, between_top, text_top, single_top, pair_top, held_leaf, TopsAs}
 use Rattle.parting.proofs.Standing.{marked-mark, operand_at, left_at, right-at, node-text}
 
 module _ (choose : Formula → Option ℕ) (bytes marks : List ℕ) (held : ℕ → ℕ) where

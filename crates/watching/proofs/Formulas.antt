@@ -28,6 +28,8 @@ module _ (choose : Formula → Option ℕ) where
   plain-clean b (one Not f) x = plain-clean b f x
   plain-clean b (one Next f) x = x.0
   plain-clean b (two (Joined j) f g) x = (plain-clean b f x.0, plain-clean b g x.1)
+  plain-clean b (one (Ever _) f) x = elim x [ ]
+  plain-clean b (two Until f g) x = elim x [ ]
 
 module _ (p : ℕ) (masks : List ℕ) (few : p ≤ propositions_most) (rule : masks_rule p masks ≡ true) where
   pub clean-within : (end : ℕ) (f : Formula) → Clean (chosen masks) f → HoldsIn (λ m. m < end) f → Within p end f

@@ -1,0 +1,26 @@
+-- How the state is found decides: a law of `taking` for each refusal, and the call of a watch that goes on.
+-- Assumes nothing.
+use mathlib.Core.Path.{◌≡◌, subst}
+use mathlib.Core.Bool.{false}
+use Rattle.state.specs.Calls.{finished_in}
+use Rattle.state.specs.Opened.{Opened}
+use Rattle.opening.specs.declared.Opening.{Opening}
+use Rattle.opening.specs.Opening.{Opens}
+use Rattle.taking.proofs.Outcomes.{refused-state, refused-finished}
+use Rattle.sampling.proofs.sample.Goals as goal
+
+pub sample_going-requires : goal.sample_going-requires
+sample_going-requires c =
+    let found : (o : Opening) → c.open-opened.result ≡ o → Opens c.args.state.now o = λ o. λ e. subst (Opens c.args.state.now) e c.open-opened.ensures in
+    let going : let s = c.args.state.now in Opened s c.in-Going.c × (finished_in s ≡ false) = found _ c.in-Going.is in
+    going
+
+pub returns-in-Broken : goal.returns-in-Broken
+returns-in-Broken c =
+    let found : (o : Opening) → c.open-opened.result ≡ o → Opens c.args.state.now o = λ o. λ e. subst (Opens c.args.state.now) e c.open-opened.ensures in
+    refused-state _ _ _ (found _ c.in-Broken.is)
+
+pub returns-in-Finished : goal.returns-in-Finished
+returns-in-Finished c =
+    let found : (o : Opening) → c.open-opened.result ≡ o → Opens c.args.state.now o = λ o. λ e. subst (Opens c.args.state.now) e c.open-opened.ensures in
+    let o = found _ c.in-Finished.is in refused-finished _ _ _ o.0.passes o.1

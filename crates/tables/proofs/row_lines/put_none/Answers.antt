@@ -1,0 +1,17 @@
+-- What stands for no ticks in the sheet that was matched. Assumes nothing.
+use native.Mathlib.Omega.{arith}
+use Rattle.tables.specs.Pages.{none_text}
+use Rattle.tables.proofs.Putting.{sheet-put}
+use Rattle.tables.proofs.row_lines.put_none.Goals as goal
+
+pub returns-in-Table : goal.returns-in-Table
+returns-in-Table c =
+    let put = c.put_further.ensures.0 in
+    let ends = put.ends in
+    (sheet-put none_text _ _ _ _ _ _ c.in-Table.is put, omega arith)
+
+pub returns-in-Values : goal.returns-in-Values
+returns-in-Values c =
+    let put = c.text.ensures in
+    let ends = put.ends in
+    (sheet-put none_text _ _ _ _ _ _ c.in-Values.is put, omega arith)
