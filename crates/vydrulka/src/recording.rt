@@ -158,10 +158,8 @@ fn tell_breaks(rt: HostRuntime, recording: &[u8], marks: &[u8]) -> u64
     requires { recording_length (length marks.now) ≤ length recording.now }
 {
     let mut breaks: u64 = 0;
-    let mut i: usize = 1;
-    while i < marks.len() {
+    for i in 1..marks.len() {
         breaks += tell_break(rt, recording, i, marks[i]);
-        i += 1;
     }
     breaks
 }

@@ -71,12 +71,10 @@ fn add_night(rt: HostRuntime, night: usize, total: &mut [u8], room: &mut [u8]) -
 
 // Adds all nights: whether each was accepted.
 fn add_nights(rt: HostRuntime, count: usize, total: &mut [u8], room: &mut [u8]) -> bool {
-    let mut night = NIGHTS_AT;
-    while night < count {
+    for night in NIGHTS_AT..count {
         if !add_night(rt, night, total, room) {
             return false;
         }
-        night += 1;
     }
     true
 }

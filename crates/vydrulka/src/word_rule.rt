@@ -37,14 +37,12 @@ fn take_board(rt: HostRuntime, i: usize) -> BoardAnswer
 fn take_boards(rt: HostRuntime, masks: &mut [u64]) -> bool
     requires { length masks.old ≤ boards_most }
 {
-    let mut i: usize = 0;
-    while i < masks.len() {
+    for i in 0..masks.len() {
         let answer = take_board(rt, i);
         let BoardAnswer::Sees(mask) = answer else {
             return false;
         };
         masks[i] = mask;
-        i += 1;
     }
     true
 }

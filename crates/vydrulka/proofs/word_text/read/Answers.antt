@@ -1,0 +1,16 @@
+-- Masks and nodes stand within their buffers. Assumes nothing.
+use Rattle.std.proofs.Common.{refl, arith}
+use Rattle.vydrulka.proofs.Few.{read-few}
+use Rattle.vydrulka.proofs.word_text.read.Goals as goal
+
+pub slice_bounds-print-end : goal.slice_bounds-print-end
+slice_bounds-print-end c =
+    let few = read-few _ _ _ _ _ _ _ refl c.in-Rule.ensures in
+    let long = c.read-answer.auto.masks in
+    omega arith
+
+pub slice_bounds-print-end-in-Rule : goal.slice_bounds-print-end-in-Rule
+slice_bounds-print-end-in-Rule c =
+    let few = read-few _ _ _ _ _ _ _ refl c.in-Rule.ensures in
+    let long = c.read-answer.auto.formula in
+    omega arith
