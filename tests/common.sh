@@ -91,9 +91,12 @@ has_c_compiler() {
 # OTHER::.., outside of comments. OTHER may also be a module or a type of the crate's own.
 citations() {
     for crate in $(sed -nE 's/^([a-z0-9_]+).*/\1/p' crates.txt); do
+        # where std's io is brought in, `io` is that one and not the kit's crate
+        std=-
+        ! grep -rqE '^use std::(io;|\{.*\bio\b)' "crates/$crate/src" || std=io
         {
             find "crates/$crate" -name out -prune -o -name '*.antt' -exec sed -E 's/(^|[ (])--.*//' {} +
             find "crates/$crate" -name out -prune -o -name '*.rt' -exec sed -E 's,//.*,,' {} +
-        } | grep -oE 'Rattle\.[a-z0-9_]+|[A-Za-z0-9_:]+::' | sed -E "s/Rattle\.//; s/::.*//; s/^/cites $crate /" | sort -u
+        } | grep -oE 'Rattle\.[a-z0-9_]+|[A-Za-z0-9_:]+::' | sed -E "s/Rattle\.//; s/::.*//" | grep -vx -e "$std" | sed "s/^/cites $crate /" | sort -u
     done
 }

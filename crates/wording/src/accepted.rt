@@ -34,9 +34,9 @@ fn put_sizes(line: &mut [u8], word: &[u8], m: u64, first: &[u8], n: u64, second:
 }
 
 // The line of a rule: what it has, and the length of its file.
-pub fn rule(line: &mut [u8], nodes: u64, propositions: u64, boards: u64, length: u64) -> usize
+pub fn rule(line: &mut [u8], nodes: u64, propositions: u64, boards: u64, bytes: u64) -> usize
     requires { length line.old ≡ ACCEPTED_ROOM }
-    ensures { Line (rule_line nodes propositions boards length) line.new result }
+    ensures { Line (rule_line nodes propositions boards bytes) line.new result }
 {
     let a = put_sizes(
         line,
@@ -49,7 +49,7 @@ pub fn rule(line: &mut [u8], nodes: u64, propositions: u64, boards: u64, length:
     let b = lines::text(line, a, b", ");
     let c = put_counted(line, b, boards, b"board");
     let d = lines::text(line, c, b": ");
-    let e = put_counted(line, d, length, b"byte");
+    let e = put_counted(line, d, bytes, b"byte");
     lines::text(line, e, b"\n")
 }
 

@@ -1,4 +1,4 @@
-use Prim.Native.Nat.{◌-◌}
+use Rattle.lists.proofs.Parts.{handed-length}
 use native.Mathlib.Omega.{arith}
 use Rattle.setting.proofs.Writing.{writing_start, writing-room, writing-few, writing_more, writing-done, asked-room, asked-token}
 use Rattle.setting.proofs.put_nodes.Goals as goal
@@ -21,7 +21,7 @@ pub loop-i-smaller : goal.loop-i-smaller
 loop-i-smaller c = omega arith
 
 pub loop-i-preserved : goal.loop-i-preserved
-loop-i-preserved c = writing_more c.loop-i.invariant c.put_token-w.new.out _ c.loop-i-test.true c.put_token-w.ensures (asked-room c.requires) c.out-1.given.1
+loop-i-preserved c = writing_more c.loop-i.invariant c.put_token-w.new.out _ c.loop-i-test.true c.put_token-w.ensures (asked-room c.requires) (handed-length c.loop-i.w c.loop-i.out c.put_token-w.new.out c.loop-i.invariant.inside c.put_token-w.auto.out)
 
 pub returns : goal.returns
 returns c = writing-done c.loop-i.invariant c.loop-i-test.false

@@ -38,3 +38,17 @@ pub returns : goal.returns
 returns c =
     let text-nodes : let a = c.args in put_of a.bytes.now a.marks.now a.numbers.now a.t ≡ unary_code Next ∷ text_at a.bytes.now a.marks.now (a.t - text_code) = let a = c.args in put_next a.t a.bytes.now a.marks.now a.numbers.now c.if-t-lt-TEXTS.false in
     subst (λ (x : List ℕ). Puts x c.args.out.now c.put_text.new.out c.put_text.result) (sym (text-nodes)) c.put_text.ensures
+
+pub bounds-out-0 : goal.bounds-out-0
+bounds-out-0 c =
+    let a = c.args in
+    let e = ap length (put-code a.t a.bytes.now a.marks.now a.numbers.now c.if-t-lt-HOLDERS.true) in
+    let p = c.requires.1 in
+    omega arith
+
+pub bounds-out-0-then-t-lt-TEXTS : goal.bounds-out-0-then-t-lt-TEXTS
+bounds-out-0-then-t-lt-TEXTS c =
+    let a = c.args in
+    let e = ap length (put-holder a.t a.bytes.now a.marks.now a.numbers.now c.if-t-lt-HOLDERS.false c.if-t-lt-TEXTS.true) in
+    let p = c.requires.1 in
+    omega arith
