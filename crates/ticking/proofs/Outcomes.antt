@@ -11,7 +11,7 @@ use Rattle.lists.specs.Tests.{pick}
 use Rattle.answers.specs.declared.Outcome.{Outcome}
 use Rattle.answers.specs.declared.Outcome.TheVariants.{Refused, Done}
 use Rattle.answers.specs.declared.Refusal.{Refusal}
-use Rattle.answers.specs.Said.{Said, accepted, refused, left, number_of, said_outcome, check, in_order}
+use Rattle.answers.specs.Said.{Said, accepted, left, number_of, said_outcome, check, in_order}
 use Rattle.answers.proofs.Answers.{number-some, order-ok, order-refused, order-done}
 use Rattle.state.specs.declared.Counts.{Counts}
 use Rattle.state.specs.Form.{form_in, state_length}

@@ -12,5 +12,5 @@ report-spec =
     (tie.spec
     (λ c. sym (length-replicate {0} {A = ℕ} 786456 0))
     (λ c κs. search rules)
-    (λ c. c.before.before.before.report-in.auto.1.1.1.0)
+    (λ c. c.before.before.before.report_in.auto.1.1.1.0)
     (λ c. search rules))
