@@ -1,5 +1,5 @@
 -- Where the bytes are a rule, it is folded, and copied to the front. Assumes nothing.
-use Rattle.std.proofs.Common.{◌≡◌, ◌-◌, ◌≤◌, length, take, true, sym, ◌∙◌, arith}
+use Rattle.std.proofs.Common.{◌≡◌, ◌-◌, ◌≤◌, length, take, sym, ◌∙◌, arith}
 use Rattle.progress.proofs.Firsts.{first-ask, first-inside, first-folds}
 use Rattle.progress.proofs.fold_first.Goals as goal
 
