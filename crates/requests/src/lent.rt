@@ -2,6 +2,10 @@
 
 const MODULUS: u64 = 4294967291;
 
+fn wide(x: u8) -> u64 {
+    x as u64
+}
+
 pub fn fill_bytes(bytes: &mut [u8]) {
     for (i, byte) in bytes.iter_mut().enumerate() {
         *byte = (i % 251 + 1) as u8;
@@ -24,7 +28,7 @@ fn hashed(hash: u64, x: u64) -> u64 {
 pub fn hash_bytes(bytes: &[u8]) -> u64 {
     let mut hash: u64 = 1;
     for byte in bytes {
-        hash = hashed(hash, u64::from(*byte));
+        hash = hashed(hash, wide(*byte));
     }
     hash
 }
