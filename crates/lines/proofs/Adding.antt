@@ -1,17 +1,33 @@
--- Laws of lines that are built in a buffer. `adds_then`: one text and then another; `line-done`: a line that began at 0;
--- `number-added`: a number's text, and how long it is at the most; `field-as`: a field of an equal number. Assumes nothing.
-use mathlib.Core.Path.{◌≡◌, sym, ap, subst, ◌∙◌}
+-- Laws of lines that are built in a buffer. `text-added`: text copied behind what is there; `adds_then`: one text and then another;
+-- `line-done`: a line that began at 0; `number-added`, `verdict-added`: a field's text, and how long it is at the most. Assumes nothing.
+use mathlib.Core.Path.{◌≡◌, refl, sym, ap, subst, ◌∙◌}
 use mathlib.Core.List.{List, ◌++◌, append_assoc}
 use Prim.Native.Nat.{ℕ, zero, suc, ◌+◌, ◌-◌, ◌<◌, ◌≤◌, ◌^◌}
 use native.Mathlib.Omega.{arith}
 use native.Mathlib.Nat.{pow-le-pow_right}
 use native.Mathlib.Decide.{dec_lt}
-use lib.ListN.{length, take, length-append}
+use lib.ListN.{length, take, drop, length-append, take-append-drop}
+use lib.Seq.{length-take-le, take_at}
 use lib.Dec.{ltb}
 use borrow.Author.Tests.{ltb-true, ltb-false}
 use Rattle.io.specs.Digits.{last_digits, IsDigitCount}
+use Rattle.lists.specs.Runs.{tail, tail_as}
 use Rattle.lists.proofs.Tests.{pick-elim}
-use Rattle.lines.specs.Lines.{Adds, Line, places, decimal_of, field_of}
+use Rattle.lists.proofs.Stretches.{put-more}
+use Rattle.answers.specs.declared.Verdict.{Verdict}
+use Rattle.answers.specs.declared.Verdict.TheVariants.{False, True, Pending}
+use Rattle.lines.specs.Lines.{Adds, Line, places, decimal_of, field_of, verdict_text}
+
+pub text-added : (line text copied : List ℕ) (at : ℕ) → at + length text ≤ length line → copied ≡ text ++ drop (length text) (tail at line)
+    → Adds text line at (tail_as at line copied) (at + length text)
+text-added line text copied at room e =
+    let front = length-take-le at line (omega arith) in
+    let long = length-append (take at line) text in
+    let whole = put-more line line (take at line) text copied at (length text) front (sym (take-append-drop at line)) e in
+    record {
+      ends = refl;
+      holds = ap (take (at + length text)) whole ∙ take_at (take at line ++ text) (drop (at + length text) line) (at + length text) (omega arith);
+    }
 
 pub adds_then : (x y d e f : List ℕ) (at m r : ℕ) → Adds x d at e m → Adds y e m f r → Adds (x ++ y) d at f r
 adds_then x y d e f at m r p q =
@@ -65,6 +81,19 @@ module _ (n k : ℕ) (fits : n < 2 ^ 64) (few : IsDigitCount 10 1 n k) where
       let b : Adds (take k out) line at line' r = subst (λ (j : ℕ). Adds (take j out) line at line' r) same a in
       let ends = b.ends in
       (subst (λ (x : List ℕ). Adds x line at line' r) (decimal-is n k out fits few is) b, omega arith)
+
+-- a verdict's text is of 8 bytes at the most
+verdict-few : (v : Verdict) → length (verdict_text v) ≤ 8
+verdict-few False = omega arith
+verdict-few True = omega arith
+verdict-few Pending = omega arith
+
+pub verdict-added : (v w : Verdict) (line line' : List ℕ) (at r : ℕ) → v ≡ w → Adds (verdict_text w) line at line' r
+    → Adds (verdict_text v) line at line' r × (r ≤ at + 8)
+verdict-added v w line line' at r is a =
+    let few = verdict-few w in
+    let ends = a.ends in
+    (subst (λ (x : Verdict). Adds (verdict_text x) line at line' r) (sym is) a, omega arith)
 
 pub field-as : (m n : ℕ) (line line' : List ℕ) (at r : ℕ) → m ≡ n → Adds (field_of m) line at line' r → Adds (field_of n) line at line' r
 field-as m n line line' at r is a = subst (λ (k : ℕ). Adds (field_of k) line at line' r) is a

@@ -1,0 +1,2 @@
+-- Laws of bytes that were read.
+pub mod Reached
