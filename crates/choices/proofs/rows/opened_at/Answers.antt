@@ -1,5 +1,4 @@
 use mathlib.Core.Path.{refl}
-use Prim.Native.Nat.{◌-◌}
 use lib.ListN.{length-set}
 use Rattle.choices.proofs.Reading.{read_more, read_done}
 use native.Mathlib.Omega.{arith}

@@ -1,5 +1,4 @@
 use mathlib.Core.Path.{refl}
-use Prim.Native.Nat.{◌-◌}
 use lib.ListN.{length-set}
 use Rattle.choices.proofs.Reading.{put-more, put-others, put-done}
 use native.Mathlib.Omega.{arith}
