@@ -1,6 +1,6 @@
 -- The look over a report's rows: those below r have been looked at (`LookedTo`), and one more is (`look-more`). Assumes nothing.
 use mathlib.Core.Path.{◌≡◌, refl, ap, ap₂, ◌∙◌}
-use mathlib.Core.Bool.{Bool, true}
+use mathlib.Core.Bool.{Bool, true, false, ◌&&◌}
 use mathlib.Core.List.{List}
 use Prim.Native.Nat.{ℕ, ◌+◌, ◌*◌, ◌^◌, ◌<◌, ◌≤◌}
 use native.Mathlib.Numerals.{add-one}
@@ -11,6 +11,12 @@ use Rattle.reports.specs.declared.Row.{Row}
 use Rattle.reports.specs.Bytes.{row_length, row_at, row_agrees, rows_agree, runs_told}
 use Rattle.reports.specs.Rows.{sum_below}
 use Rattle.adding.specs.Add.{Surveyed}
+
+-- the code's `&`
+pub and-both : (a b : Bool) → a && b ≡ both a b
+unfolding both
+and-both true b = refl
+and-both false b = refl
 
 -- what is known of the rows below r
 pub record LookedTo (s : List ℕ) (runs : ℕ) (agrees : Bool) (r : ℕ) : Type 0 where
@@ -24,16 +30,16 @@ unfolding sum_below rows_agree
 looked-none s = record { inside = omega arith; told = refl; agree = refl; few = omega arith }
 
 module _ {s : List ℕ} {runs r : ℕ} {agrees : Bool} (l : LookedTo s runs agrees r) where
-  pub look-more : r < rules_most → {w : Row} → w ≡ row_at s (row_length * r) → {x : ℕ} → x ≡ w.runs → x < 2 ^ 32 → {a b : Bool} → a ≡ row_agrees w → b ≡ both agrees a
-      → LookedTo s (runs + x) b (r + 1)
+  pub look-more : r < rules_most → {w : Row} → w ≡ row_at s (row_length * r) → {x : ℕ} → x ≡ w.runs → x < 2 ^ 32 → {a : Bool} → a ≡ row_agrees w
+      → LookedTo s (runs + x) (agrees && a) (r + 1)
   unfolding sum_below rows_agree
-  look-more h {w} row e fits agreed joined =
+  look-more h {w} row e fits {a} agreed =
       let f = l.few in
       rw add-one
       (record {
         inside = omega arith;
         told = ap₂ ◌+◌ l.told (e ∙ ap (λ (v : Row). v.runs) row);
-        agree = joined ∙ ap₂ both l.agree (agreed ∙ ap row_agrees row);
+        agree = and-both agrees a ∙ ap₂ both l.agree (agreed ∙ ap row_agrees row);
         few = omega arith;
       })
 

@@ -1,9 +1,9 @@
 -- What `add` answers and leaves. Assumes nothing: these are definitions.
-use Rattle.std.specs.Prelude.{◌≡◌, Bool, true, List, [], ◌∷◌, ℕ, ◌+◌, ◌*◌, ◌≤◌, length, eqb, leb}
+use Rattle.answers.specs.declared.Refusal.{Refusal}
+use Rattle.std.specs.Prelude.{◌≡◌, Bool, true, List, [], ◌∷◌, ℕ, ◌+◌, ◌*◌, ◌≤◌, length, eqb, leb, Result, ⊤}
 use Rattle.limits.specs.Limits.{runs_most, rules_most}
 use Rattle.lists.specs.Tests.{both}
 use Rattle.answers.specs.Said.{Said, accepted, check, in_order, left, said_outcome}
-use Rattle.answers.specs.declared.Outcome.{Outcome}
 use Rattle.reports.specs.declared.Row.{Row}
 use Rattle.reports.specs.Report.{added}
 use Rattle.reports.specs.Bytes.{report_length, report_bytes, row_in, rows_agree, runs_told}
@@ -35,7 +35,7 @@ abbrev pub sum_for : List ℕ → List ℕ → List ℕ
 sum_for total night = report_bytes (sum_row total night)
 
 -- the promise
-pub record AddsReport (total night total' : List ℕ) (answer : Outcome) : Type 0 where
+pub record AddsReport (total night total' : List ℕ) (answer : Result ⊤ Refusal) : Type 0 where
   pub says : said_outcome answer ≡ add_says total night
   pub leaves : total' ≡ left (add_says total night) (sum_for total night) total
 

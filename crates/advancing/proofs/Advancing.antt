@@ -1,5 +1,6 @@
 -- What the counts of the new layout tell: `found-..` of the layout, `advanced-..` of the close, and within the limits what putting the
 -- next state asks. Assumes nothing.
+use Rattle.std.specs.Prelude.{Ok, Err}
 use mathlib.Core.Path.{◌≡◌, sym, ap, ◌∙◌, subst}
 use mathlib.Core.List.{List, []}
 use Prim.Native.Nat.{ℕ, ◌<◌, ◌≤◌}
@@ -8,7 +9,6 @@ use lib.ListN.{length}
 use borrow.Author.Tests.{le-leb, lt-leb}
 use Rattle.answers.specs.declared.Refusal.{Refusal}
 use Rattle.answers.specs.declared.Refusal.TheVariants.{Slots, Nodes}
-use Rattle.answers.specs.declared.Outcome.TheVariants.{Refused, Done}
 use Rattle.answers.specs.Said.{Said, accepted, refused, left, number_of}
 use Rattle.answers.proofs.Answers.{left-refused, left-accepted, order-ok, order-refused, order-done}
 use Rattle.limits.specs.Limits.{nodes_room}
@@ -82,7 +82,7 @@ lent_same {owner = owner} l e a b =
 
 -- ---- the close
 module _ {s second : List ℕ} {c : Counts} (ask : AdvanceAsk s second c) where
-  pub advanced-refused : (why : Refusal) → refused (number_of why) ≡ advance_says s → Advances s second second (Refused why)
+  pub advanced-refused : (why : Refusal) → refused (number_of why) ≡ advance_says s → Advances s second second (Err why)
   advanced-refused why e = record { says = e; leaves = sym (ap (λ (x : Said). left x (next_state s) second) (sym e) ∙ left-refused why (next_state s) second) }
 
   -- what is lent, with the state that was opened
@@ -96,7 +96,7 @@ module _ {s second : List ℕ} {c : Counts} (ask : AdvanceAsk s second c) where
     next-ask z e k lu lm =
         record { known = k; counted = ask.counted; long = ask.long; clean = z; masks-are = e; counts = n.counts; form-slots = n.form-slots; form-nodes = n.form-nodes; u-long = lu; tags-long = lm }
 
-    pub advanced-done : {second' : List ℕ} → second' ≡ next_state s → Advances s second second' Done
+    pub advanced-done : {second' : List ℕ} → second' ≡ next_state s → Advances s second second' (Ok tt)
     advanced-done h =
         let a = n.counts.slots-are in
         let b = n.counts.nodes-are in

@@ -1,7 +1,7 @@
 -- A tick that is done, closed: what is asked, and what is answered and left. Assumes nothing: these are definitions.
-use Rattle.std.specs.Prelude.{◌≡◌, ℕ, ◌+◌, ◌<◌, ◌≤◌, ◌^◌, List, [], ◌∷◌, length, leb}
+use Rattle.answers.specs.declared.Refusal.{Refusal}
+use Rattle.std.specs.Prelude.{◌≡◌, ℕ, ◌+◌, ◌<◌, ◌≤◌, ◌^◌, List, [], ◌∷◌, length, leb, Result, Ok, Err, ⊤}
 use Rattle.answers.specs.Said.{Said, accepted, refused, number_of, left, check, in_order, said_outcome}
-use Rattle.answers.specs.declared.Outcome.{Outcome}
 use Rattle.limits.specs.Limits.{nodes_room}
 use Rattle.masks.specs.Masks.{sum_ones}
 use Rattle.scores.specs.Owned.{Table, Owned}
@@ -14,8 +14,6 @@ use Rattle.state.specs.Opened.{Opened}
 use Rattle.storing.specs.Stores.{LaidCounts, ZeroFrom}
 use Rattle.counting.specs.declared.Totals.{Totals}
 use Rattle.renewing.specs.Renew.{next_state}
-use Rattle.advancing.specs.declared.NextLayout.{NextLayout}
-use Rattle.advancing.specs.declared.NextLayout.TheVariants.{Refused, Within}
 
 -- a state that passes, whose ticks can be counted on, and a second buffer of its length
 pub record AdvanceAsk (s second : List ℕ) (c : Counts) : Type 0 where
@@ -36,11 +34,11 @@ pub record NextCounts (s : List ℕ) (t : Totals) : Type 0 where
   pub form-slots : t.slots ≤ slots_most (form_in s)
   pub form-nodes : t.nodes ≤ nodes_most (form_in s)
 
-abbrev pub NextFound : List ℕ → NextLayout → Type 0
-NextFound s (Refused why) = refused (number_of why) ≡ advance_says s
-NextFound s (Within t) = NextCounts s t
+abbrev pub NextFound : List ℕ → Result Totals Refusal → Type 0
+NextFound s (Err why) = refused (number_of why) ≡ advance_says s
+NextFound s (Ok t) = NextCounts s t
 
-pub record Advances (s second second' : List ℕ) (answer : Outcome) : Type 0 where
+pub record Advances (s second second' : List ℕ) (answer : Result ⊤ Refusal) : Type 0 where
   pub says : said_outcome answer ≡ advance_says s
   pub leaves : second' ≡ left (advance_says s) (next_state s) second
 

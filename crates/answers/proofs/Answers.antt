@@ -1,5 +1,6 @@
 -- Laws of answers, for every call. `number-injective`: no two refusals have one number; `left-refused`, `left-accepted`: what a
 -- lent buffer holds afterwards; `order-ok`, `order-refused`: one check of a list of checks. Assumes nothing.
+use Rattle.std.specs.Prelude.{Result, Ok, Err, ⊤}
 use mathlib.Core.Path.{◌≡◌, refl, sym, ap, ◌∙◌}
 use mathlib.Core.Bool.{Bool, true, false}
 use mathlib.Core.List.{List, [], ◌∷◌}
@@ -12,8 +13,6 @@ use Rattle.answers.specs.declared.Refusal.{Refusal}
 use Rattle.answers.specs.declared.Refusal.TheVariants.{Length, Version, Range, Offset, Masks, Formula, Slots, Nodes, State, Finished, Nowhere, Outside, Already, Unready, Ticks, Text, Run, Clash}
 use Rattle.answers.specs.declared.Verdict.{Verdict}
 use Rattle.answers.specs.declared.Verdict.TheVariants.{False, True, Pending}
-use Rattle.answers.specs.declared.Outcome.{Outcome}
-use Rattle.answers.specs.declared.Outcome.TheVariants.{Refused, Done}
 use Rattle.answers.specs.Said.{Said, accepted, refused, left, number_of, verdict_number, said_outcome, Check, check, in_order}
 
 -- ---- the refusals by number; what stands at a number that none has is not looked at
@@ -61,11 +60,11 @@ verdict-injective a b e = sym (there a) ∙ ap (λ (n : ℕ). get_or (False ∷ 
     there True = refl
     there Pending = refl
 
-pub said_outcome-injective : (a b : Outcome) → said_outcome a ≡ said_outcome b → a ≡ b
-said_outcome-injective (Refused v) (Refused w) e = ap Refused (number-injective v w (ap (λ (s : Said). s.number) e))
-said_outcome-injective (Refused v) Done e = let z = number-some v in let y = ap (λ (s : Said). s.number) e in absurd (omega arith)
-said_outcome-injective Done (Refused w) e = let z = number-some w in let y = ap (λ (s : Said). s.number) e in absurd (omega arith)
-said_outcome-injective Done Done e = refl
+pub said_outcome-injective : (a b : Result ⊤ Refusal) → said_outcome a ≡ said_outcome b → a ≡ b
+said_outcome-injective (Err v) (Err w) e = ap Err (number-injective v w (ap (λ (s : Said). s.number) e))
+said_outcome-injective (Err v) (Ok _) e = let z = number-some v in let y = ap (λ (s : Said). s.number) e in absurd (omega arith)
+said_outcome-injective (Ok _) (Err w) e = let z = number-some w in let y = ap (λ (s : Said). s.number) e in absurd (omega arith)
+said_outcome-injective (Ok _) (Ok _) e = refl
 
 -- ---- what a lent buffer holds
 pub left-refused : (why : Refusal) (x y : List ℕ) → left (refused (number_of why)) x y ≡ y

@@ -1,13 +1,11 @@
 -- A call's answer as the rules give it: a number, 0 where the call is accepted and else the refusal's, and the values that
 -- an accepted call answers with. Assumes nothing: these are definitions.
-use Rattle.std.specs.Prelude.{ℕ, Bool, List, [], ◌∷◌, eqb}
+use Rattle.std.specs.Prelude.{ℕ, Bool, List, [], ◌∷◌, eqb, Result, Ok, Err, ⊤}
 use Rattle.lists.specs.Tests.{pick}
 use Rattle.answers.specs.declared.Refusal.{Refusal}
 use Rattle.answers.specs.declared.Refusal.TheVariants.{Length, Version, Range, Offset, Masks, Formula, Slots, Nodes, State, Finished, Nowhere, Outside, Already, Unready, Ticks, Text, Run, Clash}
 use Rattle.answers.specs.declared.Verdict.{Verdict}
 use Rattle.answers.specs.declared.Verdict.TheVariants.{False, True, Pending}
-use Rattle.answers.specs.declared.Outcome.{Outcome}
-use Rattle.answers.specs.declared.Outcome.TheVariants.{Refused, Done}
 
 pub record Said : Type 0 where
   pub number : ℕ
@@ -57,9 +55,9 @@ verdict_number True = 1
 verdict_number Pending = 2
 
 -- the cases of an answer without values
-abbrev pub said_outcome : Outcome → Said
-said_outcome (Refused why) = refused (number_of why)
-said_outcome Done = accepted []
+abbrev pub said_outcome : Result ⊤ Refusal → Said
+said_outcome (Err why) = refused (number_of why)
+said_outcome (Ok _) = accepted []
 
 -- ---- refusals in order
 -- a check that a call makes, and the number with which it refuses where the check fails

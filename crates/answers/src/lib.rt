@@ -1,11 +1,12 @@
-// What the calls answer: the refusals by name, with their numbers, the three verdicts, and the answer of a call without values.
+// What the calls answer: the refusals by name, with their numbers, and the three verdicts. A call answers a `Result` with its values,
+// or `()` where it has none to give.
 #![tactic(auto)]
 
 ghost use Rattle.std.specs.Prelude.{◌≡◌};
 ghost use Rattle.answers.specs.Said.{number_of, verdict_number};
 
 // Why a call was refused, in the order of the numbers: 1 to 16, 19 and 20. 17 and 18 belong to no call yet.
-#[derive(Clone, Copy)]
+#[derive(Clone, Copy, Debug, PartialEq, Eq)]
 pub enum Refusal {
     Length,
     Version,
@@ -27,11 +28,11 @@ pub enum Refusal {
     Clash,
 }
 
-impl Refusal {
-    pub fn number(self) -> u32
-        ensures { result ≡ number_of self }
-    {
-        match self {
+impl From<Refusal> for u32 {
+    ghost from_gives = { λ refusal number. number ≡ number_of refusal };
+
+    fn from(refusal: Refusal) -> u32 {
+        match refusal {
             Refusal::Length => 1,
             Refusal::Version => 2,
             Refusal::Range => 3,
@@ -55,28 +56,21 @@ impl Refusal {
 }
 
 // What is known of a rule after some ticks.
-#[derive(Clone, Copy)]
+#[derive(Clone, Copy, Debug, PartialEq, Eq)]
 pub enum Verdict {
     False,
     True,
     Pending,
 }
 
-impl Verdict {
-    pub fn number(self) -> u32
-        ensures { result ≡ verdict_number self }
-    {
-        match self {
+impl From<Verdict> for u32 {
+    ghost from_gives = { λ verdict number. number ≡ verdict_number verdict };
+
+    fn from(verdict: Verdict) -> u32 {
+        match verdict {
             Verdict::False => 0,
             Verdict::True => 1,
             Verdict::Pending => 2,
         }
     }
-}
-
-// What a call answers that has no values to give: load, sample, step and close.
-#[derive(Clone, Copy)]
-pub enum Outcome {
-    Refused(Refusal),
-    Done,
 }

@@ -5,14 +5,14 @@ ghost use Rattle.telling.specs.Ask.{Asks};
 
 use answers::{Refusal, Verdict};
 use opening::Opening;
-use telling::AskAnswer;
+use telling::Standing;
 
-pub fn ask(state: &[u8]) -> AskAnswer
+pub fn ask(state: &[u8]) -> Result<Standing, Refusal>
     ensures { Asks state.now result }
 {
     let opened = opening::open(state);
     match opened {
-        Opening::Broken => AskAnswer::Refused(Refusal::State),
+        Opening::Broken => Err(Refusal::State),
         Opening::Finished(c) => telling::told(state, c, telling::verdict(state, c)),
         Opening::Going(c) => telling::told(state, c, Verdict::Pending),
     }

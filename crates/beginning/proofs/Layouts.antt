@@ -23,7 +23,8 @@ use Rattle.state.proofs.Forms.{nodes-few}
 use Rattle.scores.specs.Owned.{Table, Owned}
 use Rattle.scores.proofs.Counting.{scored-chosen}
 use Rattle.cutting.specs.declared.LaidPart.{LaidPart}
-use Rattle.cutting.specs.Cuts.{code_of, cuts_on, Parted}
+use Rattle.scores.specs.Choice.{code_of}
+use Rattle.cutting.specs.Cuts.{cuts_on, Parted}
 use Rattle.cutting.proofs.Choices.{chosen-below}
 use Rattle.cutting.proofs.Nodes.{unfolded-few}
 use Rattle.laying.proofs.Counting.{held_none, laid-slots}

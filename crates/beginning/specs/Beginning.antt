@@ -1,7 +1,7 @@
 -- What beginning a watch with a rule that was read asks and gives. Assumes nothing: these are definitions.
-use Rattle.std.specs.Prelude.{◌≡◌, List, [], ◌∷◌, ℕ, length, leb}
+use Rattle.answers.specs.declared.Refusal.{Refusal}
+use Rattle.std.specs.Prelude.{◌≡◌, List, [], ◌∷◌, ℕ, length, leb, Result, ⊤}
 use Rattle.answers.specs.Said.{Said, accepted, left, check, in_order, said_outcome}
-use Rattle.answers.specs.declared.Outcome.{Outcome}
 use Rattle.ltl.specs.Formula.{Formula}
 use Rattle.state.specs.declared.Form.{Form}
 use Rattle.state.specs.Form.{form_in, slots_most, nodes_most, Formed}
@@ -20,9 +20,9 @@ pub record BeginAsk (masks bytes state : List ℕ) : Type 0 where
   pub long : Formed state
 
 -- what is answered and left where a watch of the rule is begun
-pub record RuleBegun (masks : List ℕ) (rule : Formula) (state state' : List ℕ) (answer : Outcome) : Type 0 where
+pub record RuleBegun (masks : List ℕ) (rule : Formula) (state state' : List ℕ) (answer : Result ⊤ Refusal) : Type 0 where
   pub says : said_outcome answer ≡ begin_says (form_in state) masks rule
   pub leaves : state' ≡ left (begin_says (form_in state) masks rule) (loaded_state (form_in state) masks rule) state
 
-abbrev pub Begun : List ℕ → List ℕ → List ℕ → List ℕ → Outcome → Type 0
+abbrev pub Begun : List ℕ → List ℕ → List ℕ → List ℕ → Result ⊤ Refusal → Type 0
 Begun masks bytes state state' answer = (rule : Formula) → RuleGiven masks bytes rule → RuleBegun masks rule state state' answer

@@ -7,9 +7,9 @@ ghost use Rattle.lists.specs.Tests.{pick};
 ghost use Rattle.limits.specs.Limits.{boards_most};
 ghost use Rattle.beginning.specs.Beginning.{BeginAsk, Begun};
 
-use answers::{Outcome, Refusal};
-use cutting::STAYS;
+use answers::Refusal;
 use limits::{NODES_ROOM, PROPOSITIONS_MOST};
+use scores::STAYS;
 use state::Form;
 
 // The board of the first slot: board 0 where all scores are 0.
@@ -20,21 +20,21 @@ fn first_board(choice: u8) -> u8
 }
 
 // Begins a watch with a rule that was read: 7 and 8 by the whole layout, however large, then its state.
-pub fn begin(masks: &[u64], rule: &[u8], state: &mut [u8]) -> Outcome
+pub fn begin(masks: &[u64], rule: &[u8], state: &mut [u8]) -> Result<(), Refusal>
     requires { BeginAsk masks.now rule.now state.old }
     ensures { Begun masks.now rule.now state.old state.new result }
 {
-    let form = Form::of(state.len());
+    let form = Form::from(state.len());
     let mut owner = [0u8; PROPOSITIONS_MOST];
     scores::owners(masks, &mut owner);
     let part = cutting::count_cuts(rule, &owner, STAYS).part;
     let slots = 1 + part.cuts;
     if form.slots_most() < slots {
-        return Outcome::Refused(Refusal::Slots);
+        return Err(Refusal::Slots);
     }
     let nodes = sizing::count_unfolded(rule) + part.cuts;
     if form.nodes_most() < nodes {
-        return Outcome::Refused(Refusal::Nodes);
+        return Err(Refusal::Nodes);
     }
     let board = first_board(part.choice);
     let mut u = [0u8; NODES_ROOM];
@@ -42,5 +42,5 @@ pub fn begin(masks: &[u64], rule: &[u8], state: &mut [u8]) -> Outcome
     starting::put_first(
         state, masks, rule, &owner, board, slots, nodes, &mut u, &mut tags,
     );
-    Outcome::Done
+    Ok(())
 }

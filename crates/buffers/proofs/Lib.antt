@@ -1,4 +1,3 @@
 -- Laws of runs of bytes.
-pub mod Turns
 pub mod Moves
 pub mod Comparisons

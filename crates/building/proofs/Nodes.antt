@@ -1,10 +1,9 @@
--- A text has as many nodes as its formula (`text-nodes`); and what counting them byte by byte asks for. Assumes nothing.
+-- A text has as many nodes as its formula (`text-nodes`); and how many there are behind a byte. Assumes nothing.
 use mathlib.Core.Path.{◌≡◌, ap, ◌∙◌}
 use mathlib.Core.Bool.{Bool, true, false}
 use mathlib.Core.List.{List, [], ◌∷◌, ◌++◌}
 use Prim.Native.Nat.{ℕ, zero, suc, ◌+◌, ◌≤◌, ◌<◌}
 use native.Mathlib.Omega.{arith}
-use native.Mathlib.Numerals.{add-one}
 use lib.ListN.{length, get_or, drop, drop_of_length-le}
 use lib.Seq.{drop-cons}
 use Rattle.lists.specs.Tests.{pick, both}
@@ -69,8 +68,3 @@ pub nodes-behind : (i : ℕ) (t : List ℕ) → nodes_in (drop i t) ≤ nodes_in
 nodes-behind zero t = omega arith
 nodes-behind (suc i) [] = omega arith
 nodes-behind (suc i) (c ∷ t) = let q = nodes-behind i t in omega arith
-
--- one byte more is counted
-pub counted-more : (t : List ℕ) (n i v : ℕ) → i < length t → n + nodes_in (drop i t) ≡ nodes_in t → v ≡ node_of (sign_of (get_or t i 0))
-    → (n + v) + nodes_in (drop (i + 1) t) ≡ nodes_in t
-counted-more t n i v h e q = let f = nodes-first t i h in rw (add-one i) (omega arith)

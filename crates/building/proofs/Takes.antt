@@ -1,11 +1,10 @@
 -- One sign more, kind by kind: what the code leaves is what the definition gathers. For `take_in` and what it calls. Assumes nothing.
-use mathlib.Core.Path.{◌≡◌, refl, sym, ap, ap₂, ◌∙◌, subst}
+use mathlib.Core.Path.{◌≡◌, sym, ap, ap₂, ◌∙◌, subst}
 use mathlib.Core.List.{List}
 use Prim.Native.Nat.{ℕ, ◌+◌, ◌-◌, ◌*◌, ◌%◌, ◌≤◌, ◌<◌}
 use native.Mathlib.Omega.{arith}
 use native.Mathlib.Numerals.{add-one}
-use lib.ListN.{length, set, drop}
-use Rattle.lists.proofs.Drops.{put-below}
+use lib.ListN.{length, drop}
 use Rattle.kinds.specs.declared.Binary.{Binary}
 use Rattle.text.specs.declared.Sign.{Sign}
 use Rattle.text.specs.declared.Sign.TheVariants.{Infix, Open, Close, Digit}
@@ -17,20 +16,6 @@ use Rattle.building.specs.Nodes.{node_of}
 use Rattle.popping.specs.Waits.{waits_of, Pops, Pushes}
 use Rattle.building.specs.Takes.{gathered_at, Fronts, MoreRoom, TakesIn}
 use Rattle.popping.proofs.Pops.{popped-room}
-
--- one store just below the bytes
-pub front-put : (b : ℕ) (l : List ℕ) (x : Midway) → 0 < x.edges.at → x.edges.at ≤ length l
-    → Fronts b l x (set l (x.edges.at - 1) b)
-    (record { edges = record { top = x.edges.top; at = x.edges.at - 1 }; depth = x.depth; number = x.number; scale = x.scale })
-front-put b l x h k =
-    record {
-      top = refl;
-      at = omega arith;
-      depth = refl;
-      is = λ levels depths.
-          ap (λ (y : List ℕ). record { waits = waits_of x.edges.top levels depths; depth = x.depth; number = x.number; scale = x.scale; bytes = y })
-          (put-below l (x.edges.at - 1) x.edges.at b (omega arith) k);
-    }
 
 -- ---- a sign without a node, and one whose byte goes in front
 module _ {s : Sign} {levels depths l : List ℕ} {x : Midway} (ready : MoreRoom s levels depths l x) where

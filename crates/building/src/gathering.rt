@@ -27,10 +27,8 @@ fn unary_code(o: Unary) -> u8
     match o {
         Unary::Not => Kind::NOT,
         Unary::Next => Kind::NEXT,
-        Unary::Ever(j) => match j {
-            Join::And => Kind::ALWAYS,
-            Join::Or => Kind::EVENTUALLY,
-        },
+        Unary::Ever(Join::And) => Kind::ALWAYS,
+        Unary::Ever(Join::Or) => Kind::EVENTUALLY,
     }
 }
 
@@ -38,10 +36,7 @@ fn unary_code(o: Unary) -> u8
 fn const_code(v: bool) -> u8
     ensures { result ≡ leaf_code (Const v) }
 {
-    if v {
-        return Kind::TRUE;
-    }
-    Kind::FALSE
+    if v { Kind::TRUE } else { Kind::FALSE }
 }
 
 // The byte of a proposition.
@@ -55,17 +50,7 @@ fn prop_code(n: u8) -> u8
 fn with_digit(number: u8, n: u8, m: u8) -> u8
     ensures { result ≡ (n * m + number) % 256 }
 {
-    ((n as u16 * m as u16 + number as u16) % 256) as u8
-}
-
-// One bracket less is open, where any is.
-fn one_less(d: usize) -> usize
-    ensures { result ≡ d - 1 }
-{
-    if d == 0 {
-        return 0;
-    }
-    d - 1
+    n.wrapping_mul(m).wrapping_add(number)
 }
 
 // The byte b in front of the bytes.
@@ -77,13 +62,8 @@ fn front(out: &mut [u8], x: Midway, b: u8) -> Midway
     let at = x.edges.at - 1;
     out[at] = b;
     Midway {
-        edges: Edges {
-            top: x.edges.top,
-            at,
-        },
-        depth: x.depth,
-        number: x.number,
-        scale: x.scale,
+        edges: Edges { at, ..x.edges },
+        ..x
     }
 }
 
@@ -98,48 +78,36 @@ pub fn take_in(
     requires { MoreRoom s levels.old depths.old out.old x }
     ensures { TakesIn s levels.old depths.old out.old x levels.new depths.new out.new result }
 {
-    let edges = x.edges;
     match s {
-        Sign::Blank => x,
+        Sign::Blank | Sign::Other => x,
         Sign::Prefix(o) => front(out, x, unary_code(o)),
         Sign::Infix(o) => Midway {
-            edges: push(out, levels, depths, edges, x.depth, o),
-            depth: x.depth,
-            number: x.number,
-            scale: x.scale,
+            edges: push(out, levels, depths, x.edges, x.depth, o),
+            ..x
         },
         Sign::Open => Midway {
-            edges: pop(out, levels, depths, edges, x.depth, LOOSEST),
-            depth: one_less(x.depth),
-            number: x.number,
-            scale: x.scale,
+            edges: pop(out, levels, depths, x.edges, x.depth, LOOSEST),
+            depth: x.depth.saturating_sub(1),
+            ..x
         },
         Sign::Close => Midway {
-            edges,
             depth: x.depth + 1,
-            number: x.number,
-            scale: x.scale,
+            ..x
         },
         Sign::Word(v) => front(out, x, const_code(v)),
-        Sign::Letter => {
-            let b = prop_code(x.number);
-            front(
-                out,
-                Midway {
-                    edges,
-                    depth: x.depth,
-                    number: 0,
-                    scale: 1,
-                },
-                b,
-            )
-        }
+        Sign::Letter => front(
+            out,
+            Midway {
+                number: 0,
+                scale: 1,
+                ..x
+            },
+            prop_code(x.number),
+        ),
         Sign::Digit(n) => Midway {
-            edges,
-            depth: x.depth,
             number: with_digit(x.number, n, x.scale),
             scale: with_digit(0, 10, x.scale),
+            ..x
         },
-        Sign::Other => x,
     }
 }

@@ -20,15 +20,8 @@ fn node_of(s: Sign) -> usize
     ensures { (result ≡ node_of s) × (result ≤ 1) }
 {
     match s {
-        Sign::Blank => 0,
-        Sign::Prefix(_) => 1,
-        Sign::Infix(_) => 1,
-        Sign::Open => 0,
-        Sign::Close => 0,
-        Sign::Word(_) => 1,
-        Sign::Letter => 1,
-        Sign::Digit(_) => 0,
-        Sign::Other => 0,
+        Sign::Prefix(_) | Sign::Infix(_) | Sign::Word(_) | Sign::Letter => 1,
+        Sign::Blank | Sign::Open | Sign::Close | Sign::Digit(_) | Sign::Other => 0,
     }
 }
 
@@ -36,11 +29,9 @@ fn node_of(s: Sign) -> usize
 pub fn count_nodes(text: &[u8]) -> usize
     ensures { result ≡ nodes_in text.now }
 {
-    let mut n: usize = 0;
-    let mut i: usize = 0;
-    while i < text.len() {
-        n += node_of(Sign::of(text[i]));
-        i += 1;
+    let mut n = 0;
+    for &b in text {
+        n += node_of(Sign::from(b));
     }
     n
 }
@@ -61,10 +52,8 @@ fn gather(text: &[u8], out: &mut [u8], levels: &mut [u8], depths: &mut [usize])
         number: 0,
         scale: 1,
     };
-    let mut i = text.len();
-    while 0 < i {
-        i -= 1;
-        x = take_in(out, levels, depths, x, Sign::of(text[i]));
+    for i in (0..text.len()).rev() {
+        x = take_in(out, levels, depths, x, Sign::from(text[i]));
     }
     pop(out, levels, depths, x.edges, 0, LOOSEST);
 }

@@ -1,5 +1,6 @@
 -- The ways out of the call: each refusal (`capture-length`, `capture-state`, `capture-finished`), and what a run comes to (`ran-all`,
 -- `capture-ran`). Assumes nothing.
+use Rattle.std.specs.Prelude.{Ok, Err}
 use mathlib.Core.Path.{◌≡◌, sym, ap, ap₂, ◌∙◌}
 use mathlib.Core.Bool.{true, false, not}
 use mathlib.Core.List.{List, ◌++◌}
@@ -19,7 +20,6 @@ use Rattle.state.specs.Calls.{finished_in}
 use Rattle.course.specs.Course.{coursed}
 use Rattle.capturing.specs.declared.Captured.{Captured}
 use Rattle.capturing.specs.declared.running.Ran.{Ran}
-use Rattle.capturing.specs.declared.CaptureAnswer.TheVariants as said
 use Rattle.capturing.specs.Capture.{told, capture_says, Captures}
 use Rattle.capturing.specs.Running.{Runs, RanAll}
 
@@ -39,7 +39,7 @@ ran-all {second = second} {second' = second'} {r = r} h long x e {second''} f =
 
 module _ (s second events : List ℕ) where
   -- a refusal leaves both buffers as they were
-  refusal : (why : Refusal) → capture_says s (length second) events ≡ refused (number_of why) → Captures s second events s second (said.Refused why)
+  refusal : (why : Refusal) → capture_says s (length second) events ≡ refused (number_of why) → Captures s second events s second (Err why)
   refusal why e =
       record {
         says = sym e;
@@ -47,7 +47,7 @@ module _ (s second events : List ℕ) where
         leaves-second = sym (ap (λ (x : Said). left x (replicate (length second) 0) second) e ∙ left-refused why _ second);
       }
 
-  pub capture-length : (length second ≡ state_length (form_in s) → ⊥) → Captures s second events s second (said.Refused Length)
+  pub capture-length : (length second ≡ state_length (form_in s) → ⊥) → Captures s second events s second (Err Length)
   unfolding capture_says
   capture-length h = refusal Length (order-refused 1 _ _ _ (ne_eqb (length second) (state_length (form_in s)) h))
 
@@ -55,16 +55,16 @@ module _ (s second events : List ℕ) where
     long_ok : eqb (length second) (state_length (form_in s)) ≡ true
     long_ok = eq-eqb (length second) (state_length (form_in s)) long
 
-    pub capture-state : state_ok s ≡ false → Captures s second events s second (said.Refused State)
+    pub capture-state : state_ok s ≡ false → Captures s second events s second (Err State)
     unfolding capture_says
     capture-state e = refusal State (order-ok 1 _ _ _ long_ok ∙ order-refused 9 _ _ _ e)
 
     module _ (ok : state_ok s ≡ true) where
-      pub capture-finished : finished_in s ≡ true → Captures s second events s second (said.Refused Finished)
+      pub capture-finished : finished_in s ≡ true → Captures s second events s second (Err Finished)
       unfolding capture_says
       capture-finished e = refusal Finished (order-ok 1 _ _ _ long_ok ∙ order-ok 9 _ _ _ ok ∙ order-refused 10 _ _ _ (ap not e))
 
-      pub capture-ran : finished_in s ≡ false → {s' second' : List ℕ} {c : Captured} → RanAll s second events s' second' c → Captures s second events s' second' (said.Captured c)
+      pub capture-ran : finished_in s ≡ false → {s' second' : List ℕ} {c : Captured} → RanAll s second events s' second' c → Captures s second events s' second' (Ok c)
       unfolding capture_says
       capture-ran going h =
           let says : capture_says s (length second) events ≡ accepted (told (coursed s events)) =

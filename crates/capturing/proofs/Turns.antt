@@ -1,6 +1,7 @@
 -- How far a run has come (`CameTo`): the state goes on, the second buffer is zero where the state is, and the events left come to what all
 -- come to from the entry. From that what a tick asks (`turn-asks`), one more turn (`turn_more`), and the ways out: a refusal (`turn-refused`), a
 -- verdict (`turn-finished`) and the end (`turn-ends`). Assumes nothing.
+use Rattle.std.specs.Prelude.{Result, Ok, Err, ⊤}
 use mathlib.Core.Path.{◌≡◌, refl, sym, ap, ap₂, subst, ◌∙◌}
 use mathlib.Core.Bool.{true, false}
 use mathlib.Core.List.{List, [], ◌∷◌, ◌++◌}
@@ -10,8 +11,6 @@ use native.Mathlib.Numerals.{add-one}
 use native.Mathlib.Omega.{arith}
 use lib.ListN.{length, get_or, take, drop, replicate, take-append-drop, drop_of_length-le}
 use lib.Seq.{drop-cons, length-take-le}
-use Rattle.answers.specs.declared.Outcome.{Outcome}
-use Rattle.answers.specs.declared.Outcome.TheVariants.{Refused, Done}
 use Rattle.answers.specs.declared.Refusal.{Refusal}
 use Rattle.answers.specs.declared.Verdict.{Verdict}
 use Rattle.answers.specs.declared.Verdict.TheVariants.{Pending}
@@ -103,15 +102,15 @@ module _ {s₀ events s second : List ℕ} {c : Counts} {used closed : ℕ} (w :
       let q : coursed s₀ events ≡ later closed (stopped 0 s) = w.course ∙ ap (later closed) (ap (coursed s) (drop_of_length-le events {i = closed} h) ∙ coursed-end s) in
       (sym (ap told q ∙ ap₂ (λ (n : ℕ) (x : Verdict). n ∷ verdict_number x ∷ 0 ∷ []) (add-zero closed) (unfinished-pending s w.going.unfinished)), sym (ap (λ (r : Course). r.leaves) q))
 
-  module _ (l : closed < length events) {s' second'' : List ℕ} {x : Outcome} (t : TicksOnce s c (get_or events closed 0) s' second'' x) where
+  module _ (l : closed < length events) {s' second'' : List ℕ} {x : Result ⊤ Refusal} (t : TicksOnce s c (get_or events closed 0) s' second'' x) where
     -- ---- a refusal
-    pub turn-refused : (why : Refusal) → x ≡ Refused why
+    pub turn-refused : (why : Refusal) → x ≡ Err why
         → ((closed ∷ verdict_number Pending ∷ (said_outcome x).number ∷ []) ≡ told (coursed s₀ events)) × (s' ≡ (coursed s₀ events).leaves)
     turn-refused why e =
         let event = get_or events closed 0 in
         let n : (said_outcome x).number ≡ (tick_says s event).number = ap (λ (a : Said). a.number) t.says in
         let z = number-some why in
-        let m : (said_outcome x).number ≡ number_of why = ap (λ (y : Outcome). (said_outcome y).number) e in
+        let m : (said_outcome x).number ≡ number_of why = ap (λ (y : Result ⊤ Refusal). (said_outcome y).number) e in
         let some : 0 < (tick_says s event).number = omega arith in
         let q : coursed s₀ events ≡ later closed (stopped (tick_says s event).number s) =
         w.course ∙ ap (λ (es : List ℕ). later closed (coursed s es)) (events-left l) ∙ ap (later closed) (coursed-refused s event (drop (closed + 1) events) w.going.unfinished some) in
@@ -124,7 +123,7 @@ module _ {s₀ events s second : List ℕ} {c : Counts} {used closed : ℕ} (w :
         )
 
     -- ---- a tick that was closed
-    module _ (e : x ≡ Done) where
+    module _ (e : x ≡ Ok tt) where
       accepts : tick_says s (get_or events closed 0) ≡ accepted []
       accepts = sym t.says ∙ ap said_outcome e
 

@@ -1,13 +1,12 @@
 -- A run of events in one call: the answer, and both buffers. Assumes nothing: these are definitions.
-use Rattle.std.specs.Prelude.{◌≡◌, not, List, [], ◌∷◌, ℕ, length, replicate, eqb}
+use Rattle.answers.specs.declared.Refusal.{Refusal}
+use Rattle.std.specs.Prelude.{◌≡◌, not, List, [], ◌∷◌, ℕ, length, replicate, eqb, Result, Ok, Err}
 use Rattle.answers.specs.Said.{Said, accepted, refused, left, number_of, verdict_number, said_outcome, check, in_order}
 use Rattle.state.specs.Form.{form_in, state_length}
 use Rattle.state.specs.Clauses.{state_ok}
 use Rattle.state.specs.Calls.{finished_in, verdict_in}
 use Rattle.course.specs.Course.{Course, coursed}
 use Rattle.capturing.specs.declared.Captured.{Captured}
-use Rattle.capturing.specs.declared.CaptureAnswer.{CaptureAnswer}
-use Rattle.capturing.specs.declared.CaptureAnswer.TheVariants as said
 
 -- what is told of a run: how many events were closed, how the state stands that it leaves, and the number of the refusal at which it
 -- stopped, 0 where there was none
@@ -35,12 +34,12 @@ capture_second s second events = left (capture_says s (length second) events) (r
 abbrev pub values_of : Captured → List ℕ
 values_of c = c.closed ∷ verdict_number c.verdict ∷ (said_outcome c.stop).number ∷ []
 
-abbrev pub said_capture : CaptureAnswer → Said
-said_capture (said.Refused why) = refused (number_of why)
-said_capture (said.Captured c) = accepted (values_of c)
+abbrev pub said_capture : Result Captured Refusal → Said
+said_capture (Err why) = refused (number_of why)
+said_capture (Ok c) = accepted (values_of c)
 
 -- the promise: the answer, and both buffers
-pub record Captures (s second events s' second' : List ℕ) (answer : CaptureAnswer) : Type 0 where
+pub record Captures (s second events s' second' : List ℕ) (answer : Result Captured Refusal) : Type 0 where
   pub says : said_capture answer ≡ capture_says s (length second) events
   pub leaves : s' ≡ capture_leaves s (length second) events
   pub leaves-second : second' ≡ capture_second s second events

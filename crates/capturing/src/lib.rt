@@ -7,7 +7,7 @@ mod running;
 ghost use Rattle.capturing.specs.Capture.{Captures};
 ghost use Rattle.capturing.specs.Running.{RunningAsk, RanAll};
 
-use answers::{Outcome, Refusal, Verdict};
+use answers::{Refusal, Verdict};
 use limits::{BOARDS_MOST, NODES_ROOM, PROPOSITIONS_MOST};
 use opening::Opening;
 use running::Ran;
@@ -18,13 +18,7 @@ use state::{Counts, Form};
 pub struct Captured {
     pub closed: usize,
     pub verdict: Verdict,
-    pub stop: Outcome,
-}
-
-#[derive(Clone, Copy)]
-pub enum CaptureAnswer {
-    Refused(Refusal),
-    Captured(Captured),
+    pub stop: Result<(), Refusal>,
 }
 
 // Runs the events on a watch that goes on. What stands in the second buffer afterwards is cleared.
@@ -53,17 +47,17 @@ fn capture_going(state: &mut [u8], c: Counts, second: &mut [u8], events: &[u64])
     captured
 }
 
-pub fn capture(state: &mut [u8], second: &mut [u8], events: &[u64]) -> CaptureAnswer
+pub fn capture(state: &mut [u8], second: &mut [u8], events: &[u64]) -> Result<Captured, Refusal>
     ensures { Captures state.old second.old events.now state.new second.new result }
 {
-    let form = Form::of(state.len());
+    let form = Form::from(state.len());
     if second.len() != form.length() {
-        return CaptureAnswer::Refused(Refusal::Length);
+        return Err(Refusal::Length);
     }
     let opened = opening::open(state);
     match opened {
-        Opening::Broken => CaptureAnswer::Refused(Refusal::State),
-        Opening::Finished(_) => CaptureAnswer::Refused(Refusal::Finished),
-        Opening::Going(c) => CaptureAnswer::Captured(capture_going(state, c, second, events)),
+        Opening::Broken => Err(Refusal::State),
+        Opening::Finished(_) => Err(Refusal::Finished),
+        Opening::Going(c) => Ok(capture_going(state, c, second, events)),
     }
 }

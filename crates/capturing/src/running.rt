@@ -3,7 +3,7 @@
 ghost use Rattle.capturing.specs.Running.{RunAsk, Runs};
 
 use crate::Captured;
-use answers::{Outcome, Verdict};
+use answers::Verdict;
 use state::Counts;
 
 // What the events have come to, and where what stands in the second buffer ends.
@@ -28,41 +28,39 @@ pub fn run(
 {
     let mut counts = c;
     let mut used = state.len();
-    let mut closed: usize = 0;
-    while closed < events.len() {
+    for (closed, &event) in events.iter().enumerate() {
         buffers::copy(second, &state[..used]);
-        let stop = ticking::tick(state, counts, second, events[closed], masks, owner, u, tags);
-        let Outcome::Done = stop else {
+        let stop = ticking::tick(state, counts, second, event, masks, owner, u, tags);
+        let Ok(()) = stop else {
             return Ran {
                 captured: Captured {
-                    closed: closed,
+                    closed,
                     verdict: Verdict::Pending,
-                    stop: stop,
+                    stop,
                 },
                 used: counts.stretches + counts.nodes,
             };
         };
-        closed += 1;
         let next = state::counts_of(state);
         used = storing::farther(counts.stretches + counts.nodes, next.stretches + next.nodes);
         counts = next;
         if opening::finished(state, counts) {
             return Ran {
                 captured: Captured {
-                    closed: closed,
+                    closed: closed + 1,
                     verdict: telling::verdict(state, counts),
-                    stop: Outcome::Done,
+                    stop: Ok(()),
                 },
-                used: used,
+                used,
             };
         }
     }
     Ran {
         captured: Captured {
-            closed: closed,
+            closed: events.len(),
             verdict: Verdict::Pending,
-            stop: Outcome::Done,
+            stop: Ok(()),
         },
-        used: used,
+        used,
     }
 }

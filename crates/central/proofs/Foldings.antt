@@ -1,4 +1,7 @@
 -- A formula folded into an array of its own, or with nothing to fold: what is asked and given on the way. Assumes nothing.
+use Rattle.std.specs.Prelude.{Result}
+use Rattle.answers.specs.declared.Refusal.{Refusal}
+use Rattle.central.specs.declared.Progress.{Progress}
 use mathlib.Core.Path.{◌≡◌, sym, subst}
 use mathlib.Core.Bool.{true}
 use mathlib.Core.List.{List}
@@ -15,7 +18,6 @@ use Rattle.folded.specs.Folding.{folded}
 use Rattle.folding.specs.Bare.{bare_from}
 use Rattle.folding.specs.Folds.{FoldAsk, Folds}
 use Rattle.folding.proofs.Bares.{bare-stands}
-use Rattle.central.specs.declared.CentralAnswer.{CentralAnswer}
 use Rattle.central.specs.Folded.{FormulaGiven, FoldGiven, Outcomed, AsGiven, AsFolded}
 
 module _ {formula p output : List ℕ} (a : FoldGiven formula p output) where
@@ -33,7 +35,7 @@ module _ {formula p output : List ℕ} (a : FoldGiven formula p output) where
         let f = a.few in
         record { whole = folded a.given.whole; front = front-tail w p' (h.means a.given.whole a.given.front).1; few = omega arith; room = a.given.room }
 
-module _ {formula output output' : List ℕ} {event : Event} {answer : CentralAnswer} where
+module _ {formula output output' : List ℕ} {event : Event} {answer : Result Progress Refusal} where
   pub folded-given : {p : List ℕ} {w : ℕ} → Folds formula p w → AsGiven (tail w p) event output output' answer → AsFolded formula event output output' answer
   folded-given {p} {w} h g f x = g (folded f) (front-tail w p (h.means f x).1)
 

@@ -1,5 +1,7 @@
 -- Progressing a whole rule in one place: the answer and the lent buffer. Assumes nothing: these are definitions.
-use Rattle.std.specs.Prelude.{◌≡◌, ℕ, Bool, List, [], ◌∷◌, length, leb, eqb}
+use Rattle.answers.specs.declared.Refusal.{Refusal}
+use Rattle.central.specs.declared.Progress.{Progress}
+use Rattle.std.specs.Prelude.{◌≡◌, ℕ, Bool, List, [], ◌∷◌, length, leb, eqb, Result, Ok, Err}
 use Rattle.lists.specs.Tests.{both}
 use Rattle.lists.specs.Runs.{padded}
 use Rattle.answers.specs.Said.{Said, accepted, refused, left, number_of, verdict_number, check, in_order}
@@ -9,8 +11,6 @@ use Rattle.ltl.specs.Meaning.{Event}
 use Rattle.ltl.specs.Progression.{unfolded, progressed, verdict_of}
 use Rattle.ltl.specs.Decode.{formula_of, is_rule}
 use Rattle.folded.specs.Folding.{folded}
-use Rattle.central.specs.declared.CentralAnswer.{CentralAnswer}
-use Rattle.central.specs.declared.CentralAnswer.TheVariants.{Refused, Progressed}
 
 -- 1: the formula has 1 to 4,096 bytes and the output 4,096
 unfoldable pub central_lengths_ok : ℕ → ℕ → Bool
@@ -34,11 +34,11 @@ central_says formula event room =
     (accepted (answer_of (progressed event (start_of formula))))
 
 -- the enum's cases by number and values
-abbrev pub said_central : CentralAnswer → Said
-said_central (Refused why) = refused (number_of why)
-said_central (Progressed p) = accepted (verdict_number p.verdict ∷ p.length ∷ [])
+abbrev pub said_central : Result Progress Refusal → Said
+said_central (Err why) = refused (number_of why)
+said_central (Ok p) = accepted (verdict_number p.verdict ∷ p.length ∷ [])
 
 -- the promise: the answer, and the lent output, zero past the formula
-pub record Centrally (formula : List ℕ) (event : Event) (output output' : List ℕ) (answer : CentralAnswer) : Type 0 where
+pub record Centrally (formula : List ℕ) (event : Event) (output output' : List ℕ) (answer : Result Progress Refusal) : Type 0 where
   pub says : said_central answer ≡ central_says formula event (length output)
   pub leaves : output' ≡ left (central_says formula event (length output)) (padded central_nodes_most (encode (progressed event (start_of formula)))) output

@@ -2,11 +2,10 @@
 // what it unfolds to, one unfolds it into the output, and one resolves it there.
 #![tactic(auto)]
 
-ghost use Rattle.std.specs.Prelude.{◌≡◌};
+ghost use Rattle.std.specs.Prelude.{◌≡◌, ◌≤◌};
 ghost use Rattle.central.specs.Central.{central_lengths_ok, Centrally};
 ghost use Rattle.limits.specs.Limits.{central_nodes_most, nodes_room};
 ghost use Rattle.central.specs.Folded.{FormulaGiven, FoldGiven, AsGiven, AsFolded};
-ghost use Rattle.outlining.specs.Outlined.{small_nodes};
 ghost use Rattle.central.specs.Progressing.{ProgressableIn, ProgressableWithin, Progressable, UnfoldsAll, ProgressesIn, ProgressedTo};
 
 use answers::{Refusal, Verdict};
@@ -19,12 +18,6 @@ use slot_sets::no_slots;
 pub struct Progress {
     pub verdict: Verdict,
     pub length: usize,
-}
-
-#[derive(Clone, Copy)]
-pub enum CentralAnswer {
-    Refused(Refusal),
-    Progressed(Progress),
 }
 
 // A formula of 1 to 4,096 bytes, and an output of 4,096.
@@ -63,30 +56,26 @@ fn progress_noted(p: &mut [u8], formula: &[u8], notes: &mut [u16], seen: Seen) -
     rewriting::to_front(p, notes, seen)
 }
 
-fn progress_small(p: &mut [u8], formula: &[u8], seen: Seen) -> usize
-    requires { ProgressableWithin small_nodes p.old formula.now }
+// The same with notes of its own, N of them.
+fn progress_with<const N: usize>(p: &mut [u8], formula: &[u8], seen: Seen) -> usize
+    requires asks { ProgressableWithin N p.old formula.now }
+    requires most { N ≤ nodes_room }
     ensures { ProgressesIn seen formula.now p.new result }
 {
-    let mut notes = [1u16; SMALL_NODES];
+    let mut notes = [1u16; N];
     progress_noted(p, formula, &mut notes, seen)
 }
 
-fn progress_large(p: &mut [u8], formula: &[u8], seen: Seen) -> usize
-    requires { ProgressableWithin nodes_room p.old formula.now }
-    ensures { ProgressesIn seen formula.now p.new result }
-{
-    let mut notes = [1u16; NODES_ROOM];
-    progress_noted(p, formula, &mut notes, seen)
-}
-
+// With as many as are needed: each is filled at every call.
 fn progress_any(p: &mut [u8], formula: &[u8], seen: Seen) -> usize
     requires { ProgressableWithin nodes_room p.old formula.now }
     ensures { ProgressesIn seen formula.now p.new result }
 {
     if p.len() <= SMALL_NODES {
-        return progress_small(p, formula, seen);
+        progress_with::<SMALL_NODES>(p, formula, seen)
+    } else {
+        progress_with::<NODES_ROOM>(p, formula, seen)
     }
-    progress_large(p, formula, seen)
 }
 
 // Progresses the formula, which unfolds to `size` nodes, into the output, zero past the result, and answers the result's length.
@@ -96,7 +85,7 @@ fn progress_into(output: &mut [u8], formula: &[u8], event: u64, size: usize) -> 
 {
     let none = no_slots();
     let seen = Seen {
-        event: event,
+        event,
         yes: none,
         no: none,
     };
@@ -106,23 +95,28 @@ fn progress_into(output: &mut [u8], formula: &[u8], event: u64, size: usize) -> 
 }
 
 // Progresses a formula that is folded, where what it unfolds to is within the limit.
-fn progress_folded(formula: &[u8], event: u64, output: &mut [u8]) -> CentralAnswer
+fn progress_folded(formula: &[u8], event: u64, output: &mut [u8]) -> Result<Progress, Refusal>
     requires { FormulaGiven central_nodes_most formula.now output.old }
     ensures { AsGiven formula.now event output.old output.new result }
 {
     let unfolded = sizing::count_unfolded(formula);
     if CENTRAL_NODES_MOST < unfolded {
-        return CentralAnswer::Refused(Refusal::Nodes);
+        return Err(Refusal::Nodes);
     }
     let n = progress_into(output, formula, event, unfolded);
-    CentralAnswer::Progressed(Progress {
+    Ok(Progress {
         verdict: verdicts::verdict(output[0]),
         length: n,
     })
 }
 
 // Folds the formula into p and progresses it.
-fn fold_into(formula: &[u8], p: &mut [u8], event: u64, output: &mut [u8]) -> CentralAnswer
+fn fold_into(
+    formula: &[u8],
+    p: &mut [u8],
+    event: u64,
+    output: &mut [u8],
+) -> Result<Progress, Refusal>
     requires { FoldGiven formula.now p.old output.old }
     ensures { AsFolded formula.now event output.old output.new result }
 {
@@ -130,25 +124,23 @@ fn fold_into(formula: &[u8], p: &mut [u8], event: u64, output: &mut [u8]) -> Cen
     progress_folded(&p[w..], event, output)
 }
 
-// The same with an array of its own: the output must stay as it was until the last check has passed.
-fn fold_small(formula: &[u8], event: u64, output: &mut [u8]) -> CentralAnswer
-    requires { FormulaGiven small_nodes formula.now output.old }
+// The same with an array of its own, of N bytes: the output must stay as it was until the last check has passed. It is filled at every
+// call, so a small formula has a small one.
+fn fold_with<const N: usize>(
+    formula: &[u8],
+    event: u64,
+    output: &mut [u8],
+) -> Result<Progress, Refusal>
+    requires asks { FormulaGiven N formula.now output.old }
+    requires most { N ≤ central_nodes_most }
     ensures { AsFolded formula.now event output.old output.new result }
 {
-    let mut folded = [1u8; SMALL_NODES];
-    fold_into(formula, &mut folded, event, output)
-}
-
-fn fold_large(formula: &[u8], event: u64, output: &mut [u8]) -> CentralAnswer
-    requires { FormulaGiven central_nodes_most formula.now output.old }
-    ensures { AsFolded formula.now event output.old output.new result }
-{
-    let mut folded = [1u8; NODES_ROOM];
+    let mut folded = [1u8; N];
     fold_into(formula, &mut folded, event, output)
 }
 
 // Folds the formula, unless there is nothing to fold, and progresses it.
-fn progress_rule(formula: &[u8], event: u64, output: &mut [u8]) -> CentralAnswer
+fn progress_rule(formula: &[u8], event: u64, output: &mut [u8]) -> Result<Progress, Refusal>
     requires { FormulaGiven central_nodes_most formula.now output.old }
     ensures { AsFolded formula.now event output.old output.new result }
 {
@@ -156,20 +148,20 @@ fn progress_rule(formula: &[u8], event: u64, output: &mut [u8]) -> CentralAnswer
         return progress_folded(formula, event, output);
     }
     if formula.len() <= SMALL_NODES {
-        return fold_small(formula, event, output);
+        return fold_with::<SMALL_NODES>(formula, event, output);
     }
-    fold_large(formula, event, output)
+    fold_with::<NODES_ROOM>(formula, event, output)
 }
 
 // Progresses a formula over one event.
-pub fn central(formula: &[u8], event: u64, output: &mut [u8]) -> CentralAnswer
+pub fn central(formula: &[u8], event: u64, output: &mut [u8]) -> Result<Progress, Refusal>
     ensures { Centrally formula.now event output.old output.new result }
 {
     if !lengths_ok(formula.len(), output.len()) {
-        return CentralAnswer::Refused(Refusal::Length);
+        return Err(Refusal::Length);
     }
     if !owing::is_rule(formula, PROPOSITIONS_MOST as u64) {
-        return CentralAnswer::Refused(Refusal::Formula);
+        return Err(Refusal::Formula);
     }
     progress_rule(formula, event, output)
 }

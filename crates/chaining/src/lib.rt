@@ -2,16 +2,9 @@
 // so the last one raises what it holds first.
 #![tactic(auto)]
 
-ghost use Rattle.std.specs.Prelude.{◌≡◌, ◌<◌, ◌≤◌, max, length};
+ghost use Rattle.std.specs.Prelude.{◌≡◌, ◌<◌, ◌≤◌, length};
 ghost use Rattle.limits.specs.Limits.{slots_room};
 ghost use Rattle.chaining.specs.Chains.{Raises, ChainsAsk, Chains};
-
-// The larger of two.
-fn larger(a: u8, b: u8) -> u8
-    ensures { result ≡ max a b }
-{
-    if a < b { b } else { a }
-}
 
 // Raises the chains of those in a set to c at least, the lowest one first, which is then cleared.
 fn raise(set: u64, c: u8, chain: &mut [u8])
@@ -19,10 +12,11 @@ fn raise(set: u64, c: u8, chain: &mut [u8])
     ensures { Raises set c chain.old chain.new }
 {
     let mut left = set;
+    // A `while`: the numbers of a set are no range and no slice.
     while left != 0 {
         let p = masks::lowest(left) as usize;
-        chain[p] = larger(chain[p], c);
-        left = left & (left - 1);
+        chain[p] = chain[p].max(c);
+        left &= left - 1;
     }
 }
 
@@ -32,9 +26,7 @@ pub fn raise_all(n: usize, sets: &[u64], chain: &mut [u8])
     ensures { Chains sets.now n chain.new }
 {
     raise(sets[n], 1, chain);
-    let mut j = n;
-    while 0 < j {
-        j -= 1;
+    for j in (0..n).rev() {
         raise(sets[j], chain[j] + 1, chain);
     }
 }

@@ -1,10 +1,11 @@
 -- A slot's formula clause is what one pass over its nodes finds (`held-passed`), and the clauses of all slots are found one slot after
 -- the other (`seen_more`, `seen-wrong`, `seen_all`). Assumes nothing.
+use Rattle.std.specs.Prelude.{Option, Some, None}
 use mathlib.Core.Path.{◌≡◌, refl, sym, ap, ◌∙◌, subst}
 use mathlib.Core.Bool.{Bool, true, false, not}
 use mathlib.Core.List.{List}
 use mathlib.Core.Logic.{⊎_elim}
-use mathlib.Core.Option.{Option, none, some}
+use mathlib.Core.Option as math
 use Prim.Native.Nat.{ℕ, zero, suc, ◌+◌, ◌<◌, ◌≤◌}
 use native.Mathlib.Nat.{eq-or-lt_of_le}
 use native.Mathlib.Numerals.{add-one}
@@ -25,8 +26,6 @@ use Rattle.slot_sets.specs.declared.SlotSet.{SlotSet}
 use Rattle.slot_sets.specs.SlotSets.{has_slot, no_slots, every_slot}
 use Rattle.slot_sets.proofs.SlotSets.{every-has}
 use Rattle.scanning.specs.declared.Allowed.{Allowed}
-use Rattle.scanning.specs.declared.Held.{Held}
-use Rattle.scanning.specs.declared.Held.TheVariants.{Slots, Wrong}
 use Rattle.scanning.specs.OnePass.{Fitted, at, pass, noted}
 use Rattle.checking.specs.Slotted.{holdable_in, Holdable, sampled_for, own_stepped, allowed_in, held_in, formulas_ok}
 use Rattle.records.proofs.Each.{each_none, each_more, each-false, both_false}
@@ -42,25 +41,25 @@ allowed-fitted s p holdable k a e h l =
     subst Fitted (sym e) (pick-elim Fitted (eqb (stepped_in s k) 1) _ _ (λ e. record { propositions = h; slots = l }) (λ e. record { propositions = h; slots = l }))
 
 module _ (s : List ℕ) (p k : ℕ) (seen : SlotSet) where
-  pub held-unsampled : sampled_for s k ≡ false → held_in s p k seen ≡ Wrong
+  pub held-unsampled : sampled_for s k ≡ false → held_in s p k seen ≡ None
   unfolding sampled_for held_in pick both either
   held-unsampled h = go (eqb (stepped_in s k) 1) (eqb (sampled_in s (board_of_in s k)) 1) refl refl h (formula_in s k)
     where
-      fails : (x : Option Formula) → eqb (stepped_in s k) 1 ≡ true → eqb (sampled_in s (board_of_in s k)) 1 ≡ false → formula_ok s p k x ≡ false
-      fails none e q = refl
-      fails (some f) e q = rw (e, q) (both_false (shape_ok s p k f))
+      fails : (x : math.Option Formula) → eqb (stepped_in s k) 1 ≡ true → eqb (sampled_in s (board_of_in s k)) 1 ≡ false → formula_ok s p k x ≡ false
+      fails math.none e q = refl
+      fails (math.some f) e q = rw (e, q) (both_false (shape_ok s p k f))
 
-      go : (x y : Bool) → eqb (stepped_in s k) 1 ≡ x → eqb (sampled_in s (board_of_in s k)) 1 ≡ y → either (not x) y ≡ false → (f : Option Formula)
-          → pick (formula_ok s p k f) (noted (held_of f) seen) Wrong ≡ Wrong
+      go : (x y : Bool) → eqb (stepped_in s k) 1 ≡ x → eqb (sampled_in s (board_of_in s k)) 1 ≡ y → either (not x) y ≡ false → (f : math.Option Formula)
+          → pick (formula_ok s p k f) (noted (held_of f) seen) None ≡ None
       go true true e q h f = absurd (no_true (sym h))
-      go true false e q h f = ap (λ (b : Bool). pick b (noted (held_of f) seen) Wrong) (fails f e q)
+      go true false e q h f = ap (λ (b : Bool). pick b (noted (held_of f) seen) None) (fails f e q)
       go false y e q h f = absurd (no_true (sym h))
 
   module _ (holdable : SlotSet) (are : Holdable s holdable) (f : Formula) (coded : Coded f) (long : length_in s k ≡ size f) where
     abbrev mask : ℕ
     mask = mask_in s (board_of_in s k)
 
-    clause-stepped : eqb (stepped_in s k) 1 ≡ true → eqb (sampled_in s (board_of_in s k)) 1 ≡ true → stands (allowed_in s p holdable k) f ≡ formula_ok s p k (some f)
+    clause-stepped : eqb (stepped_in s k) 1 ≡ true → eqb (sampled_in s (board_of_in s k)) 1 ≡ true → stands (allowed_in s p holdable k) f ≡ formula_ok s p k (math.some f)
     unfolding allowed_in own_stepped holdable_in pick both
     clause-stepped e q =
         let a : Allowed = record { propositions = p; slots = slots_in s; slot = k; own = own_stepped mask (length_in s k); holders = holdable; temporal = true } in
@@ -72,7 +71,7 @@ module _ (s : List ℕ) (p k : ℕ) (seen : SlotSet) where
         holdable-is : (m : ℕ) → m < slots_in s → has_slot holdable m ≡ holdable_in s m
         holdable-is m l = are m ∙ ap (λ (b : Bool). both b (holdable_in s m)) (lt-ltb m (slots_in s) l)
 
-    clause-unstepped : eqb (stepped_in s k) 1 ≡ false → stands (allowed_in s p holdable k) f ≡ formula_ok s p k (some f)
+    clause-unstepped : eqb (stepped_in s k) 1 ≡ false → stands (allowed_in s p holdable k) f ≡ formula_ok s p k (math.some f)
     unfolding allowed_in pick both
     clause-unstepped e =
         let a : Allowed = record { propositions = p; slots = slots_in s; slot = k; own = mask; holders = every_slot; temporal = false } in
@@ -81,11 +80,11 @@ module _ (s : List ℕ) (p k : ℕ) (seen : SlotSet) where
         ∙ stands-so a f coded true (unfolded_own mask f) (λ w. holds-all (has_slot every_slot) f coded every-has) (own-unfolded mask f)
         ∙ rw e
 
-    clause-is : sampled_for s k ≡ true → stands (allowed_in s p holdable k) f ≡ formula_ok s p k (some f)
+    clause-is : sampled_for s k ≡ true → stands (allowed_in s p holdable k) f ≡ formula_ok s p k (math.some f)
     unfolding sampled_for either
     clause-is h = go (eqb (stepped_in s k) 1) refl h
       where
-        go : (x : Bool) → eqb (stepped_in s k) 1 ≡ x → either (not x) (eqb (sampled_in s (board_of_in s k)) 1) ≡ true → stands (allowed_in s p holdable k) f ≡ formula_ok s p k (some f)
+        go : (x : Bool) → eqb (stepped_in s k) 1 ≡ x → either (not x) (eqb (sampled_in s (board_of_in s k)) 1) ≡ true → stands (allowed_in s p holdable k) f ≡ formula_ok s p k (math.some f)
         go true e h = clause-stepped e h
         go false e h = clause-unstepped e
 
@@ -94,12 +93,12 @@ module _ (s : List ℕ) (p k : ℕ) (seen : SlotSet) where
   unfolding held_in pick
   held-passed holdable are long h so = ap (λ (x : Allowed). pass x (slot_bytes s k) (at 1 0 seen)) so ∙ pass-is (allowed_in s p holdable k) (slot_bytes s k) seen ∙ go (decoded (slot_bytes s k)) refl
     where
-      go : (x : Option Formula) → decoded (slot_bytes s k) ≡ x → checked_text (allowed_in s p holdable k) x seen ≡ pick (formula_ok s p k x) (noted (held_of x) seen) Wrong
-      go none e = refl
-      go (some f) e =
+      go : (x : math.Option Formula) → decoded (slot_bytes s k) ≡ x → checked_text (allowed_in s p holdable k) x seen ≡ pick (formula_ok s p k x) (noted (held_of x) seen) None
+      go math.none e = refl
+      go (math.some f) e =
           let t = decoded-is (slot_bytes s k) f e in
           let l : length_in s k ≡ size f = sym long ∙ ap length t.1 ∙ length-encode f in
-          ap (λ (b : Bool). pick b (noted (held_by f) seen) Wrong) (clause-is holdable are f t.0 l h)
+          ap (λ (b : Bool). pick b (noted (held_by f) seen) None) (clause-is holdable are f t.0 l h)
 
 -- ---- all slots
 abbrev pub formula_test : List ℕ → ℕ → ℕ → Bool
@@ -108,7 +107,7 @@ formula_test s p k = formula_ok s p k (formula_in s k)
 -- what is known before slot k
 pub record SeenBefore (s : List ℕ) (p k : ℕ) (seen : SlotSet) : Type 0 where
   pub each : each_below k (formula_test s p) ≡ true
-  pub holders : noted (holders_in s k) no_slots ≡ Slots seen
+  pub holders : noted (holders_in s k) no_slots ≡ Some seen
 
 pub seen_none : {s : List ℕ} {p : ℕ} → SeenBefore s p 0 no_slots
 unfolding noted holders_in
@@ -118,36 +117,36 @@ holders-more : (s : List ℕ) (k : ℕ) → noted (holders_in s (suc k)) no_slot
 unfolding holders_in
 holders-more s k = noted-append (holders_in s k) (held_of (formula_in s k)) no_slots
 
-holders-wrong : (s : List ℕ) (n k : ℕ) → k ≤ n → noted (holders_in s k) no_slots ≡ Wrong → noted (holders_in s n) no_slots ≡ Wrong
+holders-wrong : (s : List ℕ) (n k : ℕ) → k ≤ n → noted (holders_in s k) no_slots ≡ None → noted (holders_in s n) no_slots ≡ None
 holders-wrong s zero k l e = let z : k ≡ 0 = omega arith in ap (λ (i : ℕ). noted (holders_in s i) no_slots) (sym z) ∙ e
 holders-wrong s (suc n) k l e =
     ⊎_elim
     (λ q. ap (λ (i : ℕ). noted (holders_in s i) no_slots) (sym q) ∙ e)
-    (λ q. holders-more s n ∙ ap (λ (h : Held). thereafter h (λ x. noted (held_of (formula_in s n)) x)) (holders-wrong s n k (omega arith) e))
+    (λ q. holders-more s n ∙ ap (λ (h : Option SlotSet). thereafter h (λ x. noted (held_of (formula_in s n)) x)) (holders-wrong s n k (omega arith) e))
     (eq-or-lt_of_le l)
 
 module _ {s : List ℕ} {p k : ℕ} {seen : SlotSet} (known : SeenBefore s p k seen) where
-  pub seen_more : {x : SlotSet} → held_in s p k seen ≡ Slots x → SeenBefore s p (k + 1) x
+  pub seen_more : {x : SlotSet} → held_in s p k seen ≡ Some x → SeenBefore s p (k + 1) x
   unfolding held_in pick
   seen_more {x} h = go (formula_test s p k) refl h
     where
-      go : (b : Bool) → formula_test s p k ≡ b → pick b (noted (held_of (formula_in s k)) seen) Wrong ≡ Slots x → SeenBefore s p (k + 1) x
+      go : (b : Bool) → formula_test s p k ≡ b → pick b (noted (held_of (formula_in s k)) seen) None ≡ Some x → SeenBefore s p (k + 1) x
       go true e q =
           record {
             each = each_more (formula_test s p) k known.each e;
             holders =
                 ap (λ (i : ℕ). noted (holders_in s i) no_slots) (add-one k) ∙ holders-more s k
-                ∙ ap (λ (h : Held). thereafter h (λ y. noted (held_of (formula_in s k)) y)) known.holders ∙ q;
+                ∙ ap (λ (h : Option SlotSet). thereafter h (λ y. noted (held_of (formula_in s k)) y)) known.holders ∙ q;
           }
       go false e q = absurd (wrong-slots x q)
 
-  pub seen-wrong : (n : ℕ) → k < n → held_in s p k seen ≡ Wrong → false ≡ formulas_ok s p n
+  pub seen-wrong : (n : ℕ) → k < n → held_in s p k seen ≡ None → false ≡ formulas_ok s p n
   unfolding held_in formulas_ok pick both is_slots
   seen-wrong n l h = sym (go (formula_test s p k) refl h)
     where
-      go : (b : Bool) → formula_test s p k ≡ b → pick b (noted (held_of (formula_in s k)) seen) Wrong ≡ Wrong → both (each_below n (formula_test s p)) (distinct (holders_in s n)) ≡ false
+      go : (b : Bool) → formula_test s p k ≡ b → pick b (noted (held_of (formula_in s k)) seen) None ≡ None → both (each_below n (formula_test s p)) (distinct (holders_in s n)) ≡ false
       go true e q =
-          let w = holders-more s k ∙ ap (λ (h : Held). thereafter h (λ y. noted (held_of (formula_in s k)) y)) known.holders ∙ q in
+          let w = holders-more s k ∙ ap (λ (h : Option SlotSet). thereafter h (λ y. noted (held_of (formula_in s k)) y)) known.holders ∙ q in
           let d : distinct (holders_in s n) ≡ false = sym (noted-distinct (holders_in s n)) ∙ ap is_slots (holders-wrong s n (suc k) l w) in
           ap (both (each_below n (formula_test s p))) d ∙ both_false (each_below n (formula_test s p))
       go false e q = ap (λ (b : Bool). both b (distinct (holders_in s n))) (each-false (formula_test s p) k n l e)

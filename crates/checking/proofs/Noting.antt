@@ -1,5 +1,6 @@
 -- Slots noted in a set: those below a number that pass a test (`Below`), and place holders noted one after the other, which succeeds exactly
 -- where none stands twice (`noted-distinct`). Assumes nothing.
+use Rattle.std.specs.Prelude.{Option, Some, None}
 use mathlib.Core.Path.{◌≡◌, refl, sym, ap, ap₂, ◌∙◌}
 use mathlib.Core.Bool.{Bool, true, false, not}
 use mathlib.Core.List.{List, [], ◌∷◌}
@@ -13,8 +14,6 @@ use Rattle.slot_sets.specs.declared.SlotSet.{SlotSet}
 use Rattle.slot_sets.specs.SlotSets.{has_slot, no_slots, with_slot}
 use Rattle.slot_sets.proofs.SlotSets.{none_has, with-has, with-same, with-other}
 use Rattle.state.specs.Clauses.{among, distinct}
-use Rattle.scanning.specs.declared.Held.{Held}
-use Rattle.scanning.specs.declared.Held.TheVariants.{Slots, Wrong}
 use Rattle.scanning.specs.OnePass.{noted}
 use Rattle.records.proofs.Each.{both_false, both-last}
 
@@ -52,9 +51,9 @@ module _ (test : ℕ → Bool) where
         ]
 
 -- ---- place holders noted one after the other
-unfoldable pub is_slots : Held → Bool
-is_slots (Slots x) = true
-is_slots Wrong = false
+unfoldable pub is_slots : Option SlotSet → Bool
+is_slots (Some x) = true
+is_slots None = false
 
 -- none of some slots is in the set
 unfoldable pub none_in : SlotSet → List ℕ → Bool
@@ -91,7 +90,7 @@ noted-is (m ∷ ms) seen = go (has_slot seen m) (noted-is ms (with_slot seen m) 
     regroup false u false = refl
 
     go : (b : Bool) → is_slots (noted ms (with_slot seen m)) ≡ both (distinct ms) (both (none_in seen ms) (not (among m ms)))
-        → is_slots (pick b Wrong (noted ms (with_slot seen m))) ≡ both (both (not (among m ms)) (distinct ms)) (both (not b) (none_in seen ms))
+        → is_slots (pick b None (noted ms (with_slot seen m))) ≡ both (both (not (among m ms)) (distinct ms)) (both (not b) (none_in seen ms))
     go true ih = sym (both_false (both (not (among m ms)) (distinct ms)))
     go false ih = ih ∙ regroup (distinct ms) (none_in seen ms) (not (among m ms))
 

@@ -1,14 +1,12 @@
 -- A slot's formula, when its clause is checked: what may stand in it, and what the check answers. Assumes nothing: these are
 -- definitions.
-use Rattle.std.specs.Prelude.{◌≡◌, ℕ, ◌-◌, ◌^◌, Bool, true, false, not, List, ltb, eqb}
+use Rattle.std.specs.Prelude.{◌≡◌, ℕ, ◌-◌, ◌^◌, Bool, true, false, not, List, ltb, eqb, Option, Some, None}
 use Rattle.lists.specs.Tests.{pick, both, either}
 use Rattle.state.specs.Fields.{slots_in, mask_in, sampled_in, board_of_in, stepped_in, length_in, formula_in}
 use Rattle.state.specs.Clauses.{each_below, distinct, is_constant_in, formula_ok, held_of, holders_in}
 use Rattle.slot_sets.specs.declared.SlotSet.{SlotSet}
 use Rattle.slot_sets.specs.SlotSets.{has_slot, every_slot}
 use Rattle.scanning.specs.declared.Allowed.{Allowed}
-use Rattle.scanning.specs.declared.Held.{Held}
-use Rattle.scanning.specs.declared.Held.TheVariants.{Wrong}
 use Rattle.scanning.specs.OnePass.{noted}
 
 -- a slot that a stepped slot may hold: it is stepped and no constant
@@ -50,8 +48,8 @@ allowed_in s p holdable k =
     })
 
 -- slot k's clause, and its place holders noted beside those seen before
-unfoldable pub held_in : List ℕ → ℕ → ℕ → SlotSet → Held
-held_in s p k seen = pick (formula_ok s p k (formula_in s k)) (noted (held_of (formula_in s k)) seen) Wrong
+unfoldable pub held_in : List ℕ → ℕ → ℕ → SlotSet → Option SlotSet
+held_in s p k seen = pick (formula_ok s p k (formula_in s k)) (noted (held_of (formula_in s k)) seen) None
 
 -- the clauses of the first n slots' formulas and of their place holders together
 unfoldable pub formulas_ok : List ℕ → ℕ → ℕ → Bool

@@ -8,7 +8,7 @@ ghost use Rattle.state.specs.Opened.{SlotThere};
 ghost use Rattle.scanning.specs.OnePass.{Fitted, at, pass};
 ghost use Rattle.checking.specs.Slotted.{holdable_in, Holdable, sampled_for, own_stepped, allowed_in, held_in, formulas_ok};
 
-use scanning::{Allowed, Held, pass_over};
+use scanning::{Allowed, pass_over};
 use slot_sets::{SlotSet, every_slot, no_slots, with_slot};
 use state::{Counts, Span};
 
@@ -18,21 +18,16 @@ pub fn is_constant(s: &[u8], c: Counts, k: usize) -> bool
     ensures { result ≡ is_constant_in s.now k }
 {
     let Span { from, to } = state::span_of(s, c, k);
-    if to - from != 1 {
-        return false;
-    }
-    s[from] <= 1
+    to - from == 1 && s[from] <= 1
 }
 
 // Slot k is stepped and no constant: a stepped slot may hold it.
+#[tactic(auto, unfolding(lists::specs::Tests::both, crate::specs::Slotted::holdable_in))]
 fn is_holdable(s: &[u8], c: Counts, k: usize) -> bool
     requires { SlotThere s.now c k }
     ensures { result ≡ holdable_in s.now k }
 {
-    if state::mark_of(s, c, k) != 1 {
-        return false;
-    }
-    !is_constant(s, c, k)
+    state::mark_of(s, c, k) == 1 && !is_constant(s, c, k)
 }
 
 // The slots that a stepped slot may hold.
@@ -40,31 +35,26 @@ fn holdable(s: &[u8], c: Counts) -> SlotSet
     requires { Sized s.now c × (each_below c.slots (record_ok s.now) ≡ true) }
     ensures { Holdable s.now result }
 {
-    let n = c.slots;
     let mut slots = no_slots();
-    let mut k: usize = 0;
-    while k < n {
+    for k in 0..c.slots {
         if is_holdable(s, c, k) {
             slots = with_slot(slots, k as u8);
         }
-        k += 1;
     }
     slots
 }
 
 // The board of slot k has sampled, if the slot is stepped.
+#[tactic(auto, unfolding(lists::specs::Tests::either, crate::specs::Slotted::sampled_for))]
 fn sampled_for(s: &[u8], c: Counts, k: usize) -> bool
     requires { SlotThere s.now c k }
     ensures { result ≡ sampled_for s.now k }
 {
-    if state::mark_of(s, c, k) != 1 {
-        return true;
-    }
-    let board = state::board_of(s, c, k) as usize;
-    state::sampled_of(s, board) == 1
+    state::mark_of(s, c, k) != 1 || state::sampled_of(s, usize::from(state::board_of(s, c, k))) == 1
 }
 
 // The propositions that may stand in a stepped slot of n nodes.
+#[tactic(auto, unfolding(lists::specs::Tests::pick, crate::specs::Slotted::own_stepped))]
 fn own_stepped(mask: u64, n: usize) -> u64
     ensures { result ≡ own_stepped mask n }
 {
@@ -72,34 +62,33 @@ fn own_stepped(mask: u64, n: usize) -> u64
 }
 
 // What may stand in slot k's formula.
+#[tactic(auto, unfolding(lists::specs::Tests::pick, crate::specs::Slotted::allowed_in))]
 fn allowed_in(s: &[u8], c: Counts, k: usize, p: u64, holdable: SlotSet) -> Allowed
     requires { SlotThere s.now c k }
     ensures { result ≡ allowed_in s.now p holdable k }
 {
-    let board = state::board_of(s, c, k) as usize;
-    let mask = state::mask_of(s, board);
-    if state::mark_of(s, c, k) == 1 {
-        return Allowed {
-            propositions: p,
-            slots: c.slots as u64,
-            slot: k as u64,
-            own: own_stepped(mask, state::length_of(s, c, k)),
-            holders: holdable,
-            temporal: true,
-        };
-    }
-    Allowed {
+    let mask = state::mask_of(s, usize::from(state::board_of(s, c, k)));
+    let unstepped = Allowed {
         propositions: p,
         slots: c.slots as u64,
         slot: k as u64,
         own: mask,
         holders: every_slot(),
         temporal: false,
+    };
+    if state::mark_of(s, c, k) != 1 {
+        return unstepped;
+    }
+    Allowed {
+        own: own_stepped(mask, state::length_of(s, c, k)),
+        holders: holdable,
+        temporal: true,
+        ..unstepped
     }
 }
 
 // Slot k's formula, with the place holders that the slots before it have.
-fn slot_held(s: &[u8], c: Counts, k: usize, allowed: Allowed, seen: SlotSet) -> Held
+fn slot_held(s: &[u8], c: Counts, k: usize, allowed: Allowed, seen: SlotSet) -> Option<SlotSet>
     requires { SlotThere s.now c k × Fitted allowed }
     ensures { result ≡ pass allowed (slot_bytes s.now k) (at 1 0 seen) }
 {
@@ -108,12 +97,19 @@ fn slot_held(s: &[u8], c: Counts, k: usize, allowed: Allowed, seen: SlotSet) -> 
 }
 
 // Slot k's clause, and the place holders seen behind it.
-fn formula_held(s: &[u8], c: Counts, k: usize, p: u64, holdable: SlotSet, seen: SlotSet) -> Held
+fn formula_held(
+    s: &[u8],
+    c: Counts,
+    k: usize,
+    p: u64,
+    holdable: SlotSet,
+    seen: SlotSet,
+) -> Option<SlotSet>
     requires { SlotThere s.now c k × (p ≤ propositions_most) × Holdable s.now holdable }
     ensures { result ≡ held_in s.now p k seen }
 {
     if !sampled_for(s, c, k) {
-        return Held::Wrong;
+        return None;
     }
     slot_held(s, c, k, allowed_in(s, c, k, p, holdable), seen)
 }
@@ -123,17 +119,13 @@ pub fn formulas_ok(s: &[u8], c: Counts, p: u64) -> bool
     requires { Sized s.now c × (each_below c.slots (record_ok s.now) ≡ true) × (p ≤ propositions_most) }
     ensures { result ≡ formulas_ok s.now p c.slots }
 {
-    let n = c.slots;
     let holders = holdable(s, c);
     let mut seen = no_slots();
-    let mut k: usize = 0;
-    while k < n {
-        let held = formula_held(s, c, k, p, holders, seen);
-        let Held::Slots(x) = held else {
+    for k in 0..c.slots {
+        let Some(held) = formula_held(s, c, k, p, holders, seen) else {
             return false;
         };
-        seen = x;
-        k += 1;
+        seen = held;
     }
     true
 }

@@ -31,7 +31,7 @@ fn propositions(s: &[u8], b: usize) -> u64
 pub fn state_ok(s: &[u8]) -> bool
     ensures { result ≡ state_ok s.now }
 {
-    let form = Form::of(s.len());
+    let form = Form::from(s.len());
     if s.len() != form.length() {
         return false;
     }

@@ -1,13 +1,13 @@
 -- The choice of two parts together: where both choose one board they choose it together, and one without scores does not matter
--- (`together-same`, `together-left`, `together-right`). So the code need not look at sixteen sums then. A board that is chosen is
--- there (`picked-few`), and a proposition's own board is what it is chosen for (`picked-alone`). Assumes nothing.
+-- (`together-same`, `together-left`, `together-right`). So the code need not look at sixteen sums then. Assumes
+-- nothing.
 use mathlib.Core.Path.{◌≡◌, refl, sym, ap, ◌∙◌, subst}
 use mathlib.Core.List.{List, [], ◌∷◌}
 use mathlib.Core.Logic.{◌⊎◌, inl, inr, ⊎_elim}
 use mathlib.Core.Option.{Option, none, some}
 use Prim.Native.Nat.{ℕ, zero, suc, ◌+◌, ◌<◌, ◌≤◌}
 use native.Mathlib.Omega.{arith}
-use native.Mathlib.Decide.{dec_lt, ℕ_discrete}
+use native.Mathlib.Decide.{dec_lt}
 use lib.ListN.{length, get_or}
 use lib.Dec.{ltb}
 use borrow.Author.Tests.{lt-ltb, le-ltb}
@@ -15,10 +15,9 @@ use Rattle.lists.specs.Tests.{pick}
 use Rattle.lists.proofs.Tests.{no-some}
 use Rattle.limits.specs.Limits.{boards_most}
 use Rattle.network.specs.Scores.{highest}
-use Rattle.scores.specs.Scored.{one_scored, added}
-use Rattle.scores.proofs.Alone.{alone-board, alone-stays}
-use Rattle.choices.specs.Choice.{code_of}
-use Rattle.choices.specs.Picked.{picked_by, Together}
+use Rattle.scores.specs.Choice.{code_of, picked_by}
+use Rattle.scores.specs.Scored.{added}
+use Rattle.choices.specs.Picked.{Together}
 use Rattle.choices.proofs.Reading.{added-each, added-nothing, nothing-added}
 
 -- none is over the count
@@ -106,26 +105,12 @@ there (x ∷ xs) (suc c) l = let r = there xs c l in omega arith
 below : (xs : List ℕ) (c : ℕ) → length xs ≡ boards_most → highest none 0 0 xs ≡ some c → c < boards_most
 below xs c h e = let l = there xs c (wins-of xs c e).over in omega arith
 
-pub picked-few : (xs : List ℕ) → length xs ≡ boards_most → picked_by xs ≤ boards_most
-picked-few xs h = go (highest none 0 0 xs) refl
-  where
-    go : (o : Option ℕ) → highest none 0 0 xs ≡ o → code_of o ≤ boards_most
-    go none e = omega arith
-    go (some c) e = let l = below xs c h e in omega arith
-
 pub picked_none : (xs : List ℕ) → length xs ≡ boards_most → picked_by xs ≡ boards_most → (k : ℕ) → get_or xs k 0 ≡ 0
 picked_none xs h z = go (highest none 0 0 xs) refl z
   where
     go : (o : Option ℕ) → highest none 0 0 xs ≡ o → code_of o ≡ boards_most → (k : ℕ) → get_or xs k 0 ≡ 0
     go none e q = none_of xs e
     go (some c) e q = absurd (let l = below xs c h e in omega arith)
-
-pub picked-alone : (owner : ℕ) → owner ≤ boards_most → owner ≡ picked_by (one_scored owner)
-picked-alone owner l = go (ℕ_discrete owner boards_most)
-  where
-    go : Dec (owner ≡ boards_most) → owner ≡ picked_by (one_scored owner)
-    go (yes e) = rw e (sym (ap code_of alone-stays))
-    go (no n) = sym (ap code_of (alone-board owner (omega arith)))
 
 -- ---- two parts
 module _ (xs ys : List ℕ) (h : length xs ≡ boards_most) (k : length ys ≡ boards_most) where

@@ -14,7 +14,8 @@ use Rattle.kinds.specs.declared.Binary.TheVariants.{Joined, Until}
 use Rattle.scores.specs.Scored.{none_scored, one_scored, added, counts_below, Few}
 use Rattle.scores.proofs.Added.{zeros-few, one-few, sums-few}
 use Rattle.choices.specs.Marks.{length_room, choice_room, mark_of, length_in, choice_in, again_in}
-use Rattle.choices.specs.Picked.{picked_by, Together}
+use Rattle.scores.specs.Choice.{picked_by}
+use Rattle.choices.specs.Picked.{Together}
 use Rattle.choices.specs.Rows.{raw_below, row_at, PutsRow}
 use Rattle.choices.specs.Over.{OverNone, OverOneAsk, OverNext, OverEver, OverOne, OverJoinAsk, OverJoin, OverUntilAsk, OverUntil, OverTwoAsk, OverTwo}
 use Rattle.choices.proofs.Packing.{mark-has, choice-small, again-small}

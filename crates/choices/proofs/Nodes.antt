@@ -20,13 +20,12 @@ use Rattle.scores.specs.Scored.{one_scored, added}
 use Rattle.scores.specs.Owned.{Owned, owner_of}
 use Rattle.scores.specs.Tallies.{ScoredAs}
 use Rattle.scores.proofs.Counting.{scored-leaf, scored-one, scored-two, scored-chosen}
-use Rattle.choices.specs.Choice.{code_of}
+use Rattle.scores.specs.Choice.{code_of, picked_by}
 use Rattle.choices.specs.Marks.{later_of, length_room, mark_of, length_in, choice_in, later_in, again_in, MarkOf}
-use Rattle.choices.specs.Picked.{picked_by}
 use Rattle.choices.specs.Rows.{opened_below}
 use Rattle.choices.specs.Over.{PartNoted}
 use Rattle.choices.proofs.Packing.{mark-has, mark-more, again-small}
-use Rattle.choices.proofs.Joint.{picked-alone}
+use Rattle.scores.proofs.Alone.{picked-alone}
 
 -- ---- how large
 unfolded-few : (f : Formula) → size f ≤ nodes_room → size (unfolded f) ≤ (nodes_room + 4) * size f

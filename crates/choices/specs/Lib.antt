@@ -1,5 +1,4 @@
 -- What the contracts of `choices`, and of the walks that read its marks, cite.
-pub mod Choice
 pub mod Marks
 pub mod Picked
 pub mod Rows

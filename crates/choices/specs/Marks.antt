@@ -11,7 +11,7 @@ use Rattle.ltl.specs.Progression.{unfolded}
 use Rattle.network.specs.Scores.{chosen}
 use Rattle.nodes.specs.Begins.{Front}
 use Rattle.scores.specs.Owned.{Owned}
-use Rattle.choices.specs.Choice.{code_of}
+use Rattle.scores.specs.Choice.{code_of}
 
 -- ---- parts
 -- what until asks of its left operand, and of later ticks

@@ -9,7 +9,7 @@ use Rattle.ltl.specs.Progression.{unfolded}
 use Rattle.scores.specs.Scored.{one_scored, added}
 use Rattle.scores.specs.Tallies.{ScoredAs}
 use Rattle.choices.specs.Marks.{later_of, length_room, choice_room, mark_of, length_in, choice_in, later_in, again_in}
-use Rattle.choices.specs.Picked.{picked_by}
+use Rattle.scores.specs.Choice.{picked_by}
 use Rattle.choices.specs.Rows.{opened_below, row_at, PutsRow}
 
 -- ---- a part: its counts as it stands and unfolded, and its mark, which has what they choose

@@ -4,7 +4,7 @@
 
 pub mod marks;
 mod over;
-pub mod picks;
+mod picks;
 mod rows;
 
 ghost use Rattle.std.specs.Prelude.{◌≡◌};
@@ -32,7 +32,7 @@ fn mark_node(
     requires { MarkNodeAsk c i owner.now marks.old raw.old opened.old t }
     ensures { MarksNode c i owner.now marks.old raw.old opened.old t marks.new raw.new opened.new result }
 {
-    let k = Kind::of(c);
+    let k = Kind::from(c);
     match k {
         Kind::Zero(a) => {
             let low = t - BOARDS_MOST;
@@ -62,10 +62,8 @@ pub fn mark_all(s: &[u8], owner: &[u8], marks: &mut [u32], raw: &mut [u16], open
     requires { MarkAsk s.now owner.now marks.old raw.old opened.old }
     ensures { Marks owner.now s.now marks.new }
 {
-    let mut i = s.len();
-    let mut t = HALF_ROW * (i + 1);
-    while 0 < i {
-        i -= 1;
+    let mut t = HALF_ROW * (s.len() + 1);
+    for i in (0..s.len()).rev() {
         t = mark_node(s[i], i, owner, marks, raw, opened, t);
     }
 }

@@ -10,15 +10,18 @@ const LENGTH_ROOM: u32 = 32768;
 const CHOICE_ROOM: u32 = 32;
 
 // A length, the choice of the formula unfolded, that of what an until asks of later ticks, and that of the formula under next.
+#[tactic(auto, unfolding(crate::specs::Marks::mark_of))]
 pub fn mark_of(n: usize, choice: u8, later: u8, again: u8) -> u32
     requires { (n < length_room) × (choice < choice_room) × (later < choice_room) × (again < choice_room) }
     ensures { result ≡ mark_of n choice later again }
 {
-    n as u32
-        + LENGTH_ROOM * (choice as u32 + CHOICE_ROOM * (later as u32 + CHOICE_ROOM * again as u32))
+    let parts = u32::from(choice)
+        + CHOICE_ROOM * (u32::from(later) + CHOICE_ROOM * u32::from(again));
+    n as u32 + LENGTH_ROOM * parts
 }
 
 // The length of the formula.
+#[tactic(auto, unfolding(crate::specs::Marks::length_in))]
 pub fn length_of(mark: u32) -> usize
     ensures { (result ≡ length_in mark) × (result < length_room) }
 {
@@ -26,6 +29,7 @@ pub fn length_of(mark: u32) -> usize
 }
 
 // The choice of the formula unfolded.
+#[tactic(auto, unfolding(crate::specs::Marks::choice_in))]
 pub fn choice_of(mark: u32) -> u8
     ensures { (result ≡ choice_in mark) × (result < choice_room) }
 {
@@ -33,6 +37,7 @@ pub fn choice_of(mark: u32) -> u8
 }
 
 // The choice of what an until asks of its left operand and of later ticks; of another node it says nothing.
+#[tactic(auto, unfolding(crate::specs::Marks::later_in))]
 pub fn later_of(mark: u32) -> u8
     ensures { (result ≡ later_in mark) × (result < choice_room) }
 {
@@ -40,6 +45,7 @@ pub fn later_of(mark: u32) -> u8
 }
 
 // The choice of the formula under next.
+#[tactic(auto, unfolding(crate::specs::Marks::again_in))]
 pub fn again_of(mark: u32) -> u8
     ensures { (result ≡ again_in mark) × (result < choice_room) }
 {

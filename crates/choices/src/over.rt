@@ -5,11 +5,11 @@ ghost use Rattle.limits.specs.Limits.{boards_most};
 ghost use Rattle.choices.specs.Over.{OverNone, OverOneAsk, OverNext, OverEver, OverOne, OverJoinAsk, OverJoin, OverUntilAsk, OverUntil, OverTwoAsk, OverTwo};
 
 use crate::marks::{again_of, choice_of, length_of, mark_of};
-use crate::picks::{STAYS, together};
+use crate::picks::together;
 use crate::rows::{opened_at, put_opened, put_raw, raw_at};
 use kinds::{Binary, Unary};
 use limits::BOARDS_MOST;
-use scores::Scores;
+use scores::{STAYS, Scores};
 
 // A node without operands: its owner, if it has one, is what it is chosen for.
 pub fn over_none(owner: u8, raw: &mut [u16], opened: &mut [u32], at: usize) -> u32

@@ -8,44 +8,38 @@ use limits::BOARDS_MOST;
 use scores::Scores;
 
 // The counts of a part as it stands, whose row begins at a place.
+#[tactic(auto, unfolding(crate::specs::Rows::row_at))]
 pub fn raw_at(rows: &[u16], at: usize) -> Scores
     requires { at + boards_most ≤ length rows.now }
     ensures { result.counts ≡ row_at at rows.now }
 {
     let mut counts = [0u32; BOARDS_MOST];
-    let mut b: usize = 0;
-    while b < BOARDS_MOST {
-        counts[b] = rows[at + b] as u32;
-        b += 1;
+    for b in 0..BOARDS_MOST {
+        counts[b] = u32::from(rows[at + b]);
     }
-    Scores { counts: counts }
+    Scores { counts }
 }
 
 // Writes them there; the rows behind stay.
+#[tactic(auto, unfolding(crate::specs::Rows::row_at))]
 pub fn put_raw(rows: &mut [u16], at: usize, scores: Scores)
     requires { (at + boards_most ≤ length rows.old) × ((b : ℕ) → get_or scores.counts b 0 < raw_below) }
     ensures { PutsRow at scores.counts rows.old rows.new }
 {
-    let counts = scores.counts;
-    let mut b: usize = 0;
-    while b < BOARDS_MOST {
-        rows[at + b] = counts[b] as u16;
-        b += 1;
+    for (b, count) in scores.counts.iter().enumerate() {
+        rows[at + b] = *count as u16;
     }
 }
 
 // The counts of a part unfolded, whose row begins at a place.
+#[tactic(auto, unfolding(crate::specs::Rows::row_at))]
 pub fn opened_at(rows: &[u32], at: usize) -> Scores
     requires { at + boards_most ≤ length rows.now }
     ensures { result.counts ≡ row_at at rows.now }
 {
     let mut counts = [0u32; BOARDS_MOST];
-    let mut b: usize = 0;
-    while b < BOARDS_MOST {
-        counts[b] = rows[at + b];
-        b += 1;
-    }
-    Scores { counts: counts }
+    counts.copy_from_slice(&rows[at..at + BOARDS_MOST]);
+    Scores { counts }
 }
 
 // Writes them there; the rows behind stay.
@@ -53,10 +47,5 @@ pub fn put_opened(rows: &mut [u32], at: usize, scores: Scores)
     requires { at + boards_most ≤ length rows.old }
     ensures { PutsRow at scores.counts rows.old rows.new }
 {
-    let counts = scores.counts;
-    let mut b: usize = 0;
-    while b < BOARDS_MOST {
-        rows[at + b] = counts[b];
-        b += 1;
-    }
+    rows[at..at + BOARDS_MOST].copy_from_slice(&scores.counts);
 }

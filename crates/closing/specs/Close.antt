@@ -1,7 +1,7 @@
 -- Closing a tick: the answer, and the second buffer. Assumes nothing: these are definitions.
-use Rattle.std.specs.Prelude.{◌≡◌, false, ℕ, ◌+◌, ◌^◌, List, [], ◌∷◌, length, ltb}
+use Rattle.answers.specs.declared.Refusal.{Refusal}
+use Rattle.std.specs.Prelude.{◌≡◌, false, ℕ, ◌+◌, ◌^◌, List, [], ◌∷◌, length, ltb, Result, ⊤}
 use Rattle.answers.specs.Said.{Said, accepted, check, in_order, said_outcome}
-use Rattle.answers.specs.declared.Outcome.{Outcome}
 use Rattle.state.specs.declared.Counts.{Counts}
 use Rattle.state.specs.Form.{form_in, state_length}
 use Rattle.state.specs.Fields.{ticks_in}
@@ -15,7 +15,7 @@ unfoldable pub over_says : List ℕ → Said
 over_says s = in_order (check 14 (done_in s) ∷ check 15 (ltb (ticks_in s + 1) (2 ^ 32)) ∷ []) (accepted [])
 
 -- the promise: the answer, and the second buffer with the next state, as it was where the call is refused
-pub record Closes (s second second' : List ℕ) (answer : Outcome) : Type 0 where
+pub record Closes (s second second' : List ℕ) (answer : Result ⊤ Refusal) : Type 0 where
   pub says : said_outcome answer ≡ close_says s (length second)
   pub leaves : second' ≡ close_leaves s second
 

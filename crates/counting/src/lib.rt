@@ -70,10 +70,8 @@ fn held_by(p: &[u8], slots: &[u8], nodes: &[u16]) -> Totals
     ensures { HeldBy slots.now nodes.now p.now result }
 {
     let mut t = Totals { slots: 0, nodes: 0 };
-    let mut i: usize = 0;
-    while i < p.len() {
-        t = after(p[i], t, slots, nodes);
-        i += 1;
+    for b in p {
+        t = after(*b, t, slots, nodes);
     }
     t
 }
@@ -117,9 +115,7 @@ fn count_down(state: &[u8], c: Counts, owner: &[u8], slots: &mut [u8], nodes: &m
     requires { OpenedWith state.now c owner.now × Tables slots.old nodes.old }
     ensures { Totalled (next_in state.now) result }
 {
-    let mut k = c.slots;
-    while 0 < k {
-        k -= 1;
+    for k in (0..c.slots).rev() {
         let t = count_slot(state, c, k, owner, slots, nodes);
         slots[k] = t.slots as u8;
         nodes[k] = t.nodes as u16;

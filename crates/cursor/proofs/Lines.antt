@@ -1,6 +1,6 @@
 -- The line of a position: behind a line feed it is the next one (`stands-line`), behind another byte the same (`stands_same`). It is at most
 -- one more than the byte (`stands-few`). Others use `stands-none`. Assumes nothing.
-use mathlib.Core.Path.{◌≡◌, refl, ap}
+use mathlib.Core.Path.{◌≡◌, refl}
 use mathlib.Core.Bool.{Bool, true, false}
 use mathlib.Core.List.{List, [], ◌∷◌, ◌++◌}
 use Prim.Native.Nat.{ℕ, ◌+◌, ◌≤◌, ◌<◌}
@@ -55,16 +55,15 @@ stands-few {t = t} {c = c} s =
     let w = s.within in
     omega arith
 
-module _ {t : List ℕ} {c : TextCursor} (s : Stands t c) (h : c.byte < length t) (e : TextCursor) (p : e.byte ≡ c.byte + 1) where
-  stands-past : e.line ≡ c.line + feed_of (get_or t c.byte 0) → Behind t c e
-  stands-past q =
+module _ {t : List ℕ} {c : TextCursor} (s : Stands t c) (h : c.byte < length t) {n : ℕ} where
+  stands-past : n ≡ c.line + feed_of (get_or t c.byte 0) → Behind t c (record { byte = c.byte + 1; line = n })
+  stands-past e =
       let m = feeds-more t c.byte h in
       let l = s.counted in
-      let n : feeds (take e.byte t) ≡ feeds (take (c.byte + 1) t) = ap (λ (i : ℕ). feeds (take i t)) p in
-      record { stands = record { within = omega arith; counted = omega arith }; next = p }
+      record { stands = record { within = omega arith; counted = omega arith }; next = refl }
 
-  pub stands-line : get_or t c.byte 0 ≡ 10 → e.line ≡ c.line + 1 → Behind t c e
+  pub stands-line : get_or t c.byte 0 ≡ 10 → n ≡ c.line + 1 → Behind t c (record { byte = c.byte + 1; line = n })
   stands-line b q = let f = feed-is (get_or t c.byte 0) b in stands-past (omega arith)
 
-  pub stands_same : (get_or t c.byte 0 ≡ 10 → ⊥) → e.line ≡ c.line → Behind t c e
+  pub stands_same : (get_or t c.byte 0 ≡ 10 → ⊥) → n ≡ c.line → Behind t c (record { byte = c.byte + 1; line = n })
   stands_same b q = let f = feed-not (get_or t c.byte 0) b in stands-past (omega arith)

@@ -13,7 +13,7 @@ use Rattle.text.specs.declared.Sign.{Sign}
 use Rattle.text.specs.declared.Sign.TheVariants.{Blank}
 use Rattle.text.specs.Machine.{Mode, want, got, dead, wanted, follows, step, run, final, alive, passed}
 use Rattle.cursor.specs.declared.TextCursor.{TextCursor}
-use Rattle.cursor.specs.Positions.{Stands, Sees, Behind, Moves, Ends}
+use Rattle.cursor.specs.Positions.{Sees, Behind, Moves, Ends}
 use Rattle.cursor.specs.Readers.{GapRead}
 
 pub moves-none : (t : List ℕ) (i : ℕ) (s : Mode) → Moves t i s i s
@@ -59,25 +59,12 @@ ends-here t i s h e =
 pub ends-end : (t : List ℕ) (i : ℕ) (s : Mode) → length t ≤ i → final s ≡ false → Ends t i s i
 ends-end t i s h e = record { refuses = rw (drop_of_length-le t h) e; place = rw (drop_of_length-le t h) (omega arith) }
 
--- two modes that the next byte leads to the same one
-pub moves-alike : (t : List ℕ) (i : ℕ) (s u : Mode) → i < length t → step s (get_or t i 0) ≡ step u (get_or t i 0) → Moves t i s i u
-unfolding pick
-moves-alike t i s u h e =
-    record {
-      same = rw (drop-cons t i 0 h) (ap (λ (x : Mode). final (run (drop (suc i) t) x)) e);
-      place = rw (drop-cons t i 0 h) (ap (λ (x : Mode). i + pick (alive x) (suc (passed (drop (suc i) t) x)) 0) e);
-    }
-
 -- the byte behind which x stands leads from s to u
 pub moves-past : (t : List ℕ) (c x : TextCursor) (s u : Mode) → Behind t c x → c.byte < length t → step s (get_or t c.byte 0) ≡ u → alive u ≡ true
     → Moves t c.byte s x.byte u
 moves-past t c x s u b h e a = subst (λ (j : ℕ). Moves t c.byte s j u) (sym b.next) (moves-one t c.byte s u h e a)
 
 -- ---- gaps
-pub gap-none : (t : List ℕ) (c : TextCursor) → Stands t c → GapRead t c c
-gap-none t c s =
-    record { stands = s; after = omega arith; wants = λ d. moves-none t c.byte (want d); gots = λ d. moves-none t c.byte (got d) }
-
 -- one blank more was passed
 pub gap_more : {t : List ℕ} {c e x : TextCursor} → GapRead t c e → Sees t e Blank → Behind t e x → GapRead t c x
 gap_more {t = t} {c = c} {e = e} {x = x} g b p =

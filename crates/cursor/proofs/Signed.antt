@@ -1,29 +1,21 @@
 -- Readers of one sign: what is read by the kind of sign, where an operand is wanted and where one has ended. Assumes nothing.
-use mathlib.Core.Path.{◌≡◌, refl, sym, ap, ◌∙◌}
-use mathlib.Core.Bool.{true, false}
+use mathlib.Core.Path.{◌≡◌, refl, sym, ap, ◌∙◌, subst}
+use mathlib.Core.Bool.{true}
 use mathlib.Core.List.{List}
-use Prim.Native.Nat.{ℕ, zero, suc, ◌-◌, ◌≤◌}
-use lib.ListN.{length, get_or, drop_of_length-le}
+use Prim.Native.Nat.{ℕ, zero, suc, ◌-◌}
+use lib.ListN.{get_or}
 use native.Mathlib.Omega.{arith}
 use Rattle.text.specs.declared.Sign.{Sign}
-use Rattle.text.specs.Machine.{Mode, want, got, dead, closing, wanted, follows, step, is_zero, alive}
+use Rattle.text.specs.Machine.{Mode, want, got, dead, closing, wanted, follows, step, alive}
 use Rattle.cursor.specs.declared.TextCursor.{TextCursor}
 use Rattle.cursor.specs.declared.Token.{Token}
 use Rattle.cursor.specs.declared.Token.TheVariants.{Space, Operator, Bracket, Operand, Finished, Wrong}
 use Rattle.cursor.specs.declared.TextStep.{TextStep}
-use Rattle.cursor.specs.Positions.{Stands, Sees, Behind, Moves}
+use Rattle.cursor.specs.Positions.{Sees, Behind, Moves}
 use Rattle.cursor.specs.Readers.{WordIs, WordRead, OperandIs, OperandRead, OperatorIs, OperatorRead}
-use Rattle.cursor.proofs.Moving.{moves-on, moves-ends, moves-past, ends-here, ends-end}
+use Rattle.cursor.proofs.Moving.{moves-on, moves-ends, moves-past, ends-here}
 
--- ---- a closing bracket, and the end of a text, by the brackets that are open
-is-zero : (d : ℕ) → d ≡ 0 → is_zero d ≡ true
-is-zero zero h = refl
-is-zero (suc d) h = absurd (omega arith)
-
-not-zero : (d : ℕ) → (d ≡ 0 → ⊥) → is_zero d ≡ false
-not-zero zero h = absurd (h refl)
-not-zero (suc d) h = refl
-
+-- ---- a closing bracket, by the brackets that are open
 pub closing-zero : (d : ℕ) → d ≡ 0 → closing d ≡ dead
 closing-zero zero h = refl
 closing-zero (suc d) h = absurd (omega arith)
@@ -31,19 +23,6 @@ closing-zero (suc d) h = absurd (omega arith)
 pub closing-some : (d : ℕ) → (d ≡ 0 → ⊥) → closing d ≡ got (d - 1)
 closing-some zero h = absurd (h refl)
 closing-some (suc d) h = let e : suc d - 1 ≡ d = omega arith in rw e
-
--- ---- at the end of the text
-module _ {t : List ℕ} {c : TextCursor} (stands : Stands t c) (end : length t ≤ c.byte) where
-  pub operand-end : OperandRead t c (record { at = c; seen = Wrong })
-  operand-end = record { stands = stands; after = omega arith; on = λ q. absurd (q refl); is = λ d. ends-end t c.byte (want d) end refl }
-
-  pub operator-end : (d : ℕ) → (d ≡ 0 → ⊥) → OperatorRead t c d (record { at = c; seen = Wrong })
-  operator-end d z =
-      record { stands = stands; after = omega arith; on = λ q p. absurd (q refl); is = ends-end t c.byte (got d) end (not-zero d z) }
-
-  pub operator-finished : (d : ℕ) → d ≡ 0 → OperatorRead t c d (record { at = c; seen = Finished })
-  operator-finished d z =
-      record { stands = stands; after = omega arith; on = λ q p. absurd (p refl); is = rw (drop_of_length-le t end) (is-zero d z) }
 
 -- ---- at a byte that is the sign s
 module _ {t : List ℕ} {c : TextCursor} {k s : Sign} (sees : Sees t c k) (told : k ≡ s) where
@@ -53,48 +32,51 @@ module _ {t : List ℕ} {c : TextCursor} {k s : Sign} (sees : Sees t c k) (told 
   follows-it : (d : ℕ) → step (got d) (get_or t c.byte 0) ≡ follows s d
   follows-it d = ap (λ (z : Sign). follows z d) (sym sees.is ∙ told)
 
-  pub operand-dead : ((d : ℕ) → wanted s d ≡ dead) → OperandRead t c (record { at = c; seen = Wrong })
-  operand-dead f =
-      record {
+  pub operand-dead : {r : TextStep} → ((d : ℕ) → wanted s d ≡ dead) → r ≡ record { at = c; seen = Wrong } → OperandRead t c r
+  operand-dead f e =
+      rw e (record {
         stands = sees.stands;
         after = omega arith;
         on = λ q. absurd (q refl);
         is = λ d. ends-here t c.byte (want d) sees.there (wants-it d ∙ f d);
-      }
+      })
 
-  pub operator-dead : (d : ℕ) → follows s d ≡ dead → OperatorRead t c d (record { at = c; seen = Wrong })
-  operator-dead d f =
-      record {
+  pub operator-dead : {r : TextStep} (d : ℕ) → follows s d ≡ dead → r ≡ record { at = c; seen = Wrong } → OperatorRead t c d r
+  operator-dead d f e =
+      rw e (record {
         stands = sees.stands;
         after = omega arith;
         on = λ q p. absurd (q refl);
         is = ends-here t c.byte (got d) sees.there (follows-it d ∙ f);
-      }
+      })
 
-  module _ {x : TextCursor} (behind : Behind t c x) where
-    -- the sign was passed: what it makes of the machine is what the token says
-    pub operand-sign : (k : Token) → ((d : ℕ) → alive (wanted s d) ≡ true) → ((d : ℕ) → Moves t c.byte (want d) x.byte (wanted s d) → OperandIs t c.byte d k x.byte)
-        → OperandRead t c (record { at = x; seen = k })
-    operand-sign k a f =
-        let n = behind.next in
+  -- the sign was passed: what it makes of the machine is what the token says
+  module _ {r : TextStep} (seen : Token) (behind : Behind t c r.at × (r.seen ≡ seen)) where
+    pub operand-sign : ((d : ℕ) → alive (wanted s d) ≡ true) → ((d : ℕ) → Moves t c.byte (want d) r.at.byte (wanted s d) → OperandIs t c.byte d seen r.at.byte)
+        → OperandRead t c r
+    operand-sign a f =
+        let n = behind.0.next in
         record {
-          stands = behind.stands;
+          stands = behind.0.stands;
           after = omega arith;
           on = λ q. omega arith;
-          is = λ d. f d (moves-past t c x (want d) (wanted s d) behind sees.there (wants-it d) (a d));
+          is = λ d. subst (λ (z : Token). OperandIs t c.byte d z r.at.byte) (sym behind.1)
+              (f d (moves-past t c r.at (want d) (wanted s d) behind.0 sees.there (wants-it d) (a d)));
         }
 
-    pub operator-sign : (d : ℕ) (k : Token) (u : Mode) → follows s d ≡ u → alive u ≡ true → (Moves t c.byte (got d) x.byte u → OperatorIs t c.byte d k x.byte)
-        → OperatorRead t c d (record { at = x; seen = k })
-    operator-sign d k u e a f =
-        let n = behind.next in
+    pub operator-sign : (d : ℕ) (u : Mode) → follows s d ≡ u → alive u ≡ true → (Moves t c.byte (got d) r.at.byte u → OperatorIs t c.byte d seen r.at.byte)
+        → OperatorRead t c d r
+    operator-sign d u e a f =
+        let n = behind.0.next in
         record {
-          stands = behind.stands;
+          stands = behind.0.stands;
           after = omega arith;
           on = λ q p. omega arith;
-          is = f (moves-past t c x (got d) u behind sees.there (follows-it d ∙ e) a);
+          is = subst (λ (z : Token). OperatorIs t c.byte d z r.at.byte) (sym behind.1)
+              (f (moves-past t c r.at (got d) u behind.0 sees.there (follows-it d ∙ e) a));
         }
 
+  module _ {x : TextCursor} (behind : Behind t c x) where
     -- the first letter was passed, and then the rest of the word was read
     pub operand-word : (u : ℕ → Mode) {r : TextStep} → ((d : ℕ) → wanted s d ≡ u d) → ((d : ℕ) → alive (u d) ≡ true) → WordRead t x u r → OperandRead t c r
     operand-word u {r = r} e a w =

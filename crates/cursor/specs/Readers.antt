@@ -1,25 +1,11 @@
 -- What each reader has read, in terms of the machine and for any number of open brackets. Assumes nothing: these are definitions.
 use Rattle.std.specs.Prelude.{◌≡◌, true, List, ℕ, suc, ◌-◌, ◌≤◌, ◌<◌, drop}
-use Rattle.text.specs.declared.Sign.{Sign}
-use Rattle.text.specs.declared.Sign.TheVariants.{Blank, Prefix, Infix, Open, Close, Word, Letter, Digit, Other}
 use Rattle.text.specs.Machine.{Mode, want, got, run, final}
 use Rattle.cursor.specs.declared.TextCursor.{TextCursor}
 use Rattle.cursor.specs.declared.Token.{Token}
 use Rattle.cursor.specs.declared.Token.TheVariants.{Space, Operator, Bracket, Operand, Finished, Wrong}
 use Rattle.cursor.specs.declared.TextStep.{TextStep}
 use Rattle.cursor.specs.Positions.{Stands, Moves, Ends}
-
--- the digit that a sign is, or ten
-abbrev pub digit_in : Sign → ℕ
-digit_in Blank = 10
-digit_in (Prefix o) = 10
-digit_in (Infix o) = 10
-digit_in Open = 10
-digit_in Close = 10
-digit_in (Word v) = 10
-digit_in Letter = 10
-digit_in (Digit n) = n
-digit_in Other = 10
 
 -- blanks were passed, whatever was wanted
 pub record GapRead (t : List ℕ) (c e : TextCursor) : Type 0 where

@@ -7,7 +7,6 @@ use mathlib.Core.Logic.{◌⊎◌, inl, inr}
 use mathlib.Core.Option.{Option, none, some}
 use Prim.Native.Nat.{ℕ, ◌+◌, ◌<◌, ◌≤◌}
 use native.Mathlib.Omega.{arith}
-use native.Mathlib.Decide.{ℕ_discrete}
 use lib.Dec.{eqb}
 use borrow.Author.Tests.{eq-eqb, ne_eqb, eqb-true, eqb-false}
 use Rattle.lists.proofs.Tests.{either-right}
@@ -15,9 +14,8 @@ use Rattle.lists.specs.Tests.{pick, either}
 use Rattle.limits.specs.Limits.{boards_most}
 use Rattle.ltl.specs.Formula.{Formula}
 use Rattle.network.specs.Scores.{highest}
-use Rattle.scores.specs.Scored.{one_scored}
-use Rattle.scores.proofs.Alone.{alone-board, alone-stays}
-use Rattle.cutting.specs.Cuts.{looked_as, code_of, choice_of, place_by, place_of, stays_on, cut_by, Lies}
+use Rattle.scores.specs.Choice.{code_of, picked_by, stays_on}
+use Rattle.cutting.specs.Cuts.{looked_as, place_by, place_of, cut_by, Lies}
 
 -- ---- a part stays or is cut
 pub stays-none : (board : ℕ) → stays_on boards_most board ≡ true
@@ -59,14 +57,6 @@ looked-by (some c) b place stays cut n m w below stay cuts = go (eqb c b) refl
         rw (stays-board c place (λ e. omega arith), ne_eqb c place (λ e. d (e ∙ p))) (cuts c refl)
 
 -- ---- one cut or none
-pub cut-none : (c board : ℕ) → stays_on c board ≡ true → cut_by c board ≡ 0
-unfolding cut_by pick
-cut-none c board e = rw e
-
-pub cut-one : (c board : ℕ) → stays_on c board ≡ false → cut_by c board ≡ 1
-unfolding cut_by pick
-cut-one c board e = rw e
-
 pub cut-few : (c board : ℕ) → cut_by c board ≤ 1
 unfolding cut_by pick
 cut-few c board = go (stays_on c board)
@@ -95,13 +85,5 @@ place-given on choice n = rw (ne_eqb on boards_most n)
 pub place_is : (choose : Formula → Option ℕ) (f g : Formula) (on b : ℕ) (counts : List ℕ) → highest none 0 0 counts ≡ choose g
     → (choose g ≡ none → choose f ≡ none) → Lies choose g on b → (place_of on counts ≡ b) ⊎ (choose f ≡ none)
 place_is choose f g on b counts e h (inl (o, inl z)) = inr (h z)
-place_is choose f g on b counts e h (inl (o, inr z)) = inl (place-own on (choice_of counts) o ∙ ap code_of (e ∙ z))
-place_is choose f g on b counts e h (inr (o, l)) = inl (place-given on (choice_of counts) (λ q. omega arith) ∙ o)
-
--- ---- the choice of a node without operands
-pub choice-alone : (owner : ℕ) → owner ≤ boards_most → owner ≡ choice_of (one_scored owner)
-choice-alone owner l = go (ℕ_discrete owner boards_most)
-  where
-    go : Dec (owner ≡ boards_most) → owner ≡ choice_of (one_scored owner)
-    go (yes e) = rw e (sym (ap code_of alone-stays))
-    go (no n) = sym (ap code_of (alone-board owner (omega arith)))
+place_is choose f g on b counts e h (inl (o, inr z)) = inl (place-own on (picked_by counts) o ∙ ap code_of (e ∙ z))
+place_is choose f g on b counts e h (inr (o, l)) = inl (place-given on (picked_by counts) (λ q. omega arith) ∙ o)

@@ -20,7 +20,8 @@ use Rattle.scores.specs.Tallies.{ScoredAs}
 use Rattle.scores.proofs.Added.{added-few}
 use Rattle.scores.proofs.Counting.{scored-one, scored-two, scored-chosen}
 use Rattle.cutting.specs.declared.LaidPart.{LaidPart}
-use Rattle.cutting.specs.Cuts.{looked_as, cuts_on, code_of, choice_of, place_of, cut_by, looked_cuts, Lies, Parted, Bare, Joinable, Joins}
+use Rattle.scores.specs.Choice.{code_of, picked_by}
+use Rattle.cutting.specs.Cuts.{looked_as, cuts_on, place_of, cut_by, looked_cuts, Lies, Parted, Bare, Joinable, Joins}
 use Rattle.cutting.proofs.Choices.{chosen-below, chosen-one, chosen-left, chosen-right}
 use Rattle.cutting.proofs.Looking.{looked-by, cut-few, cut-more, place_is}
 
@@ -43,8 +44,8 @@ module _ {owner : List ℕ} {f : Formula} {x : LaidPart} (h : Parted owner f boa
   looked-few board = let l = h.few in let c = cut-few x.choice board in omega arith
 
 -- ---- by the top node
-bare-chosen : {counts : List ℕ} (x : LaidPart) → Bare x counts → x.choice ≡ choice_of x.scores.counts
-bare-chosen x e = e.1 ∙ ap choice_of (sym e.0)
+bare-chosen : {counts : List ℕ} (x : LaidPart) → Bare x counts → x.choice ≡ picked_by x.scores.counts
+bare-chosen x e = e.1 ∙ ap picked_by (sym e.0)
 
 module _ {owner counts : List ℕ} {on : ℕ} {x : LaidPart} (e : Bare x counts) where
   pub parted-leaf : (a : Leaf) → ScoredAs owner (leaf a) counts → Parted owner (leaf a) on x
@@ -63,7 +64,7 @@ unfolding cuts_on
 parted-not {owner} {f} {a} {on} h s d e =
     record {
       scored = rw s (scored-one Not h.scored);
-      choice-is = d ∙ h.choice-is ∙ ap choice_of (sym s);
+      choice-is = d ∙ h.choice-is ∙ ap picked_by (sym s);
       few = let l = looked-few h (place_of on a.scores.counts) in omega arith;
       cuts_are = λ p q masks o w b l.
           e ∙ sym (looked-is h p q masks o w (one Not f) on b a.scores.counts (scored-chosen p q masks (scored-one Not h.scored) o w) (λ z. sym (chosen-one masks Not f) ∙ z) l);

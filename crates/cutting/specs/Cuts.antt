@@ -1,8 +1,8 @@
 -- The cuts of a part: how many slots are cut out of it where it is laid on a board, those of held slots apart. Assumes nothing:
 -- these are definitions.
-use Rattle.std.specs.Prelude.{◌≡◌, ℕ, ◌+◌, ◌<◌, ◌^◌, Bool, List, ◌⊎◌, get_or, eqb}
+use Rattle.std.specs.Prelude.{◌≡◌, ℕ, ◌+◌, ◌<◌, ◌^◌, List, ◌⊎◌, get_or, eqb}
 use Rattle.std.proofs.Math.Option.{Option, none, some}
-use Rattle.lists.specs.Tests.{pick, either}
+use Rattle.lists.specs.Tests.{pick}
 use Rattle.kinds.specs.declared.Unary.TheVariants.{Not, Next, Ever}
 use Rattle.kinds.specs.declared.Unary.{Unary}
 use Rattle.kinds.specs.declared.Binary.{Binary}
@@ -10,8 +10,9 @@ use Rattle.kinds.specs.declared.Binary.TheVariants.{Joined, Until}
 use Rattle.limits.specs.Limits.{boards_most, nodes_room}
 use Rattle.ltl.specs.Formula.{Formula, leaf, one, two, size, Within}
 use Rattle.ltl.specs.Progression.{unfolded}
-use Rattle.network.specs.Scores.{highest, chosen}
+use Rattle.network.specs.Scores.{chosen}
 use Rattle.nodes.specs.Begins.{Front}
+use Rattle.scores.specs.Choice.{picked_by, stays_on}
 use Rattle.scores.specs.Scored.{one_scored, added, counts_below}
 use Rattle.scores.specs.Owned.{Owned}
 use Rattle.scores.specs.Tallies.{ScoredAs}
@@ -34,25 +35,12 @@ cuts_on choose (two (Joined j) f g) b =
 cuts_on choose (two Until f g) b = 0
 
 -- ---- boards as numbers
--- a choice as a number: one more than the last board where the part stays
-abbrev pub code_of : Option ℕ → ℕ
-code_of none = boards_most
-code_of (some b) = b
-
--- the board that scores choose, as a number
-abbrev pub choice_of : List ℕ → ℕ
-choice_of counts = code_of (highest none 0 0 counts)
-
 -- the board that a part is laid on: the one given or, where none is given, its own choice
 unfoldable pub place_by : ℕ → ℕ → ℕ
 place_by on choice = pick (eqb on boards_most) choice on
 
 abbrev pub place_of : ℕ → List ℕ → ℕ
-place_of on counts = place_by on (choice_of counts)
-
--- a part of this choice stays in a slot on the board
-unfoldable pub stays_on : ℕ → ℕ → Bool
-stays_on choice board = either (eqb choice boards_most) (eqb choice board)
+place_of on counts = place_by on (picked_by counts)
 
 -- 1 where it is cut
 unfoldable pub cut_by : ℕ → ℕ → ℕ
@@ -70,7 +58,7 @@ Lies choose f on b = ((on ≡ boards_most) × Rests choose f b) ⊎ ((on ≡ b) 
 -- a part's scores, their choice and its cuts, by whatever masks the table of owners belongs to
 pub record Parted (owner : List ℕ) (g : Formula) (on : ℕ) (x : LaidPart) : Type 0 where
   pub scored : ScoredAs owner g x.scores.counts
-  pub choice-is : x.choice ≡ choice_of x.scores.counts
+  pub choice-is : x.choice ≡ picked_by x.scores.counts
   pub few : x.cuts < size g
   pub cuts_are : (p q : ℕ) (masks : List ℕ) → Owned p masks owner → Within p q g → (b : ℕ) → Lies (chosen masks) g on b → x.cuts ≡ cuts_on (chosen masks) g b
 
@@ -85,7 +73,7 @@ Cutting owner s on r = (f : Formula) (rest : List ℕ) → Front s f rest → Wa
 
 -- a part of these counts, out of which nothing is cut
 abbrev pub Bare : LaidPart → List ℕ → Type 0
-Bare x counts = (x.scores.counts ≡ counts) × (x.choice ≡ choice_of counts) × (x.cuts ≡ 0)
+Bare x counts = (x.scores.counts ≡ counts) × (x.choice ≡ picked_by counts) × (x.cuts ≡ 0)
 
 -- ---- two parts under a join
 -- their sums are no overflow
@@ -99,7 +87,7 @@ looked_cuts a board = a.cuts + cut_by a.choice board
 
 pub record Joins (a b : LaidPart) (on : ℕ) (r : LaidPart) : Type 0 where
   pub scores : r.scores.counts ≡ added a.scores.counts b.scores.counts
-  pub choice-is : r.choice ≡ choice_of r.scores.counts
+  pub choice-is : r.choice ≡ picked_by r.scores.counts
   pub cuts : r.cuts ≡ looked_cuts a (place_of on r.scores.counts) + looked_cuts b (place_of on r.scores.counts)
 
 -- ---- a node on top of its operands

@@ -4,19 +4,14 @@
 #![tactic(auto)]
 
 ghost use Rattle.std.specs.Prelude.{◌≡◌, ◌+◌, ◌<◌, ◌≤◌, ◌^◌, length};
-ghost use Rattle.std.proofs.Math.Option.{none};
 ghost use Rattle.limits.specs.Limits.{boards_most, nodes_room};
-ghost use Rattle.network.specs.Scores.{highest};
 ghost use Rattle.nodes.specs.Begins.{Begins};
 ghost use Rattle.scores.specs.Owned.{Table};
 ghost use Rattle.scores.specs.Scored.{Few};
-ghost use Rattle.cutting.specs.Cuts.{code_of, place_by, stays_on, cut_by, looked_cuts, Bare, Joinable, Joins, OverNone, Countable, OverOne, Pairable, OverTwo, Cutting};
+ghost use Rattle.cutting.specs.Cuts.{place_by, cut_by, looked_cuts, Bare, Joinable, Joins, OverNone, Countable, OverOne, Pairable, OverTwo, Cutting};
 
 use kinds::{Binary, Kind, Unary};
-use scores::{BoardChoice, Scores};
-
-// Stands for a board: the part's own choice where a board is asked for, and that it stays where a choice is told.
-pub const STAYS: u8 = 16;
+use scores::{STAYS, Scores, stays_on};
 
 // A part that is laid on a board: its scores, the board that they choose, and how many parts are cut out of it where it is laid. The
 // choice is looked at by the part's own node and by the one above, and is made once.
@@ -35,36 +30,16 @@ pub struct CutWalk {
     pub part: LaidPart,
 }
 
-// The board that scores choose, as a number.
-pub fn choice_of(scores: Scores) -> u8
-    requires { Few scores.counts }
-    ensures { result ≡ code_of (highest none 0 0 scores.counts) }
-{
-    let c = scores.choice();
-    match c {
-        BoardChoice::Board(b) => b,
-        BoardChoice::Stays => STAYS,
-    }
-}
-
-// The board that a part of this choice is laid on: the one given, or its own.
+// The board that a part of this choice is laid on: the one given or, where that is STAYS, its own.
+#[tactic(auto, unfolding(crate::specs::Cuts::place_by, lists::specs::Tests::pick))]
 pub fn place_of(choice: u8, on: u8) -> u8
     ensures { result ≡ place_by on choice }
 {
     if on == STAYS { choice } else { on }
 }
 
-// Whether a part of this choice stays in a slot on the board.
-pub fn stays_on(choice: u8, board: u8) -> bool
-    ensures { result ≡ stays_on choice board }
-{
-    if choice == STAYS {
-        return true;
-    }
-    choice == board
-}
-
 // The cuts that looking at a part of this choice makes in a slot on the board: one, or none where it stays.
+#[tactic(auto, unfolding(crate::specs::Cuts::cut_by, lists::specs::Tests::pick))]
 fn cut_by(choice: u8, board: u8) -> usize
     ensures { (result ≡ cut_by choice board) × (result ≤ 1) }
 {
@@ -86,14 +61,12 @@ fn joined(a: LaidPart, b: LaidPart, on: u8) -> LaidPart
     requires { Joinable a b }
     ensures { Joins a b on result }
 {
-    let left = a.scores;
-    let right = b.scores;
-    let scores = left.plus(right);
-    let choice = choice_of(scores);
+    let scores = a.scores.plus(b.scores);
+    let choice = scores.choice_or_stays();
     let board = place_of(choice, on);
     LaidPart {
-        scores: scores,
-        choice: choice,
+        scores,
+        choice,
         cuts: a.looked(board) + b.looked(board),
     }
 }
@@ -105,7 +78,7 @@ fn under_next(raw: Scores) -> LaidPart
 {
     LaidPart {
         scores: raw,
-        choice: choice_of(raw),
+        choice: raw.choice_or_stays(),
         cuts: 0,
     }
 }
@@ -118,7 +91,7 @@ fn over_none(owner: u8) -> CutWalk
     let raw = Scores::one(owner);
     CutWalk {
         read: 1,
-        raw: raw,
+        raw,
         part: LaidPart {
             scores: raw,
             choice: owner,
@@ -137,27 +110,21 @@ fn over_one(o: Unary, a: CutWalk, on: u8) -> CutWalk
     let read = 1 + a.read;
     match o {
         Unary::Not => {
-            let scores = part.scores;
-            let choice = part.choice;
-            let cuts = part.looked(place_of(choice, on));
+            let cuts = part.looked(place_of(part.choice, on));
             CutWalk {
-                read: read,
-                raw: raw,
-                part: LaidPart {
-                    scores: scores,
-                    choice: choice,
-                    cuts: cuts,
-                },
+                read,
+                raw,
+                part: LaidPart { cuts, ..part },
             }
         }
         Unary::Next => CutWalk {
-            read: read,
-            raw: raw,
+            read,
+            raw,
             part: under_next(raw),
         },
         Unary::Ever(_) => CutWalk {
-            read: read,
-            raw: raw,
+            read,
+            raw,
             part: joined(part, under_next(raw), on),
         },
     }
@@ -168,21 +135,19 @@ fn over_two(o: Binary, a: CutWalk, c: CutWalk, on: u8) -> CutWalk
     requires { Pairable a c }
     ensures { OverTwo o a c on result }
 {
-    let left = a.raw;
-    let right = c.raw;
-    let raw = left.plus(right);
+    let raw = a.raw.plus(c.raw);
     let f = a.part;
     let g = c.part;
     let read = 1 + a.read + c.read;
     match o {
         Binary::Joined(_) => CutWalk {
-            read: read,
-            raw: raw,
+            read,
+            raw,
             part: joined(f, g, on),
         },
         Binary::Until => CutWalk {
-            read: read,
-            raw: raw,
+            read,
+            raw,
             part: joined(g, joined(f, under_next(raw), STAYS), on),
         },
     }
@@ -193,7 +158,7 @@ pub fn count_cuts(s: &[u8], owner: &[u8], on: u8) -> CutWalk
     requires { Begins s.now × Table owner.now × (length s.now ≤ nodes_room) }
     ensures { Cutting owner.now s.now on result }
 {
-    let k = Kind::of(s[0]);
+    let k = Kind::from(s[0]);
     match k {
         Kind::Zero(a) => over_none(scores::owner_of(a, owner)),
         Kind::One(o) => over_one(o, count_cuts(&s[1..], owner, STAYS), on),

@@ -1,6 +1,8 @@
 -- Two ways through a tick by the calls' promises, by which the boards were given the same samples: they close to one network
 -- (`networks-same`), from one state to the same bytes (`bytes_same`; under one event `event-same`), and where the close is all that is left it
 -- answers and leaves the same (`close-same`). Assumes nothing.
+use Rattle.std.specs.Prelude.{Result, Ok, Err, ⊤}
+use Rattle.answers.specs.declared.Refusal.{Refusal}
 use mathlib.Core.Path.{◌≡◌, refl, sym, ap, ◌∙◌, subst}
 use mathlib.Core.Bool.{true}
 use mathlib.Core.List.{List}
@@ -8,8 +10,6 @@ use Prim.Native.Nat.{ℕ, ◌<◌}
 use native.Mathlib.Omega.{arith}
 use lib.ListN.{length}
 use Rattle.answers.specs.Said.{left}
-use Rattle.answers.specs.declared.Outcome.{Outcome}
-use Rattle.answers.specs.declared.Outcome.TheVariants.{Done}
 use Rattle.answers.proofs.Answers.{said_outcome-injective}
 use Rattle.ltl.specs.Formula.{Formula}
 use Rattle.ltl.specs.Meaning.{Event}
@@ -31,7 +31,7 @@ use Rattle.demand.proofs.Given.{sample-given}
 use Rattle.demand.proofs.Watches.{tick-of, watched}
 
 -- an accepted close has found the tick done
-close-done : (t second s' : List ℕ) → Closes t second s' Done → done_in t ≡ true
+close-done : (t second s' : List ℕ) → Closes t second s' (Ok tt) → done_in t ≡ true
 close-done t second s' x = (close_passed t _ (sym x.says)).done
 
 module _ (file : List ℕ) (us : List Event) (s : List ℕ) (w : Watched file us s) where
@@ -73,7 +73,7 @@ module _ (file : List ℕ) (us : List Event) (s : List ℕ) (w : Watched file us
   event-same e a b x y = bytes_same e e a b x y (λ c v u g k. x.given c v g ∙ sym (y.given c u k))
 
   pub close-same : (t u : List ℕ) (c : Called s t) (d : Called s u) → done_in t ≡ true → done_in u ≡ true → SameGiven c d
-      → (second a b : List ℕ) (x y : Outcome) → Closes t second a x → Closes u second b y → (x ≡ y) × (a ≡ b)
+      → (second a b : List ℕ) (x y : Result ⊤ Refusal) → Closes t second a x → Closes u second b y → (x ≡ y) × (a ≡ b)
   close-same t u c d done-t done-u same second a b x y k l =
       let boards = samples-same file us s w refl t u c d done-t done-u same in
       let says = answers_agree masks p rule us s started p rule us s started refl t u (called c) (called d) done-t done-u boards refl refl (length second) in

@@ -1,6 +1,7 @@
 -- No promise is empty: each check of a call refuses with a number of the table, so that whatever a call says is said by some outcome
 -- (`sample-outcome`, `step-outcome`, `close-outcome`, `load-outcome`; for any list of checks `order-either`). And for every state and number
 -- there is an outcome of a sample and of a step that its promise allows (`sample-allowed`, `step-allowed`). Assumes nothing.
+use Rattle.std.specs.Prelude.{Result, Ok, Err, ⊤}
 use mathlib.Core.Path.{◌≡◌, refl, sym, ap}
 use mathlib.Core.Bool.{Bool, true, false}
 use mathlib.Core.List.{List, [], ◌∷◌}
@@ -9,8 +10,6 @@ use Prim.Native.Nat.{ℕ}
 use Rattle.lists.specs.Tests.{pick}
 use Rattle.answers.specs.declared.Refusal.{Refusal}
 use Rattle.answers.specs.declared.Refusal.TheVariants.{Length, Version, Range, Offset, Masks, Formula, Slots, Nodes, State, Finished, Nowhere, Outside, Already, Unready, Ticks}
-use Rattle.answers.specs.declared.Outcome.{Outcome}
-use Rattle.answers.specs.declared.Outcome.TheVariants.{Refused, Done}
 use Rattle.answers.specs.Said.{Said, accepted, refused, number_of, said_outcome, Check, in_order}
 use Rattle.state.specs.Calls.{sample_says, sample_leaves, step_says, step_leaves, close_says}
 use Rattle.loading.specs.Load.{load_says}
@@ -37,10 +36,10 @@ order-either (c ∷ cs) n vs = go c.ok (order-either cs n.1 vs)
 
 -- some outcome says it
 abbrev pub SomeOutcome : Said → Type 0
-SomeOutcome a = (answer : Outcome) × (said_outcome answer ≡ a)
+SomeOutcome a = (answer : Result ⊤ Refusal) × (said_outcome answer ≡ a)
 
 either-outcome : (a : Said) → Either a [] → SomeOutcome a
-either-outcome a = ⊎_elim (λ e. (Done, sym e)) (λ r. (Refused r.0, sym r.1))
+either-outcome a = ⊎_elim (λ e. ((Ok tt), sym e)) (λ r. (Err r.0, sym r.1))
 
 pub sample-outcome : (s : List ℕ) (board bits : ℕ) → SomeOutcome (sample_says s board bits)
 unfolding sample_says
@@ -61,8 +60,8 @@ load-outcome file room =
     either-outcome _
     (order-either _ ((Length, refl), ((Version, refl), ((Range, refl), ((Offset, refl), ((Masks, refl), ((Formula, refl), ((Slots, refl), ((Nodes, refl), tt)))))))) [])
 
-pub sample-allowed : (s : List ℕ) (board bits : ℕ) → (answer : Outcome) × Samples s board bits (sample_leaves s board bits) answer
+pub sample-allowed : (s : List ℕ) (board bits : ℕ) → (answer : Result ⊤ Refusal) × Samples s board bits (sample_leaves s board bits) answer
 sample-allowed s board bits = let r = sample-outcome s board bits in (r.0, record { says = r.1; leaves = refl })
 
-pub step-allowed : (s : List ℕ) (slot : ℕ) → (answer : Outcome) × StepsSlot s slot (step_leaves s slot) answer
+pub step-allowed : (s : List ℕ) (slot : ℕ) → (answer : Result ⊤ Refusal) × StepsSlot s slot (step_leaves s slot) answer
 step-allowed s slot = let r = step-outcome s slot in (r.0, record { says = r.1; leaves = refl })

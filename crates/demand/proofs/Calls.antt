@@ -1,9 +1,9 @@
 -- Whatever calls do that meet their promises, they do to the state what the definitions say that the promises cite (`called`). And the
 -- other way for accepted samples and steps (`made`). Assumes nothing.
+use Rattle.std.specs.Prelude.{Ok, Err}
 use mathlib.Core.Path.{refl, sym, ◌∙◌, subst}
 use mathlib.Core.List.{List}
 use Prim.Native.Nat.{ℕ}
-use Rattle.answers.specs.declared.Outcome.TheVariants.{Done}
 use Rattle.watching.specs.Watch.{Calls, none, sample, step}
 use Rattle.watching.specs.Claims.{Accepted}
 use Rattle.demand.specs.Called.{Called, nothing, sampled, stepped, asked, closed, load-refused, close-refused, write-refused, parse-refused, print-refused, central-refused, read-refused, capture-refused, capture-second-refused, report-refused, add-refused, mend-refused, mend-marks-refused}
@@ -35,5 +35,5 @@ called {s} (mend-marks-refused {t = t} c recording mended mended' why p) = subst
 -- accepted calls over the definitions are allowed by the promises
 pub made : {s t : List ℕ} (c : Calls s t) → Accepted c → (d : Called s t) × AllAccepted d
 made none a = (nothing, tt)
-made (sample c board bits) a = let d = made c a.0 in (sampled d.0 board bits Done (record { says = sym a.1; leaves = refl }), (d.1, refl))
-made (step c k) a = let d = made c a.0 in (stepped d.0 k Done (record { says = sym a.1; leaves = refl }), (d.1, refl))
+made (sample c board bits) a = let d = made c a.0 in (sampled d.0 board bits (Ok tt) (record { says = sym a.1; leaves = refl }), (d.1, refl))
+made (step c k) a = let d = made c a.0 in (stepped d.0 k (Ok tt) (record { says = sym a.1; leaves = refl }), (d.1, refl))

@@ -2,11 +2,12 @@
 -- (`captured-watched`), so that the third demand holds of it (`captured-demanded`); its verdict is that of one place (`captured-verdict`).
 -- Until a verdict it is accepted (`captured-pending`), and it stops as a watch does (`captured-stops`). From any state it comes to what single
 -- calls come to (`captured-singly`). Assumes nothing.
+use Rattle.std.specs.Prelude.{Result, Ok, Err, ⊤}
+use Rattle.answers.specs.declared.Refusal.{Refusal}
 use mathlib.Core.Path.{◌≡◌, sym, ap, ◌∙◌, subst}
 use mathlib.Core.List.{List, ◌++◌}
 use Prim.Native.Nat.{ℕ}
 use lib.ListN.{length, take}
-use Rattle.answers.specs.declared.Outcome.{Outcome}
 use Rattle.answers.specs.declared.Verdict.TheVariants.{Pending}
 use Rattle.ltl.specs.Meaning.{Event}
 use Rattle.rules.specs.RuleFile.{propositions_in_file, masks_in_file}
@@ -15,8 +16,6 @@ use Rattle.keeping.proofs.Finished.{unfinished-pending}
 use Rattle.loading.specs.Load.{start_in}
 use Rattle.course.specs.Course.{Course}
 use Rattle.capturing.specs.declared.Captured.{Captured}
-use Rattle.capturing.specs.declared.CaptureAnswer.{CaptureAnswer}
-use Rattle.capturing.specs.declared.CaptureAnswer.TheVariants as said
 use Rattle.capturing.specs.Capture.{Captures}
 use Rattle.watching.proofs.Ticked.{watch-started}
 use Rattle.watching.proofs.Asking.{pending-unfinished}
@@ -36,7 +35,7 @@ use Rattle.capturing.proofs.Determined.{outcome-injective}
 use Rattle.demand.proofs.Capturing.{captured-where, capture-passed, may-length}
 
 -- ---- of a watch
-module _ {file : List ℕ} {us : List Event} {s : List ℕ} (w : Watched file us s) {second events s' second' : List ℕ} {c : Captured} (x : Captures s second events s' second' (said.Captured c)) where
+module _ {file : List ℕ} {us : List Event} {s : List ℕ} (w : Watched file us s) {second events s' second' : List ℕ} {c : Captured} (x : Captures s second events s' second' (Ok c)) where
   pub captured-watched : Watched file (us ++ take c.closed events) s'
   captured-watched = subst (λ (r : Course). Watched file (us ++ take r.closed events) r.leaves) (sym (capture-passed x).ran) (coursed-watched w events)
 
@@ -64,12 +63,12 @@ captured-may {file} {us} {s} w second pending long =
     }
 
 pub captured-pending : {file : List ℕ} {us : List Event} {s : List ℕ} → Watched file us s → (standing file us s).verdict ≡ Pending
-    → {second events s' second' : List ℕ} {answer : CaptureAnswer} → length second ≡ state_length (form_in s) → Captures s second events s' second' answer → (c : Captured) × (answer ≡ said.Captured c)
+    → {second events s' second' : List ℕ} {answer : Result Captured Refusal} → length second ≡ state_length (form_in s) → Captures s second events s' second' answer → (c : Captured) × (answer ≡ Ok c)
 captured-pending w pending {second} long x = (captured-where x).0 (captured-may w second pending long)
 
 -- ---- of any state
-pub captured-singly : {s second events s' second' : List ℕ} {c : Captured} → Captures s second events s' second' (said.Captured c)
-    → (closed : ℕ) (answer : Outcome) (last : List ℕ) → RunSingly s second events closed answer last → (c.closed ≡ closed) × (c.stop ≡ answer) × (s' ≡ last)
+pub captured-singly : {s second events s' second' : List ℕ} {c : Captured} → Captures s second events s' second' (Ok c)
+    → (closed : ℕ) (answer : Result ⊤ Refusal) (last : List ℕ) → RunSingly s second events closed answer last → (c.closed ≡ closed) × (c.stop ≡ answer) × (s' ≡ last)
 captured-singly {c = c} x closed answer last y =
     let p = capture-passed x in
     let e = singly-coursed p.may.passes (may-length p.may) y in

@@ -1,5 +1,6 @@
 -- Splitting the events over two captures gives the same as one capture of them all: `captured-split`. It holds of any state and second
 -- buffer. Assumes nothing.
+use Rattle.std.specs.Prelude.{Result, Ok, Err, ⊤}
 use mathlib.Core.Path.{◌≡◌, refl, sym, ap, ◌∙◌, subst}
 use mathlib.Core.Bool.{Bool, true, false, not}
 use mathlib.Core.List.{List, ◌++◌}
@@ -10,8 +11,6 @@ use borrow.Author.Tests.{eqb-true, eq-eqb}
 use Rattle.lists.specs.Tests.{pick, both}
 use Rattle.lists.proofs.Tests.{no_true, both-0, both-1}
 use Rattle.answers.specs.declared.Refusal.{Refusal}
-use Rattle.answers.specs.declared.Outcome.{Outcome}
-use Rattle.answers.specs.declared.Outcome.TheVariants.{Done}
 use Rattle.answers.specs.Said.{said_outcome}
 use Rattle.state.specs.Form.{form_of, state_length}
 use Rattle.state.specs.Clauses.{state_ok}
@@ -22,8 +21,6 @@ use Rattle.course.specs.Resumed.{resumed}
 use Rattle.course.proofs.Splitting.{coursed-split}
 use Rattle.course.proofs.Stops.{coursed-passes, coursed-length}
 use Rattle.capturing.specs.declared.Captured.{Captured}
-use Rattle.capturing.specs.declared.CaptureAnswer.{CaptureAnswer}
-use Rattle.capturing.specs.declared.CaptureAnswer.TheVariants as said
 use Rattle.capturing.specs.Capture.{Captures}
 use Rattle.capturing.proofs.Determined.{outcome-injective, captures-determined}
 use Rattle.watching.proofs.Asking.{pending-unfinished}
@@ -51,7 +48,7 @@ not-true true e = absurd (no_true e)
 -- ---- the split
 module _ {s second xs t r : List ℕ} where
   -- the first capture goes on
-  module _ {c : Captured} (p : CapturePassed s second xs t r c) (h : RanThrough (said.Captured c) c) where
+  module _ {c : Captured} (p : CapturePassed s second xs t r c) (h : RanThrough (Ok c) c) where
     may-go : MayCapture t r
     may-go =
         let ok = p.may.passes in
@@ -64,7 +61,7 @@ module _ {s second xs t r : List ℕ} where
 
     joined : (ys : List ℕ) {t' r' : List ℕ} {d : Captured} → CapturePassed t r ys t' r' d → CapturePassed s second (xs ++ ys) t' r' (record { closed = c.closed + d.closed; verdict = d.verdict; stop = d.stop })
     joined ys {t'} {r'} {d} q =
-        let z : (said_outcome c.stop).number ≡ 0 = ap (λ (a : Outcome). (said_outcome a).number) h.stops in
+        let z : (said_outcome c.stop).number ≡ 0 = ap (λ (a : Result ⊤ Refusal). (said_outcome a).number) h.stops in
         let on = resumed-on (ran_to c t) ys z may-go.unfinished in
         record {
           may = p.may;
@@ -76,7 +73,7 @@ module _ {s second xs t r : List ℕ} where
         }
 
   -- it stopped before
-  stopped-same : (ys : List ℕ) {c : Captured} → CapturePassed s second xs t r c → (RanThrough (said.Captured c) c → ⊥) → Captures s second (xs ++ ys) t r (said.Captured c)
+  stopped-same : (ys : List ℕ) {c : Captured} → CapturePassed s second xs t r c → (RanThrough (Ok c) c → ⊥) → Captures s second (xs ++ ys) t r (Ok c)
   stopped-same ys {c} p stopped =
       capture-of
       (record { may = p.may; ran = p.ran ∙ sym (coursed-split s xs ys ∙ resumed-stays (coursed s xs) ys (go (through (coursed s xs)) refl)); verdict = p.verdict; clears = p.clears })
@@ -86,31 +83,31 @@ module _ {s second xs t r : List ℕ} where
       go true e =
           let z = ap (λ (q : Course). q.refusal) p.ran ∙ eqb-true _ _ (both-0 _ _ e) in
           let f = ap (λ (q : Course). finished_in q.leaves) p.ran ∙ not-true _ (both-1 _ _ e) in
-          absurd (stopped (record { accepts = refl; stops = outcome-injective c.stop Done z; pending = p.verdict ∙ unfinished-pending t f }))
+          absurd (stopped (record { accepts = refl; stops = outcome-injective c.stop (Ok tt) z; pending = p.verdict ∙ unfinished-pending t f }))
 
-pub captured-split : {s second xs ys s' second' t r : List ℕ} {a b : CaptureAnswer} → Captures s second (xs ++ ys) s' second' a → Captures s second xs t r b → Splits ys s' second' a t r b
+pub captured-split : {s second xs ys s' second' t r : List ℕ} {a b : Result Captured Refusal} → Captures s second (xs ++ ys) s' second' a → Captures s second xs t r b → Splits ys s' second' a t r b
 captured-split {s} {second} {xs} {ys} {s'} {second'} {t} {r} {a} {b} x y =
     record {
       goes_on = λ c h t' r' answer z.
-          let p = capture-passed (subst (λ (n : CaptureAnswer). Captures s second xs t r n) h.accepts y) in
-          let o : RanThrough (said.Captured c) c = record { accepts = refl; stops = h.stops; pending = h.pending } in
+          let p = capture-passed (subst (λ (n : Result Captured Refusal). Captures s second xs t r n) h.accepts y) in
+          let o : RanThrough (Ok c) c = record { accepts = refl; stops = h.stops; pending = h.pending } in
           let d = (captured-where z).0 (may-go p o) in
-          let q = capture-passed (subst (λ (n : CaptureAnswer). Captures t r ys t' r' n) d.1 z) in
+          let q = capture-passed (subst (λ (n : Result Captured Refusal). Captures t r ys t' r' n) d.1 z) in
           let same = captures-determined s second (xs ++ ys) s' t' second' r' a _ x (capture-of (joined p o ys q)) in
           (d.0, d.1, same.0, same.1, same.2);
       stays = λ h. stays b y h;
     }
   where
-    same-as : (n : CaptureAnswer) → Captures s second (xs ++ ys) t r n → (a ≡ n) × (s' ≡ t) × (second' ≡ r)
+    same-as : (n : Result Captured Refusal) → Captures s second (xs ++ ys) t r n → (a ≡ n) × (s' ≡ t) × (second' ≡ r)
     same-as n z = captures-determined s second (xs ++ ys) s' t second' r a n x z
 
-    refused-same : (why : Refusal) → Captures s second xs t r (said.Refused why) → CaptureCase s second → (a ≡ said.Refused why) × (s' ≡ t) × (second' ≡ r)
+    refused-same : (why : Refusal) → Captures s second xs t r (Err why) → CaptureCase s second → (a ≡ Err why) × (s' ≡ t) × (second' ≡ r)
     refused-same why z (may-run m) = absurd (may-refused m z)
     refused-same why z (not-run n f) =
-        let u = captures-determined s second xs t s r second (said.Refused why) (said.Refused n) z (f xs) in
-        let v = captures-determined s second (xs ++ ys) s' s second' second a (said.Refused n) x (f (xs ++ ys)) in
+        let u = captures-determined s second xs t s r second (Err why) (Err n) z (f xs) in
+        let v = captures-determined s second (xs ++ ys) s' s second' second a (Err n) x (f (xs ++ ys)) in
         (v.0 ∙ sym u.0, v.1 ∙ sym u.1, v.2 ∙ sym u.2)
 
-    stays : (n : CaptureAnswer) → Captures s second xs t r n → ((c : Captured) → RanThrough n c → ⊥) → (a ≡ n) × (s' ≡ t) × (second' ≡ r)
-    stays (said.Captured c) z h = same-as _ (stopped-same ys (capture-passed z) (h c))
-    stays (said.Refused why) z h = refused-same why z (capture-case s second)
+    stays : (n : Result Captured Refusal) → Captures s second xs t r n → ((c : Captured) → RanThrough n c → ⊥) → (a ≡ n) × (s' ≡ t) × (second' ≡ r)
+    stays (Ok c) z h = same-as _ (stopped-same ys (capture-passed z) (h c))
+    stays (Err why) z h = refused-same why z (capture-case s second)

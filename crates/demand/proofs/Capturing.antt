@@ -1,6 +1,7 @@
 -- The promise of `capture` as a run of events. It answers with a run exactly where it may (`captured-where`); then it comes to what the run
 -- comes to (`capture-passed`), whatever comes to that is allowed (`capture-of`), and something does (`capture-exists`). `capture-case`: it may
 -- run, or it is refused whatever the events are. Assumes nothing.
+use Rattle.std.specs.Prelude.{Result, Ok, Err}
 use mathlib.Core.Path.{◌≡◌, refl, sym, ap, ◌∙◌, subst}
 use mathlib.Core.Bool.{Bool, true, false, not}
 use mathlib.Core.List.{List, ◌∷◌, []}
@@ -11,7 +12,6 @@ use lib.ListN.{length, get_or, replicate}
 use borrow.Author.Tests.{eq-eqb}
 use Rattle.answers.specs.declared.Refusal.{Refusal}
 use Rattle.answers.specs.declared.Refusal.TheVariants.{Length, State, Finished}
-use Rattle.answers.specs.declared.Outcome.TheVariants.{Refused}
 use Rattle.answers.specs.declared.Verdict.{Verdict}
 use Rattle.answers.specs.Said.{Said, accepted, refused, left, verdict_number, said_outcome}
 use Rattle.answers.proofs.Answers.{number-some, verdict-injective, left-accepted, order-ok, order-done}
@@ -21,8 +21,6 @@ use Rattle.state.specs.Calls.{finished_in, verdict_in}
 use Rattle.checked.proofs.Checked.{checked}
 use Rattle.course.specs.Course.{Course, coursed}
 use Rattle.capturing.specs.declared.Captured.{Captured}
-use Rattle.capturing.specs.declared.CaptureAnswer.{CaptureAnswer}
-use Rattle.capturing.specs.declared.CaptureAnswer.TheVariants as said
 use Rattle.capturing.specs.Capture.{told, capture_says, values_of, said_capture, Captures}
 use Rattle.capturing.proofs.Outcomes.{capture-length, capture-state, capture-finished, capture-ran}
 use Rattle.capturing.proofs.Determined.{captures-determined}
@@ -34,7 +32,7 @@ use Rattle.demand.proofs.SinglyMade.{singly-exists}
 -- it may run, or it is refused and leaves both buffers, whatever the events are
 pub data CaptureCase (s second : List ℕ) : Type 0 where
   may-run : MayCapture s second → CaptureCase s second
-  not-run : (why : Refusal) → ((events : List ℕ) → Captures s second events s second (said.Refused why)) → CaptureCase s second
+  not-run : (why : Refusal) → ((events : List ℕ) → Captures s second events s second (Err why)) → CaptureCase s second
 
 pub capture-case : (s second : List ℕ) → CaptureCase s second
 capture-case s second = measured (ℕ_discrete (length second) (state_length (form_in s)))
@@ -52,15 +50,15 @@ capture-case s second = measured (ℕ_discrete (length second) (state_length (fo
     measured (no h) = not-run Length (λ events. capture-length s second events h)
 
 -- a run is no refusal
-run-refused : (c : Captured) (why : Refusal) → said.Captured c ≡ said.Refused why → ⊥
-run-refused c why e = let n = ap (λ (a : CaptureAnswer). (said_capture a).number) e in omega (arith, number-some why)
+run-refused : (c : Captured) (why : Refusal) → Ok c ≡ Err why → ⊥
+run-refused c why e = let n = ap (λ (a : Result Captured Refusal). (said_capture a).number) e in omega (arith, number-some why)
 
-may_of : {s second events s' second' : List ℕ} {c : Captured} → Captures s second events s' second' (said.Captured c) → MayCapture s second
+may_of : {s second events s' second' : List ℕ} {c : Captured} → Captures s second events s' second' (Ok c) → MayCapture s second
 may_of {s} {second} {events} {s'} {second'} {c} x = go (capture-case s second)
   where
     go : CaptureCase s second → MayCapture s second
     go (may-run m) = m
-    go (not-run why f) = absurd (run-refused c why (captures-determined s second events s' s second' second (said.Captured c) (said.Refused why) x (f events)).0)
+    go (not-run why f) = absurd (run-refused c why (captures-determined s second events s' s second' second (Ok c) (Err why) x (f events)).0)
 
 -- what it says where it may
 may-says : {s second : List ℕ} → MayCapture s second → (events : List ℕ) → capture_says s (length second) events ≡ accepted (told (coursed s events))
@@ -69,16 +67,16 @@ may-says {s} {second} m events =
     order-ok 1 _ _ _ (eq-eqb (length second) (state_length (form_in s)) m.long) ∙ order-ok 9 _ _ _ m.passes ∙ order-ok 10 _ _ _ (ap not m.unfinished) ∙ order-done _
 
 -- so it is not refused there
-pub may-refused : {s second events s' second' : List ℕ} {why : Refusal} → MayCapture s second → Captures s second events s' second' (said.Refused why) → ⊥
+pub may-refused : {s second events s' second' : List ℕ} {why : Refusal} → MayCapture s second → Captures s second events s' second' (Err why) → ⊥
 may-refused {events = events} {why = why} m x = let n = ap (λ (a : Said). a.number) (x.says ∙ may-says m events) in omega (arith, number-some why)
 
-pub captured-where : {s second events s' second' : List ℕ} {answer : CaptureAnswer} → Captures s second events s' second' answer
-    → (MayCapture s second → (c : Captured) × (answer ≡ said.Captured c)) × ((c : Captured) → answer ≡ said.Captured c → MayCapture s second)
-captured-where {s} {second} {events} {s'} {second'} {answer} x = (λ m. go m answer x, λ c e. may_of (subst (λ (a : CaptureAnswer). Captures s second events s' second' a) e x))
+pub captured-where : {s second events s' second' : List ℕ} {answer : Result Captured Refusal} → Captures s second events s' second' answer
+    → (MayCapture s second → (c : Captured) × (answer ≡ Ok c)) × ((c : Captured) → answer ≡ Ok c → MayCapture s second)
+captured-where {s} {second} {events} {s'} {second'} {answer} x = (λ m. go m answer x, λ c e. may_of (subst (λ (a : Result Captured Refusal). Captures s second events s' second' a) e x))
   where
-    go : MayCapture s second → (a : CaptureAnswer) → Captures s second events s' second' a → (c : Captured) × (a ≡ said.Captured c)
-    go m (said.Captured c) y = (c, refl)
-    go m (said.Refused why) y = absurd (may-refused m y)
+    go : MayCapture s second → (a : Result Captured Refusal) → Captures s second events s' second' a → (c : Captured) × (a ≡ Ok c)
+    go m (Ok c) y = (c, refl)
+    go m (Err why) y = absurd (may-refused m y)
 
 -- ---- what it comes to
 pub record CapturePassed (s second events s' second' : List ℕ) (c : Captured) : Type 0 where
@@ -87,7 +85,7 @@ pub record CapturePassed (s second events s' second' : List ℕ) (c : Captured) 
   pub verdict : c.verdict ≡ verdict_in s'
   pub clears : second' ≡ replicate (length second) 0
 
-pub capture-passed : {s second events s' second' : List ℕ} {c : Captured} → Captures s second events s' second' (said.Captured c) → CapturePassed s second events s' second' c
+pub capture-passed : {s second events s' second' : List ℕ} {c : Captured} → Captures s second events s' second' (Ok c) → CapturePassed s second events s' second' c
 capture-passed {s} {second} {events} {s'} {second'} {c} x =
     let m = may_of x in
     let says = may-says m events in
@@ -102,7 +100,7 @@ capture-passed {s} {second} {events} {s'} {second'} {c} x =
       clears = x.leaves-second ∙ ap (λ (a : Said). left a (replicate (length second) 0) second) says ∙ left-accepted _ _ second;
     }
 
-pub capture-of : {s second events s' second' : List ℕ} {c : Captured} → CapturePassed s second events s' second' c → Captures s second events s' second' (said.Captured c)
+pub capture-of : {s second events s' second' : List ℕ} {c : Captured} → CapturePassed s second events s' second' c → Captures s second events s' second' (Ok c)
 capture-of {s} {second} {events} {s'} {second'} {c} p =
     let m = p.may in
     let r = p.ran in
@@ -118,7 +116,7 @@ pub may-length : {s second : List ℕ} → MayCapture s second → length second
 may-length {s} m = m.long ∙ sym (checked s m.passes).long
 
 pub capture-exists : {s second : List ℕ} → MayCapture s second → (events : List ℕ)
-    → (c : Captured) × Captures s second events (coursed s events).leaves (replicate (length second) 0) (said.Captured c)
+    → (c : Captured) × Captures s second events (coursed s events).leaves (replicate (length second) 0) (Ok c)
 capture-exists {s} {second} m events =
     let single = singly-exists events s second in
     let e = singly-coursed m.passes (may-length m) single.3 in

@@ -1,6 +1,8 @@
 -- A call gets the answer that its definition gives: `sample-gets`, `step_gets`, `close-gets`, `ask-gets`. So what goes on over the
 -- definitions goes on by the promises (`going_on`, with `closing` and `close-left`). `done-boards`: where the close is all that is left every
 -- board has sampled. Assumes nothing.
+use Rattle.std.specs.Prelude.{Result, Ok, Err, ⊤}
+use Rattle.answers.specs.declared.Refusal.{Refusal}
 use mathlib.Core.Path.{◌≡◌, refl, sym, ap, ◌∙◌}
 use mathlib.Core.Bool.{true}
 use mathlib.Core.List.{List}
@@ -11,8 +13,6 @@ use lib.Dec.{eqb}
 use borrow.Author.Tests.{eqb-true}
 use Rattle.lists.proofs.Tests.{both-0, both-1}
 use Rattle.answers.specs.declared.Refusal.TheVariants.{Slots, Nodes, Ticks}
-use Rattle.answers.specs.declared.Outcome.{Outcome}
-use Rattle.answers.specs.declared.Outcome.TheVariants.{Refused, Done}
 use Rattle.answers.specs.Said.{refused, said_outcome}
 use Rattle.answers.proofs.Answers.{said_outcome-injective}
 use Rattle.state.specs.Form.{form_in, state_length}
@@ -23,7 +23,6 @@ use Rattle.keeping.specs.Closing as defined
 use Rattle.keeping.proofs.Calls.{sample-passed, step-passed}
 use Rattle.watching.specs.Claims as definition
 use Rattle.telling.specs.declared.Standing.{Standing}
-use Rattle.telling.specs.declared.AskAnswer.TheVariants.{Told}
 use Rattle.telling.specs.Ask.{said_ask}
 use Rattle.asking.proofs.Determined.{said_ask-injective}
 use Rattle.taking.specs.Sample.{Samples}
@@ -31,28 +30,28 @@ use Rattle.settling.specs.Step.{StepsSlot}
 use Rattle.demand.specs.Claims.{Gets, CloseGets, Closing, accepts, too-many-slots, too-many-nodes, no-more-ticks, CloseLeft, GoesOn, samples, steps, closes, AskGets}
 
 module _ (t : List ℕ) where
-  sample-gets : (board bits : ℕ) (wanted : Outcome) → said_outcome wanted ≡ sample_says t board bits → Gets (Samples t board bits) wanted
+  sample-gets : (board bits : ℕ) (wanted : Result ⊤ Refusal) → said_outcome wanted ≡ sample_says t board bits → Gets (Samples t board bits) wanted
   sample-gets board bits wanted e =
       record { leaves = sample_leaves t board bits; allowed = record { says = e; leaves = refl }; only = λ s' answer p. said_outcome-injective answer wanted (p.says ∙ sym e) }
 
-  step_gets : (slot : ℕ) (wanted : Outcome) → said_outcome wanted ≡ step_says t slot → Gets (StepsSlot t slot) wanted
+  step_gets : (slot : ℕ) (wanted : Result ⊤ Refusal) → said_outcome wanted ≡ step_says t slot → Gets (StepsSlot t slot) wanted
   step_gets slot wanted e =
       record { leaves = step_leaves t slot; allowed = record { says = e; leaves = refl }; only = λ s' answer p. said_outcome-injective answer wanted (p.says ∙ sym e) }
 
-  close-gets : (wanted : Outcome) → said_outcome wanted ≡ close_says t (state_length (form_in t)) → CloseGets t wanted
+  close-gets : (wanted : Result ⊤ Refusal) → said_outcome wanted ≡ close_says t (state_length (form_in t)) → CloseGets t wanted
   close-gets wanted e second long =
       let f = e ∙ ap (close_says t) (sym long) in
       record { leaves = close_leaves t second; allowed = record { says = f; leaves = refl }; only = λ s' answer p. said_outcome-injective answer wanted (p.says ∙ sym f) }
 
-  pub ask-gets : (wanted : Standing) → said_ask (Told wanted) ≡ ask_says t → AskGets t wanted
-  ask-gets wanted e = record { allowed = record { says = e }; only = λ answer p. said_ask-injective answer (Told wanted) (p.says ∙ sym e) }
+  pub ask-gets : (wanted : Standing) → said_ask (Ok wanted) ≡ ask_says t → AskGets t wanted
+  ask-gets wanted e = record { allowed = record { says = e }; only = λ answer p. said_ask-injective answer (Ok wanted) (p.says ∙ sym e) }
 
   -- ---- within a tick
   pub closing : defined.StateClosing t → Closing t
-  closing (defined.accepts e) = accepts (close-gets Done (sym e))
-  closing (defined.refuses n (inl h) e) = too-many-slots (close-gets (Refused Slots) (sym (e ∙ ap refused h)))
-  closing (defined.refuses n (inr (inl h)) e) = too-many-nodes (close-gets (Refused Nodes) (sym (e ∙ ap refused h)))
-  closing (defined.refuses n (inr (inr h)) e) = no-more-ticks (close-gets (Refused Ticks) (sym (e ∙ ap refused h)))
+  closing (defined.accepts e) = accepts (close-gets (Ok tt) (sym e))
+  closing (defined.refuses n (inl h) e) = too-many-slots (close-gets (Err Slots) (sym (e ∙ ap refused h)))
+  closing (defined.refuses n (inr (inl h)) e) = too-many-nodes (close-gets (Err Nodes) (sym (e ∙ ap refused h)))
+  closing (defined.refuses n (inr (inr h)) e) = no-more-ticks (close-gets (Err Ticks) (sym (e ∙ ap refused h)))
 
   pub done-boards : done_in t ≡ true → (b : ℕ) → b < boards_in t → sampled_in t b ≡ 1
   unfolding done_in
@@ -71,6 +70,6 @@ module _ (t : List ℕ) where
       }
 
   pub going_on : definition.StateGoesOn t → GoesOn t
-  going_on (definition.samples board bits e) = samples board bits (sample-gets board bits Done (sym e))
-  going_on (definition.steps k e) = steps k (step_gets k Done (sym e))
+  going_on (definition.samples board bits e) = samples board bits (sample-gets board bits (Ok tt) (sym e))
+  going_on (definition.steps k e) = steps k (step_gets k (Ok tt) (sym e))
   going_on (definition.closes done c) = closes (close-left done) (closing c)

@@ -1,6 +1,8 @@
 -- What the boards were given in a tick is what the state holds (`holding`): of a watch's state, a board that was given bits has them as
 -- its sample, and a board that has sampled was given something. So where every board has sampled, calls that gave each board its part of an
 -- event have left a state that saw the event (`given-saw`, by `sample-given`), and the other way round (`saw-given`). Assumes nothing.
+use Rattle.answers.specs.declared.Refusal.{Refusal}
+use Rattle.std.specs.Prelude.{Result, Ok, Err, ⊤}
 use mathlib.Core.Path.{◌≡◌, refl, sym, ap, ◌∙◌, subst}
 use mathlib.Core.Bool.{true}
 use mathlib.Core.List.{List}
@@ -8,7 +10,6 @@ use mathlib.Core.Logic.{◌⊎◌, inl, inr, ⊎_elim}
 use Prim.Native.Nat.{ℕ, ◌<◌}
 use native.Mathlib.Decide.{ℕ_discrete}
 use native.Mathlib.Omega.{arith}
-use Rattle.answers.specs.declared.Outcome.TheVariants.{Refused, Done}
 use Rattle.ltl.specs.Formula.{Formula}
 use Rattle.ltl.specs.Meaning.{Event}
 use Rattle.network.specs.Scores.{sample_of}
@@ -42,7 +43,7 @@ record Holding (n : ℕ) (t : List ℕ) (Given : ℕ → ℕ → Type 0) : Type 
 module _ (n : ℕ) (t : List ℕ) (Given : ℕ → ℕ → Type 0) (h : Holding n t Given) where
   -- after an accepted sample
   holds_more : boards_in t ≡ n → (board bits : ℕ) (q : SamplePassed t board bits)
-      → Holding n (sample_given t board bits) (λ b v. Given b v ⊎ ((Done ≡ Done) × (b ≡ board) × (v ≡ bits)))
+      → Holding n (sample_given t board bits) (λ b v. Given b v ⊎ (◌≡◌ {A = Result ⊤ Refusal} (Ok tt) (Ok tt) × (b ≡ board) × (v ≡ bits)))
   holds_more m board bits q =
       record {
         there = λ b v. ⊎_elim (h.there b v) (λ e. (let l = q.there in omega (arith, e.1)));
@@ -62,7 +63,7 @@ module _ (n : ℕ) (t : List ℕ) (Given : ℕ → ℕ → Type 0) (h : Holding 
       flag-other : (b v : ℕ) → Given b v → sampled_in t' b ≡ sampled_in t b
       flag-other b v g = sample-other-flag t (passing-sized t q.ok) board bits q.there b (other b v g)
 
-      given : (b : ℕ) → b < n → sampled_in t' b ≡ 1 → (v : ℕ) × (Given b v ⊎ ((Done ≡ Done) × (b ≡ board) × (v ≡ bits)))
+      given : (b : ℕ) → b < n → sampled_in t' b ≡ 1 → (v : ℕ) × (Given b v ⊎ (◌≡◌ {A = Result ⊤ Refusal} (Ok tt) (Ok tt) × (b ≡ board) × (v ≡ bits)))
       given b l f =
           elim (ℕ_discrete b board) [
             | yes z ↦ (bits, inr (refl, z, refl))
@@ -109,20 +110,20 @@ module _ (p : ℕ) (masks : List ℕ) (rule : Formula) (us : List Event) (s : Li
         sample = λ b v g. absurd g;
         given = λ b l f. absurd (omega (arith, x.unsampled b l));
       }
-  holding (sampled {t = t} c board bits Done y) =
+  holding (sampled {t = t} c board bits (Ok _) y) =
       let q = sample-passed t board bits (sym y.says) in
-      subst (λ (u : List ℕ). Held u (λ b v. Gave c b v ⊎ ((Done ≡ Done) × (b ≡ board) × (v ≡ bits)))) (sym (y.leaves ∙ accepted-leaves _ _ t (sym y.says)))
+      subst (λ (u : List ℕ). Held u (λ b v. Gave c b v ⊎ (◌≡◌ {A = Result ⊤ Refusal} (Ok tt) (Ok tt) × (b ≡ board) × (v ≡ bits)))) (sym (y.leaves ∙ accepted-leaves _ _ t (sym y.says)))
       (holds_more (boards_in s) t (Gave c) (holding c) (as_many t c) board bits q)
-  holding (sampled {t = t} c board bits (Refused why) y) =
-      subst (λ (u : List ℕ). Held u (Gave (sampled c board bits (Refused why) y))) (sym (y.leaves ∙ refused-leaves why _ _ t y.says))
-      (holds-refused (boards_in s) t (Gave c) (holding c) (Gave (sampled c board bits (Refused why) y)) (λ b v g. inl g) (λ b v. ⊎_elim (λ g. g) (λ e. absurd (refused-not-done why e.0))))
-  holding (stepped {t = t} c slot Done y) =
+  holding (sampled {t = t} c board bits (Err why) y) =
+      subst (λ (u : List ℕ). Held u (Gave (sampled c board bits (Err why) y))) (sym (y.leaves ∙ refused-leaves why _ _ t y.says))
+      (holds-refused (boards_in s) t (Gave c) (holding c) (Gave (sampled c board bits (Err why) y)) (λ b v g. inl g) (λ b v. ⊎_elim (λ g. g) (λ e. absurd (refused-not-done why e.0))))
+  holding (stepped {t = t} c slot (Ok _) y) =
       let q = step-passed t slot (sym y.says) in
       let n = as_many t c in
       subst (λ (u : List ℕ). Held u (Gave c)) (sym (y.leaves ∙ accepted-leaves _ _ t (sym y.says)))
       (holds-still (boards_in s) t (Gave c) (holding c) (stepping.after t slot) (λ b l. stepping.step-flag t q.ok slot q.there b (omega arith))
       (λ b l. stepping.step-sample t q.ok slot q.there b (omega arith)))
-  holding (stepped {t = t} c slot (Refused why) y) = subst (λ (u : List ℕ). Held u (Gave c)) (sym (y.leaves ∙ refused-leaves why _ _ t y.says)) (holding c)
+  holding (stepped {t = t} c slot (Err why) y) = subst (λ (u : List ℕ). Held u (Gave c)) (sym (y.leaves ∙ refused-leaves why _ _ t y.says)) (holding c)
   holding (asked c answer y) = holding c
   holding (closed c second second' answer y) = holding c
   holding (load-refused {t = t} c file why y) = subst (λ (u : List ℕ). Held u (Gave c)) (sym (y.leaves ∙ refused-leaves why _ _ t y.says)) (holding c)

@@ -1,6 +1,7 @@
 -- What an accepted load of a rule file tells, by its promise alone: the file's counts, masks and folded rule are those of a watch, its
 -- formula's bytes are the rule's, and the state is the folded rule's first layout, in the form of the buffer that was lent (`load-accepted`). Assumes
 -- nothing.
+use Rattle.std.specs.Prelude.{Ok, Err}
 use mathlib.Core.Path.{◌≡◌, refl, sym, ap, ◌∙◌}
 use mathlib.Core.Bool.{true}
 use mathlib.Core.List.{List, []}
@@ -9,7 +10,6 @@ use native.Mathlib.Omega.{arith}
 use lib.ListN.{length}
 use borrow.Author.Tests.{leb-true}
 use Rattle.lists.proofs.Tests.{both-1, both_true}
-use Rattle.answers.specs.declared.Outcome.TheVariants.{Done}
 use Rattle.answers.specs.Said.{Said, accepted, left}
 use Rattle.answers.proofs.Answers.{left-accepted, order-passed}
 use Rattle.limits.specs.Limits.{boards_most, rule_nodes_most}
@@ -71,7 +71,7 @@ pub record LoadAccepted (φ : Form) (file s : List ℕ) : Type 0 where
   pub spelt : Front (formula_in_file file) (rule_in file) []
   pub state-is : s ≡ loaded_state φ (masks_in_file file) (start_in file)
 
-pub load-accepted : (file before s : List ℕ) → LoadsRule file before s Done → LoadAccepted (form_in before) file s
+pub load-accepted : (file before s : List ℕ) → LoadsRule file before s (Ok tt) → LoadAccepted (form_in before) file s
 load-accepted file before s l =
     let e = sym l.says in
     let x = load-passed file (length before) e in

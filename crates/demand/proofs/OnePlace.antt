@@ -1,5 +1,6 @@
 -- The verdict that ask tells of a watch is the one that the call `central` answers for the same events, where it has room for the rule
 -- (`one_place`). Assumes nothing.
+use Rattle.std.specs.Prelude.{Ok, Err}
 use mathlib.Core.Path.{◌≡◌, refl, sym, ap, ◌∙◌, subst}
 use mathlib.Core.List.{List, [], ◌∷◌, ◌++◌, append-nil}
 use Prim.Native.Nat.{ℕ, ◌-◌}
@@ -22,13 +23,11 @@ use Rattle.folded.proofs.Lengths.{folded-within}
 use Rattle.nodes.specs.Begins.{Front}
 use Rattle.resolving.proofs.Coded.{settled-coded}
 use Rattle.central.specs.declared.Progress.{Progress}
-use Rattle.central.specs.declared.CentralAnswer.TheVariants.{Progressed}
 use Rattle.central.specs.Central.{answer_of, start_of, central_says, Centrally}
 use Rattle.resolving.specs.Settles.{event_alone}
 use Rattle.central.proofs.Progresses.{settled-alone}
 use Rattle.rules.specs.RuleFile.{formula_in_file}
 use Rattle.telling.specs.declared.Standing.{Standing}
-use Rattle.telling.specs.declared.AskAnswer.TheVariants.{Told}
 use Rattle.telling.specs.Ask.{Asks}
 use Rattle.loading.specs.Load.{rule_in, start_in}
 use Rattle.demand.specs.Called.{nothing, Watched, begun, ticked}
@@ -58,7 +57,7 @@ central-says bytes e room h =
     let q = order-passed _ _ (omega arith, (omega arith, (omega arith, tt))) h in
     order-ok 1 _ _ _ q.0 ∙ order-ok 6 _ _ _ q.1.0 ∙ order-ok 8 _ _ _ q.1.1.0 ∙ order-done _
 
-tells : (h f : Formula) → Coded h → folded h ≡ f → (bytes : List ℕ) → bytes ≡ encode h → (e : Event) (output output' : List ℕ) (p : Progress) → Centrally bytes e output output' (Progressed p) → CentralTells f e output' p
+tells : (h f : Formula) → Coded h → folded h ≡ f → (bytes : List ℕ) → bytes ≡ encode h → (e : Event) (output output' : List ℕ) (p : Progress) → Centrally bytes e output output' (Ok p) → CentralTells f e output' p
 tells h f w k bytes b e output output' p c =
     let g = ltl.progressed e f in
     let same : start_of bytes ≡ f = ap folded (ap some_formula (ap decoded b ∙ decoded-of h w)) ∙ k in
@@ -102,8 +101,8 @@ watch-spelt : {file : List ℕ} {us : List Event} {s : List ℕ} → Watched fil
 watch-spelt {file} (begun {before = before} {s = s} l) = (load-accepted file before s l).spelt
 watch-spelt (ticked w e t) = watch-spelt w
 
-pub one_place : {file : List ℕ} {us : List Event} {bytes : List ℕ} → InOnePlace file us bytes → (e : Event) (output output' : List ℕ) (p : Progress) → Centrally bytes e output output' (Progressed p)
-    → {s : List ℕ} → Watched file (us ++ (e ∷ [])) s → (x : Standing) → Asks s (Told x) → x.verdict ≡ p.verdict
+pub one_place : {file : List ℕ} {us : List Event} {bytes : List ℕ} → InOnePlace file us bytes → (e : Event) (output output' : List ℕ) (p : Progress) → Centrally bytes e output output' (Ok p)
+    → {s : List ℕ} → Watched file (us ++ (e ∷ [])) s → (x : Standing) → Asks s (Ok x) → x.verdict ≡ p.verdict
 one_place {file} {us} {bytes} i e output output' p c {s} w x a =
     let h = spells (watch-spelt w) i in
     let t = tells h.formula (progressed_over us (start_in file)) h.coded h.folds bytes h.bytes-are e output output' p c in

@@ -2,6 +2,7 @@
 -- taken, and its events, as many as the call says, are captured. Then the verdict is that of one place for events of the recording's first stretch
 -- alone, as many as were closed (`recorded-verdict`), and the third demand holds of the state (`recorded-demanded`). The same where the stretch is taken
 -- from the recording itself (`stretched-verdict`, `stretched-demanded`). Assumes nothing.
+use Rattle.std.specs.Prelude.{Ok, Err}
 use mathlib.Core.Path.{◌≡◌, ap, ◌∙◌, subst}
 use mathlib.Core.List.{List, ◌++◌}
 use Prim.Native.Nat.{ℕ}
@@ -10,14 +11,11 @@ use Rattle.le.proofs.Laws.{Bytes}
 use Rattle.ltl.specs.Meaning.{Event}
 use Rattle.recordings.specs.Mending.{first_events}
 use Rattle.recordings.specs.Recording.{recording_length, records_in}
-use Rattle.mending.specs.declared.Mended.{Mended}
-use Rattle.mending.specs.declared.MendAnswer.TheVariants as mend-said
+use Rattle.recordings.specs.declared.Mended.{Mended}
 use Rattle.mending.specs.Mend.{Mends}
-use Rattle.stretching.specs.declared.StretchAnswer.TheVariants.{Taken}
 use Rattle.stretching.specs.Stretch.{Stretches}
 use Rattle.stretching.proofs.Mended.{mended-taken, stretch-taken}
 use Rattle.capturing.specs.declared.Captured.{Captured}
-use Rattle.capturing.specs.declared.CaptureAnswer.TheVariants as said
 use Rattle.capturing.specs.Capture.{Captures}
 use Rattle.demand.specs.Called.{Watched}
 use Rattle.demand.specs.Claims.{standing}
@@ -26,7 +24,7 @@ use Rattle.demand.proofs.Captured.{captured-demanded, captured-verdict}
 
 -- ---- events that are those of a first stretch
 module _ {file : List ℕ} {us : List Event} {s : List ℕ} (w : Watched file us s) (recording : List ℕ) {events second s' second' : List ℕ} {c : Captured}
-    (e : events ≡ first_events (records_in recording)) (z : Captures s second events s' second' (said.Captured c)) where
+    (e : events ≡ first_events (records_in recording)) (z : Captures s second events s' second' (Ok c)) where
   over-verdict : c.verdict ≡ (standing file (us ++ take c.closed (first_events (records_in recording))) s').verdict
   over-verdict = captured-verdict w z ∙ ap (λ (l : List ℕ). (standing file (us ++ take c.closed l) s').verdict) e
 
@@ -35,9 +33,9 @@ module _ {file : List ℕ} {us : List Event} {s : List ℕ} (w : Watched file us
 
 -- ---- taken from the mended recording
 module _ {file : List ℕ} {us : List Event} {s : List ℕ} (w : Watched file us s) {recording mended marks mended' marks' : List ℕ} {m : Mended}
-    (x : Mends recording mended marks mended' marks' (mend-said.Mended m)) (b : Bytes recording) {events events' : List ℕ} {n : ℕ}
-    (y : Stretches (take (recording_length m.kept) mended') events events' (Taken n)) {second s' second' : List ℕ} {c : Captured}
-    (z : Captures s second (take n events') s' second' (said.Captured c)) where
+    (x : Mends recording mended marks mended' marks' (Ok m)) (b : Bytes recording) {events events' : List ℕ} {n : ℕ}
+    (y : Stretches (take (recording_length m.kept) mended') events events' (Ok n)) {second s' second' : List ℕ} {c : Captured}
+    (z : Captures s second (take n events') s' second' (Ok c)) where
   pub recorded-verdict : c.verdict ≡ (standing file (us ++ take c.closed (first_events (records_in recording))) s').verdict
   recorded-verdict = over-verdict w recording (mended-taken x b y) z
 
@@ -45,8 +43,8 @@ module _ {file : List ℕ} {us : List Event} {s : List ℕ} (w : Watched file us
   recorded-demanded = over-demanded w recording (mended-taken x b y) z
 
 -- ---- taken from the recording itself
-module _ {file : List ℕ} {us : List Event} {s : List ℕ} (w : Watched file us s) {recording events events' : List ℕ} {n : ℕ} (y : Stretches recording events events' (Taken n))
-    {second s' second' : List ℕ} {c : Captured} (z : Captures s second (take n events') s' second' (said.Captured c)) where
+module _ {file : List ℕ} {us : List Event} {s : List ℕ} (w : Watched file us s) {recording events events' : List ℕ} {n : ℕ} (y : Stretches recording events events' (Ok n))
+    {second s' second' : List ℕ} {c : Captured} (z : Captures s second (take n events') s' second' (Ok c)) where
   pub stretched-verdict : c.verdict ≡ (standing file (us ++ take c.closed (first_events (records_in recording))) s').verdict
   stretched-verdict = over-verdict w recording (stretch-taken y).1 z
 

@@ -1,6 +1,7 @@
 -- Rows of the worked values as calls that their promises allow. `Part`: some calls of a tick under an event; `part-nothing` and the names
 -- below it put one call after the other, accepted or refused, each by its row. `part-ticks` closes the tick and `load-watches` begins a
 -- watch, both into a buffer of sevens (`buffer`). `ticks-give-same`: in two ticks under one event each board was given the same. Assumes nothing.
+use Rattle.std.specs.Prelude.{Ok, Err}
 use mathlib.Core.Path.{◌≡◌, refl, sym, ap, ap₂, ◌∙◌}
 use mathlib.Core.Bool.{Bool, true, false}
 use mathlib.Core.List.{List, []}
@@ -10,7 +11,6 @@ use native.Mathlib.Omega.{arith}
 use lib.ListN.{length, replicate, length-replicate}
 use Rattle.answers.specs.declared.Refusal.{Refusal}
 use Rattle.answers.specs.declared.Refusal.TheVariants.{Length, State}
-use Rattle.answers.specs.declared.Outcome.TheVariants.{Refused, Done}
 use Rattle.answers.specs.declared.Verdict.{Verdict}
 use Rattle.answers.specs.Said.{refused, left, number_of}
 use Rattle.ltl.specs.Meaning.{Event}
@@ -23,7 +23,6 @@ use Rattle.state.specs.Clauses.{state_ok}
 use Rattle.state.specs.Calls.{sample_says, step_says, close_says, loaded_state}
 use Rattle.state.proofs.Forms.{form-at}
 use Rattle.checked.proofs.Checked.{checked}
-use Rattle.telling.specs.declared.AskAnswer.TheVariants.{Told}
 use Rattle.loading.specs.Load.{start_in, load_says}
 use Rattle.capturing.proofs.Outcomes.{capture-length, capture-state}
 use Rattle.stars.proofs.States.{LoadGives, SampleGives, StepGives, CloseGives, LoadRefuses, CloseRefuses, AskGives}
@@ -78,24 +77,24 @@ module _ {masks : List ℕ} {e : Event} {s t : List ℕ} (p : Part masks e s t) 
   pub part-samples : (board bits : ℕ) (t' : List ℕ) → bits ≡ sample_of masks e board → SampleGives t board bits t' → Part masks e s t'
   part-samples board bits t' is g =
       record {
-        calls = call.sampled p.calls board bits Done (record { says = sym g.says; leaves = sym g.leaves });
+        calls = call.sampled p.calls board bits (Ok tt) (record { says = sym g.says; leaves = sym g.leaves });
         given = λ b v. ⊎_elim (p.given b v) (λ x. x.2 ∙ is ∙ ap (sample_of masks e) (sym x.1));
       }
 
   pub part-steps : (slot : ℕ) (t' : List ℕ) → StepGives t slot t' → Part masks e s t'
-  part-steps slot t' g = record { calls = call.stepped p.calls slot Done (record { says = sym g.says; leaves = sym g.leaves }); given = p.given }
+  part-steps slot t' g = record { calls = call.stepped p.calls slot (Ok tt) (record { says = sym g.says; leaves = sym g.leaves }); given = p.given }
 
   -- refused ones
   pub part-sample-refused : (board bits : ℕ) (why : Refusal) → sample_says t board bits ≡ refused (number_of why) → Part masks e s t
   part-sample-refused board bits why r =
       record {
-        calls = call.sampled p.calls board bits (Refused why) (record { says = sym r; leaves = sym (refused-leaves why _ _ t (sym r)) });
+        calls = call.sampled p.calls board bits (Err why) (record { says = sym r; leaves = sym (refused-leaves why _ _ t (sym r)) });
         given = λ b v. ⊎_elim (p.given b v) (λ x. absurd (refused-not-done why x.0));
       }
 
   pub part-step-refused : (slot : ℕ) (why : Refusal) → step_says t slot ≡ refused (number_of why) → Part masks e s t
   part-step-refused slot why r =
-      record { calls = call.stepped p.calls slot (Refused why) (record { says = sym r; leaves = sym (refused-leaves why _ _ t (sym r)) }); given = p.given }
+      record { calls = call.stepped p.calls slot (Err why) (record { says = sym r; leaves = sym (refused-leaves why _ _ t (sym r)) }); given = p.given }
 
   -- a load into the state
   pub part-load-refused : length t ≡ state_length Plain → (file : List ℕ) (why : Refusal) → LoadRefuses file (number_of why) → Part masks e s t
@@ -115,7 +114,7 @@ module _ {masks : List ℕ} {e : Event} {s t : List ℕ} (p : Part masks e s t) 
       let second = buffer (form_in t) in
       let long = buffer-long (form_in t) in
       let x = ap (close_says t) long in
-      record { calls = call.closed p.calls second second (Refused why) (record { says = sym (x ∙ r.says); leaves = sym (r.leaves second long) }); given = p.given }
+      record { calls = call.closed p.calls second second (Err why) (record { says = sym (x ∙ r.says); leaves = sym (r.leaves second long) }); given = p.given }
 
   -- a capture of it with an empty second buffer, and one of an empty state with it as second buffer
   pub part-capture-refused : (events : List ℕ) → Part masks e s t
@@ -128,7 +127,7 @@ module _ {masks : List ℕ} {e : Event} {s t : List ℕ} (p : Part masks e s t) 
   -- asking
   pub part-asks : (verdict : Verdict) (ticks slots nodes : ℕ) → AskGives t verdict ticks slots nodes → Part masks e s t
   part-asks verdict ticks slots nodes a =
-      record { calls = call.asked p.calls (Told (record { verdict = verdict; ticks = ticks; slots = slots; nodes = nodes })) (record { says = sym a }); given = p.given }
+      record { calls = call.asked p.calls (Ok (record { verdict = verdict; ticks = ticks; slots = slots; nodes = nodes })) (record { says = sym a }); given = p.given }
 
   -- ---- the tick is closed
   abbrev pub part-ticks : (s' : List ℕ) → CloseGives t s' → Ticked masks s e s'

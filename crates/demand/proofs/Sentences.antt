@@ -1,10 +1,11 @@
 -- The workshop's third demand, sentence by sentence, each a theorem of its own that takes its part out of `demanded`. It says nothing new: it
 -- stands so that no part of the claim can go, or say less, without a proof that fails here. Assumes nothing.
+use Rattle.std.specs.Prelude.{Result, ⊤}
+use Rattle.answers.specs.declared.Refusal.{Refusal}
 use mathlib.Core.Path.{◌≡◌, refl}
 use mathlib.Core.Bool.{true}
 use mathlib.Core.List.{List, ◌++◌}
 use Prim.Native.Nat.{ℕ}
-use Rattle.answers.specs.declared.Outcome.{Outcome}
 use Rattle.answers.specs.declared.Verdict.TheVariants.{False, True, Pending}
 use Rattle.ltl.specs.Meaning.{Event, Trace, Satisfies, continued}
 use Rattle.ltl.specs.Progression.{progressed_over, verdict_of}
@@ -28,7 +29,7 @@ module _ (file : List ℕ) (us : List Event) (s : List ℕ) (w : Watched file us
 
   -- also where the close is refused
   pub any-order-answers-alike : (t u : List ℕ) (c : Called s t) (d : Called s u) → done_in t ≡ true → done_in u ≡ true → SameGiven c d
-      → (second a b : List ℕ) (x y : Outcome) → Closes t second a x → Closes u second b y → (x ≡ y) × (a ≡ b)
+      → (second a b : List ℕ) (x y : Result ⊤ Refusal) → Closes t second a x → Closes u second b y → (x ≡ y) × (a ≡ b)
   any-order-answers-alike = (demanded w).same-close
 
   -- until a verdict there is a call that goes on

@@ -1,5 +1,6 @@
 -- A run of events comes to what single calls come to, whatever these do that their promises allow: as many closed events, the same number
 -- of a refusal and the same last state (`singly-coursed`); tick by tick it is `singly-ticked`. Assumes nothing.
+use Rattle.std.specs.Prelude.{Result, Ok, Err, ⊤}
 use mathlib.Core.Path.{◌≡◌, refl, sym, ap, ap₂, ◌∙◌}
 use mathlib.Core.Bool.{Bool, true, false}
 use mathlib.Core.List.{List, []}
@@ -11,8 +12,6 @@ use borrow.Author.Tests.{ne_eqb}
 use Rattle.lists.specs.Tests.{pick}
 use Rattle.answers.specs.declared.Refusal.{Refusal}
 use Rattle.answers.specs.declared.Refusal.TheVariants.{Outside}
-use Rattle.answers.specs.declared.Outcome.{Outcome}
-use Rattle.answers.specs.declared.Outcome.TheVariants.{Refused, Done}
 use Rattle.answers.specs.Said.{Said, accepted, refused, left, number_of, said_outcome}
 use Rattle.answers.proofs.Answers.{number-some, order-ok, order-done}
 use Rattle.state.specs.Form.{form_in}
@@ -38,14 +37,14 @@ use Rattle.demand.proofs.Ticking.{given-outside}
 refused-number : (why : Refusal) (a : Said) → refused (number_of why) ≡ a → 0 < a.number
 refused-number why a e = let n = ap (λ (b : Said). b.number) e in omega (arith, number-some why)
 
-singly-sampled : {event n i : ℕ} {s s' : List ℕ} {answer : Outcome} → SampledSingly event n i s s' answer → sampled_from n event i s ≡ after (said_outcome answer) s'
+singly-sampled : {event n i : ℕ} {s s' : List ℕ} {answer : Result ⊤ Refusal} → SampledSingly event n i s s' answer → sampled_from n event i s ≡ after (said_outcome answer) s'
 singly-sampled {event} (no-board {i = i} {s = s}) = sampled-done event i s
 singly-sampled {event} (sample-refused {n = n} {i = i} {s = s} {why = why} x) =
     sampled-refused n event i s (refused-number why _ x.says) ∙ (λ j. after (sym x.says j) (sym x.leaves j))
 singly-sampled {event} (sample-then {n = n} {i = i} {s = s} x rest) =
     sampled-more n event i s (sym x.says) ∙ ap (sampled_from n event (i + 1)) (sym x.leaves) ∙ singly-sampled rest
 
-singly-stepped : {k : ℕ} {s s' : List ℕ} {answer : Outcome} → SteppedSingly k s s' answer → stepped_below k s ≡ after (said_outcome answer) s'
+singly-stepped : {k : ℕ} {s s' : List ℕ} {answer : Result ⊤ Refusal} → SteppedSingly k s s' answer → stepped_below k s ≡ after (said_outcome answer) s'
 singly-stepped (no_slot {s = s}) = stepped-done s
 singly-stepped (step-refused {k = k} {s = s} {why = why} x) = stepped-refused k s (refused-number why _ x.says) ∙ (λ j. after (sym x.says j) (sym x.leaves j))
 singly-stepped (step_then {k = k} {s = s} x rest) = stepped-more k s (sym x.says) ∙ ap (stepped_below k) (sym x.leaves) ∙ singly-stepped rest
@@ -61,7 +60,7 @@ left-twice a x y z = go (eqb a.number 0)
     go false = refl
 
 -- what single calls of a tick come to: its answer, the state, and the other buffer, written where the tick was accepted
-abbrev pub TickSame : ℕ → List ℕ → List ℕ → List ℕ → List ℕ → Outcome → Type 0
+abbrev pub TickSame : ℕ → List ℕ → List ℕ → List ℕ → List ℕ → Result ⊤ Refusal → Type 0
 TickSame event s second s' second' answer = (said_outcome answer ≡ tick_says s event) × (s' ≡ tick_leaves s event) × (second' ≡ left (tick_says s event) (closed_to s event) second)
 
 module _ (s : List ℕ) (event : ℕ) where
@@ -70,13 +69,13 @@ module _ (s : List ℕ) (event : ℕ) where
   says-refused a e h = let n = ap (λ (b : Said). b.number) e in rw (ne_eqb (given_under s event).says.number 0 (λ q. omega arith)) e
 
   -- refused before the close
-  same-refused : (second s' : List ℕ) (why : Refusal) → given_under s event ≡ after (refused (number_of why)) s' → TickSame event s second s' second (Refused why)
+  same-refused : (second s' : List ℕ) (why : Refusal) → given_under s event ≡ after (refused (number_of why)) s' → TickSame event s second s' second (Err why)
   same-refused second s' why g =
       let says = says-refused (refused (number_of why)) (ap (λ (a : After). a.says) g) (number-some why) in
       (sym says, sym (ap (λ (a : After). a.leaves) g), sym (refused-leaves why (tick_says s event) (closed_to s event) second (sym says)))
 
   -- up to the close
-  same-closed : (second s' second' : List ℕ) (answer : Outcome) → length second ≡ length s → given_under s event ≡ after (accepted []) s' → Closes s' second second' answer → TickSame event s second s' second' answer
+  same-closed : (second s' second' : List ℕ) (answer : Result ⊤ Refusal) → length second ≡ length s → given_under s event ≡ after (accepted []) s' → Closes s' second second' answer → TickSame event s second s' second' answer
   same-closed second s' second' answer long g x =
       let is : s' ≡ tick_leaves s event = sym (ap (λ (a : After). a.leaves) g) in
       let tick = tick-closes s event (ap (λ (a : After). a.says) g) in
@@ -98,27 +97,27 @@ module _ (s : List ℕ) (event : ℕ) where
     boards a e =
         ap (λ (b : After). follow b (stepped_below (slots_in s))) (follow-accepted (after (taken_by s event) s) (sampled_from (boards_in s) event 0) taken ∙ e)
 
-    given-sampled : (s' : List ℕ) (why : Refusal) → SampledSingly event (boards_in s) 0 s s' (Refused why) → given_under s event ≡ after (refused (number_of why)) s'
+    given-sampled : (s' : List ℕ) (why : Refusal) → SampledSingly event (boards_in s) 0 s s' (Err why) → given_under s event ≡ after (refused (number_of why)) s'
     given-sampled s' why x = boards _ (singly-sampled x) ∙ follow-refused (after (refused (number_of why)) s') (stepped_below (slots_in s)) (number-some why)
 
-    given-stepped : (t s' : List ℕ) (answer : Outcome) → SampledSingly event (boards_in s) 0 s t Done → SteppedSingly (slots_in s) t s' answer → given_under s event ≡ after (said_outcome answer) s'
+    given-stepped : (t s' : List ℕ) (answer : Result ⊤ Refusal) → SampledSingly event (boards_in s) 0 s t (Ok tt) → SteppedSingly (slots_in s) t s' answer → given_under s event ≡ after (said_outcome answer) s'
     given-stepped t s' answer x y = boards _ (singly-sampled x) ∙ follow-accepted (after (accepted []) t) (stepped_below (slots_in s)) refl ∙ singly-stepped y
 
-pub singly-ticked : {event : ℕ} {s second s' second' : List ℕ} {answer : Outcome} → state_ok s ≡ true → length second ≡ length s → TickedSingly event s second s' second' answer
+pub singly-ticked : {event : ℕ} {s second s' second' : List ℕ} {answer : Result ⊤ Refusal} → state_ok s ≡ true → length second ≡ length s → TickedSingly event s second s' second' answer
     → TickSame event s second s' second' answer
 singly-ticked {event} ok long (outside {s = s} {second = second} out) = same-refused s event second s Outside (given-outside s event ok out)
 singly-ticked {event} ok long (in-samples {s = s} {second = second} {s' = s'} {why = why} inside x) = same-refused s event second s' why (given-sampled s event ok inside s' why x)
 singly-ticked {event} ok long (in-steps {s = s} {second = second} {t = t} {s' = s'} {why = why} inside x y) =
-    same-refused s event second s' why (given-stepped s event ok inside t s' (Refused why) x y)
+    same-refused s event second s' why (given-stepped s event ok inside t s' (Err why) x y)
 singly-ticked {event} ok long (in-close {s = s} {second = second} {t = t} {s' = s'} {second' = second'} {answer = answer} inside x y c) =
-    same-closed s event second s' second' answer long (given-stepped s event ok inside t s' Done x y) c
+    same-closed s event second s' second' answer long (given-stepped s event ok inside t s' (Ok tt) x y) c
 
 -- ---- a run
 -- what single calls come to, as a run
-abbrev ran : ℕ → Outcome → List ℕ → Course
+abbrev ran : ℕ → Result ⊤ Refusal → List ℕ → Course
 ran closed answer last = record { closed = closed; refusal = (said_outcome answer).number; leaves = last }
 
-course-same : {s second events : List ℕ} {closed : ℕ} {answer : Outcome} {last : List ℕ} → state_ok s ≡ true → length second ≡ length s → RunSingly s second events closed answer last
+course-same : {s second events : List ℕ} {closed : ℕ} {answer : Result ⊤ Refusal} {last : List ℕ} → state_ok s ≡ true → length second ≡ length s → RunSingly s second events closed answer last
     → coursed s events ≡ ran closed answer last
 course-same ok long (no-event {s = s}) = coursed-end s
 course-same ok long (finished {s = s} {events = events} f) = coursed-finished s events f
@@ -133,7 +132,7 @@ course-same ok long (tick-then {s = s} {second = second} {s' = s'} {second' = se
     let same : length s' ≡ length second' = ap length t.1 ∙ (tick-stepped s ok f event says).frame.long ∙ sym c.long ∙ ap length (sym is) in
     coursed-more s event events f (ap (λ (a : Said). a.number) says) ∙ ap (λ (u : List ℕ). one_more (coursed u events)) (sym is) ∙ ap one_more (course-same (ap state_ok is ∙ c.passes) same rest)
 
-pub singly-coursed : {s second events : List ℕ} {closed : ℕ} {answer : Outcome} {last : List ℕ} → state_ok s ≡ true → length second ≡ length s → RunSingly s second events closed answer last
+pub singly-coursed : {s second events : List ℕ} {closed : ℕ} {answer : Result ⊤ Refusal} {last : List ℕ} → state_ok s ≡ true → length second ≡ length s → RunSingly s second events closed answer last
     → (closed ≡ (coursed s events).closed) × ((said_outcome answer).number ≡ (coursed s events).refusal) × (last ≡ (coursed s events).leaves)
 singly-coursed ok long x =
     let e = sym (course-same ok long x) in

@@ -3,6 +3,9 @@
 -- (`always-watched`). The first tick is made in two orders, `samples-first` and `slot-first`, which leave the same bytes; by the third demand
 -- so does every other order (`any_order`). Ask tells the verdict false (`always-told`), so that the rule is not met whatever comes then
 -- (`always-unmet`). The rows of the worked values are all that is computed here but the boards' parts of the events. Assumes nothing.
+use Rattle.std.specs.Prelude.{Result, Ok, Err}
+use Rattle.answers.specs.declared.Refusal.{Refusal}
+use Rattle.telling.specs.declared.Standing.{Standing}
 use mathlib.Core.Path.{◌≡◌, refl, sym, ap, ◌∙◌, subst}
 use mathlib.Core.List.{List, [], ◌∷◌}
 use Prim.Native.Nat.{ℕ}
@@ -20,8 +23,6 @@ use Rattle.state.specs.declared.Form.TheVariants.{Plain}
 use Rattle.state.specs.Form.{form_of}
 use Rattle.state.proofs.Forms.{formed-at}
 use Rattle.telling.specs.Ask.{Asks}
-use Rattle.telling.specs.declared.AskAnswer.{AskAnswer}
-use Rattle.telling.specs.declared.AskAnswer.TheVariants.{Told}
 use Rattle.asking.proofs.Determined.{asks-determined}
 use Rattle.loading.specs.Load.{rule_in}
 use Rattle.stars.proofs.Split.{unsampled, half_sampled, sampled}
@@ -113,7 +114,7 @@ always-watched =
     subst (λ (file : List ℕ). Watched file (3 ∷ 1 ∷ 0 ∷ []) finished) surviving.file (ticked (ticked (ticked begun 3 samples-first) 1 tick-a) 0 tick-none)
 
 -- ---- what ask tells of it, and what that means
-pub always-told : (answer : AskAnswer) → Asks finished answer → answer ≡ Told (record { verdict = False; ticks = 3; slots = 1; nodes = 1 })
+pub always-told : (answer : Result Standing Refusal) → Asks finished answer → answer ≡ Ok (record { verdict = False; ticks = 3; slots = 1; nodes = 1 })
 always-told answer a = asks-determined finished answer _ a (record { says = sym surviving.none-stands })
 
 pub always-unmet : (w : Trace) → Satisfies (continued (3 ∷ 1 ∷ 0 ∷ []) w) (rule_in always_file) → ⊥

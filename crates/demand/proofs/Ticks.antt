@@ -1,10 +1,10 @@
 -- That the third demand is about something. Every accepted close of a watch's state is a tick, whatever the boards were given: there is an
 -- event of which each was given its part (`close-ticks`). Until a verdict there are,
 -- for every event, accepted samples and steps after which the close is all that is left (`tick-exists`). Assumes nothing.
+use Rattle.std.specs.Prelude.{Ok, Err}
 use mathlib.Core.Path.{◌≡◌, ◌∙◌}
 use mathlib.Core.List.{List}
 use Prim.Native.Nat.{ℕ}
-use Rattle.answers.specs.declared.Outcome.TheVariants.{Done}
 use Rattle.answers.specs.declared.Verdict.TheVariants.{Pending}
 use Rattle.ltl.specs.Meaning.{Event}
 use Rattle.rules.specs.RuleFile.{propositions_in_file, masks_in_file}
@@ -26,7 +26,7 @@ module _ (file : List ℕ) (us : List Event) (s : List ℕ) (w : Watched file us
   given : (t : List ℕ) (e : Event) (c : Called s t) → Saw t e → GivenBy (masks_in_file file) e c
   given t e c = saw-given (propositions_in_file file) (masks_in_file file) (start_in file) us s (watch-started (propositions_in_file file) (masks_in_file file) (start_in file) (watched w)) t e c
 
-  pub close-ticks : (t second s' : List ℕ) → Called s t → Closes t second s' Done → (e : Event) × Ticked (masks_in_file file) s e s'
+  pub close-ticks : (t second s' : List ℕ) → Called s t → Closes t second s' (Ok tt) → (e : Event) × Ticked (masks_in_file file) s e s'
   close-ticks t second s' c x =
       let ok = watching.tick-passes (propositions_in_file file) (masks_in_file file) (start_in file) us s (watched w) t (called c) in
       (event_of t, record { last = t; calls = c; given = given t (event_of t) c (saw-event t ok); second = second; closes = x })

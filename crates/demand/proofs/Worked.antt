@@ -1,6 +1,9 @@
 -- The scope's example as a watch by the calls' promises: a until b over two boards, first a, then b. Each call is allowed by its promise,
 -- with some that are refused in between (`until-watched`); ask tells the verdict true (`until-told`), so that the rule is met whatever comes
 -- then (`until-met`). The rows of the worked values are all that is computed here but what the boards have seen. Assumes nothing.
+use Rattle.std.specs.Prelude.{Result, Ok, Err}
+use Rattle.answers.specs.declared.Refusal.{Refusal}
+use Rattle.telling.specs.declared.Standing.{Standing}
 use mathlib.Core.Path.{◌≡◌, refl, sym, ap, ◌∙◌, subst}
 use mathlib.Core.List.{List, [], ◌∷◌}
 use Prim.Native.Nat.{ℕ}
@@ -15,8 +18,6 @@ use Rattle.ltl.specs.Meaning.{Event, Trace, Satisfies, continued}
 use Rattle.network.specs.Scores.{sample_of}
 use Rattle.rules.specs.RuleFile.{masks_in_file, mask_bytes, file_of}
 use Rattle.telling.specs.Ask.{Asks}
-use Rattle.telling.specs.declared.AskAnswer.{AskAnswer}
-use Rattle.telling.specs.declared.AskAnswer.TheVariants.{Told}
 use Rattle.asking.proofs.Determined.{asks-determined}
 use Rattle.loading.specs.Load.{rule_in}
 use Rattle.stars.proofs.States.{StepGives}
@@ -64,7 +65,7 @@ until-watched =
     subst (λ (file : List ℕ). Watched file (1 ∷ 2 ∷ []) finished) split.file (ticked (ticked begun 1 tick-a) 2 tick-b)
 
 -- ---- what ask tells of it, and what that means
-pub until-told : (answer : AskAnswer) → Asks finished answer → answer ≡ Told (record { verdict = True; ticks = 2; slots = 1; nodes = 1 })
+pub until-told : (answer : Result Standing Refusal) → Asks finished answer → answer ≡ Ok (record { verdict = True; ticks = 2; slots = 1; nodes = 1 })
 until-told answer a = asks-determined finished answer _ a (record { says = sym split.b-stands })
 
 pub until-met : (w : Trace) → Satisfies (continued (1 ∷ 2 ∷ []) w) (rule_in until_file)

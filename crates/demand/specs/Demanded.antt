@@ -1,7 +1,7 @@
 -- The workshop's third demand, claimed of a watch by the calls' promises: a rule file, the events so far, and the state at load or after
 -- the last close. Assumes nothing: these are definitions.
-use Rattle.std.specs.Prelude.{◌≡◌, true, List, ◌++◌, ℕ}
-use Rattle.answers.specs.declared.Outcome.{Outcome}
+use Rattle.answers.specs.declared.Refusal.{Refusal}
+use Rattle.std.specs.Prelude.{◌≡◌, true, List, ◌++◌, ℕ, Result, ⊤}
 use Rattle.answers.specs.declared.Verdict.TheVariants.{False, True, Pending}
 use Rattle.ltl.specs.Meaning.{Event, Trace, Satisfies, continued}
 use Rattle.rules.specs.RuleFile.{masks_in_file}
@@ -19,7 +19,7 @@ pub record Demanded (file : List ℕ) (us : List Event) (s : List ℕ) : Type 0 
   pub same_bytes : (d e : Event) (a b : List ℕ) (x : Ticked (masks_in_file file) s d a) (y : Ticked (masks_in_file file) s e b) → SameGiven x.calls y.calls → a ≡ b
   -- where the close is all that is left it answers the same, and leaves the same
   pub same-close : (t u : List ℕ) (c : Called s t) (d : Called s u) → done_in t ≡ true → done_in u ≡ true → SameGiven c d
-      → (second a b : List ℕ) (x y : Outcome) → Closes t second a x → Closes u second b y → (x ≡ y) × (a ≡ b)
+      → (second a b : List ℕ) (x y : Result ⊤ Refusal) → Closes t second a x → Closes u second b y → (x ≡ y) × (a ≡ b)
   -- no tick gets stuck: until a verdict some sample or step is accepted, or the close is all that is left, and is accepted or gets 7, 8 or 15
   pub goes_on : (standing file us s).verdict ≡ Pending → (t : List ℕ) → Called s t → GoesOn t
   -- after each close, and until the next, ask tells the verdict that progressing the whole rule, folded, in one place gives for the same events

@@ -2,11 +2,12 @@
 -- many as it stored (`c-captured-watched`), so that the third demand holds of it (`c-captured-demanded`); it stores the verdict of one place
 -- (`c-captured-verdict`) and stops as a watch does (`c-captured-stops`). Until a verdict it answers 0 (`c-captured-pending`). From any state
 -- it comes to what single calls come to (`c-captured-singly`). Assumes nothing.
+use Rattle.std.specs.Prelude.{Result, ⊤}
+use Rattle.answers.specs.declared.Refusal.{Refusal}
 use mathlib.Core.Path.{◌≡◌, sym, ap, ◌∙◌, subst}
 use mathlib.Core.List.{List, ◌++◌}
 use Prim.Native.Nat.{ℕ}
 use lib.ListN.{length, take}
-use Rattle.answers.specs.declared.Outcome.{Outcome}
 use Rattle.answers.specs.declared.Verdict.TheVariants.{Pending}
 use Rattle.answers.specs.Said.{Said, verdict_number, said_outcome}
 use Rattle.ltl.specs.Meaning.{Event}
@@ -56,8 +57,8 @@ module _ {file : List ℕ} {us : List Event} {s : List ℕ} (w : WatchedFromC fi
 
 -- ---- of any state
 pub c-captured-singly : {s second events s' second' : List ℕ} {count verdict stop count' verdict' stop' : ℕ} → CaptureExported s second events s' second' count verdict stop count' verdict' stop' 0
-    → (closed : ℕ) (answer : Outcome) (last : List ℕ) → RunSingly s second events closed answer last → (count' ≡ closed) × (stop' ≡ (said_outcome answer).number) × (s' ≡ last)
+    → (closed : ℕ) (answer : Result ⊤ Refusal) (last : List ℕ) → RunSingly s second events closed answer last → (count' ≡ closed) × (stop' ≡ (said_outcome answer).number) × (s' ≡ last)
 c-captured-singly x closed answer last y =
     let r = capture-same x in
     let e = captured-singly r.captures closed answer last y in
-    (r.count-is ∙ e.0, r.stop_is ∙ ap (λ (a : Outcome). (said_outcome a).number) e.1, e.2)
+    (r.count-is ∙ e.0, r.stop_is ∙ ap (λ (a : Result ⊤ Refusal). (said_outcome a).number) e.1, e.2)

@@ -1,16 +1,14 @@
 -- Splitting the events over two captures from C gives the same as one capture of them all: `c-captured-split`. Assumes nothing.
+use Rattle.std.specs.Prelude.{Result, Ok, Err, ⊤}
+use Rattle.answers.specs.declared.Refusal.{Refusal}
 use mathlib.Core.Path.{◌≡◌, refl, sym, ap, ap₂, ◌∙◌, subst}
 use mathlib.Core.List.{List, ◌++◌}
 use Prim.Native.Nat.{ℕ, ◌+◌}
 use native.Mathlib.Decide.{ℕ_discrete}
-use Rattle.answers.specs.declared.Outcome.{Outcome}
-use Rattle.answers.specs.declared.Outcome.TheVariants.{Done}
 use Rattle.answers.specs.declared.Verdict.TheVariants.{Pending}
 use Rattle.answers.specs.Said.{Said, verdict_number, said_outcome}
 use Rattle.answers.proofs.Answers.{verdict-injective}
 use Rattle.capturing.specs.declared.Captured.{Captured}
-use Rattle.capturing.specs.declared.CaptureAnswer.{CaptureAnswer}
-use Rattle.capturing.specs.declared.CaptureAnswer.TheVariants as capture-said
 use Rattle.capturing.specs.Capture.{said_capture, Captures}
 use Rattle.exported.specs.Exported.{CaptureExported}
 use Rattle.demand.specs.Capturing.{RanThrough}
@@ -26,18 +24,18 @@ stored_of c = record { closed = c.closed; verdict = verdict_number c.verdict; st
 -- ---- one capture
 -- the answer of the call itself, with the same number, and where it ran what it stored
 record AnsweredC (s second events s' second' : List ℕ) (x : StoredC) : Type 0 where
-  said : CaptureAnswer
+  said : Result Captured Refusal
   captures : Captures s second events s' second' said
   number : x.answer ≡ (said_capture said).number
-  ran : x.answer ≡ 0 → (c : Captured) × (said ≡ capture-said.Captured c)
-  stored : (c : Captured) → said ≡ capture-said.Captured c → x ≡ stored_of c
+  ran : x.answer ≡ 0 → (c : Captured) × (said ≡ Ok c)
+  stored : (c : Captured) → said ≡ Ok c → x ≡ stored_of c
 
-captured-same : (c d : Captured) → capture-said.Captured c ≡ capture-said.Captured d → c ≡ d
+captured-same : (c d : Captured) → ◌≡◌ {A = Result Captured Refusal} (Ok c) (Ok d) → c ≡ d
 captured-same c d = ap run_of
   where
-    run_of : CaptureAnswer → Captured
-    run_of (capture-said.Captured e) = e
-    run_of (capture-said.Refused why) = c
+    run_of : Result Captured Refusal → Captured
+    run_of (Ok e) = e
+    run_of (Err why) = c
 
 answered : {s second events s' second' : List ℕ} {x : StoredC} → CapturesFromC s second events s' second' x → AnsweredC s second events s' second' x
 answered {s} {second} {events} {s'} {second'} {x} h = go (ℕ_discrete x.answer 0)
@@ -49,7 +47,7 @@ answered {s} {second} {events} {s'} {second'} {x} h = go (ℕ_discrete x.answer 
         let verdict = y.verdict-is in
         let stop = y.stop_is in
         record {
-          said = capture-said.Captured y.told;
+          said = Ok y.told;
           captures = y.captures;
           number = z;
           ran = λ e. (y.told, refl);
@@ -59,20 +57,20 @@ answered {s} {second} {events} {s'} {second'} {x} h = go (ℕ_discrete x.answer 
         let y = capture-refusal h.captures n in
         let number = h.captures.says ∙ ap (λ (a : Said). a.number) (sym y.1.says) in
         record {
-          said = capture-said.Refused y.0;
+          said = Err y.0;
           captures = y.1;
           number = number;
           ran = λ z. absurd (n z);
-          stored = λ c e. absurd (n (number ∙ ap (λ (a : CaptureAnswer). (said_capture a).number) e));
+          stored = λ c e. absurd (n (number ∙ ap (λ (a : Result Captured Refusal). (said_capture a).number) e));
         }
 
 module _ {s second events s' second' : List ℕ} {x : StoredC} (y : AnsweredC s second events s' second' x) (c : Captured) where
-  through-of : RanThroughC x → y.said ≡ capture-said.Captured c → RanThrough y.said c
+  through-of : RanThroughC x → y.said ≡ Ok c → RanThrough y.said c
   through-of h e =
       let q = sym (y.stored c e) in
       record {
         accepts = e;
-        stops = outcome-injective c.stop Done (ap (λ (z : StoredC). z.stop) q ∙ h.stops);
+        stops = outcome-injective c.stop (Ok tt) (ap (λ (z : StoredC). z.stop) q ∙ h.stops);
         pending = verdict-injective c.verdict Pending (ap (λ (z : StoredC). z.verdict) q ∙ h.pending);
       }
 
@@ -81,7 +79,7 @@ module _ {s second events s' second' : List ℕ} {x : StoredC} (y : AnsweredC s 
       let q = y.stored c h.accepts in
       record {
         accepts = ap (λ (z : StoredC). z.answer) q;
-        stops = ap (λ (z : StoredC). z.stop) q ∙ ap (λ (a : Outcome). (said_outcome a).number) h.stops;
+        stops = ap (λ (z : StoredC). z.stop) q ∙ ap (λ (a : Result ⊤ Refusal). (said_outcome a).number) h.stops;
         pending = ap (λ (z : StoredC). z.verdict) q ∙ ap verdict_number h.pending;
       }
 
@@ -107,5 +105,5 @@ c-captured-split {s} {second} {xs} {ys} {s'} {second'} {t} {r} {a} {b} x y =
           (whole.stored c.0 (g.0 ∙ c.1) ∙ sym (first.stored c.0 c.1), g.1, g.2);
       refuses = λ n.
           let g = split.stays (λ d o. n (of-through first d o).accepts) in
-          (whole.number ∙ ap (λ (w : CaptureAnswer). (said_capture w).number) g.0 ∙ sym first.number, g.1, g.2);
+          (whole.number ∙ ap (λ (w : Result Captured Refusal). (said_capture w).number) g.0 ∙ sym first.number, g.1, g.2);
     }

@@ -1,12 +1,12 @@
 -- The workshop's third demand for the calls from C (`demanded-from-c`): it holds of every watch that the exported functions' promises allow.
 -- Assumes nothing.
+use Rattle.std.specs.Prelude.{Result, Ok, Err, ⊤}
+use Rattle.answers.specs.declared.Refusal.{Refusal}
 use mathlib.Core.Path.{sym, ap, ◌∙◌}
 use mathlib.Core.List.{List}
 use Prim.Native.Nat.{ℕ}
 use Rattle.lists.specs.Tests.{pick}
-use Rattle.answers.specs.declared.Outcome.{Outcome}
 use Rattle.answers.specs.declared.Refusal.TheVariants.{Slots, Nodes, Ticks}
-use Rattle.answers.specs.declared.Outcome.TheVariants.{Refused, Done}
 use Rattle.answers.specs.Said.{Said, said_outcome}
 use Rattle.ltl.specs.Meaning.{Event}
 use Rattle.telling.specs.declared.Standing.{Standing}
@@ -23,10 +23,10 @@ use Rattle.demand_c.proofs.Same.{sample-same, step_same, close-same}
 use Rattle.demand_c.proofs.Watches.{from-c, gave-from-c, ticked-from-c, watched-from-c}
 
 -- ---- the number that a call answers is that of the outcome that it gets
-abbrev numbered : Outcome → ℕ
+abbrev numbered : Result ⊤ Refusal → ℕ
 numbered answer = (said_outcome answer).number
 
-module _ (t : List ℕ) (wanted : Outcome) where
+module _ (t : List ℕ) (wanted : Result ⊤ Refusal) where
   sample-answers : (board bits : ℕ) → Gets (Samples t board bits) wanted → Answers (SampleExported t board bits) (numbered wanted)
   sample-answers board bits g =
       record {
@@ -53,12 +53,12 @@ module _ (t : List ℕ) (wanted : Outcome) where
       }
 
 going_on : (t : List ℕ) → GoesOn t → GoesOnFromC t
-going_on t (claim.samples board bits g) = samples board bits (sample-answers t Done board bits g)
-going_on t (claim.steps slot g) = steps slot (step-answers t Done slot g)
-going_on t (claim.closes left (claim.accepts g)) = closes left.done (close-answers t Done g)
-going_on t (claim.closes left (claim.too-many-slots g)) = too-many-slots left.done (close-answers t (Refused Slots) g)
-going_on t (claim.closes left (claim.too-many-nodes g)) = too-many-nodes left.done (close-answers t (Refused Nodes) g)
-going_on t (claim.closes left (claim.no-more-ticks g)) = no-more-ticks left.done (close-answers t (Refused Ticks) g)
+going_on t (claim.samples board bits g) = samples board bits (sample-answers t (Ok tt) board bits g)
+going_on t (claim.steps slot g) = steps slot (step-answers t (Ok tt) slot g)
+going_on t (claim.closes left (claim.accepts g)) = closes left.done (close-answers t (Ok tt) g)
+going_on t (claim.closes left (claim.too-many-slots g)) = too-many-slots left.done (close-answers t (Err Slots) g)
+going_on t (claim.closes left (claim.too-many-nodes g)) = too-many-nodes left.done (close-answers t (Err Nodes) g)
+going_on t (claim.closes left (claim.no-more-ticks g)) = no-more-ticks left.done (close-answers t (Err Ticks) g)
 
 storing : (t : List ℕ) (x : Standing) → AskGets t x → (verdict ticks slots nodes verdict' ticks' slots' nodes' n : ℕ) → AskExported t verdict ticks slots nodes verdict' ticks' slots' nodes' n
     → Stores x verdict' ticks' slots' nodes' n

@@ -1,12 +1,12 @@
 -- Calls from C are calls (`from-c`), with nothing given that was not given from C (`gave-from-c`); so a tick from C is a tick (`ticked-from-c`) and a
 -- watch from C is a watch (`watched-from-c`). Assumes nothing.
+use Rattle.std.specs.Prelude.{Result, Ok, Err, ⊤}
+use Rattle.answers.specs.declared.Refusal.{Refusal}
 use mathlib.Core.Path.{◌≡◌, refl, ap, ◌∙◌, subst}
 use mathlib.Core.List.{List}
 use mathlib.Core.Logic.{inl, inr, ⊎_elim}
 use Prim.Native.Nat.{ℕ}
 use native.Mathlib.Omega.{arith}
-use Rattle.answers.specs.declared.Outcome.{Outcome}
-use Rattle.answers.specs.declared.Outcome.TheVariants.{Refused, Done}
 use Rattle.answers.specs.Said.{said_outcome}
 use Rattle.answers.proofs.Answers.{number-some}
 use Rattle.ltl.specs.Meaning.{Event}
@@ -51,7 +51,7 @@ from-c (mend-marks-refused c recording mended mended' kept first kept' first' n 
 pub gave-from-c : {s t : List ℕ} (c : CalledFromC s t) (b v : ℕ) → Gave (from-c c) b v → GaveFromC c b v
 gave-from-c nothing b v g = g
 gave-from-c (sampled c board bits n p) b v g =
-    ⊎_elim (λ h. inl (gave-from-c c b v h)) (λ h. inr ((sample-same p).2 ∙ ap (λ (a : Outcome). (said_outcome a).number) h.0, h.1, h.2)) g
+    ⊎_elim (λ h. inl (gave-from-c c b v h)) (λ h. inr ((sample-same p).2 ∙ ap (λ (a : Result ⊤ Refusal). (said_outcome a).number) h.0, h.1, h.2)) g
 gave-from-c (stepped c slot n p) b v g = gave-from-c c b v g
 gave-from-c (asked c verdict ticks slots nodes verdict' ticks' slots' nodes' n p) b v g = gave-from-c c b v g
 gave-from-c (closed c second second' n p) b v g = gave-from-c c b v g
@@ -70,9 +70,9 @@ gave-from-c (mend-refused c recording marks marks' kept first kept' first' n ref
 gave-from-c (mend-marks-refused c recording mended mended' kept first kept' first' n refuses p) b v g = gave-from-c c b v g
 
 -- a call that answers 0 is done
-pub zero-done : (answer : Outcome) → 0 ≡ (said_outcome answer).number → answer ≡ Done
-zero-done (Refused why) e = absurd (omega (arith, number-some why))
-zero-done Done e = refl
+pub zero-done : (answer : Result ⊤ Refusal) → 0 ≡ (said_outcome answer).number → answer ≡ Ok tt
+zero-done (Err why) e = absurd (omega (arith, number-some why))
+zero-done (Ok _) e = refl
 
 abbrev pub ticked-from-c : {masks s : List ℕ} {e : Event} {s' : List ℕ} → TickedFromC masks s e s' → Ticked masks s e s'
 ticked-from-c {masks} {s} {e} {s'} x =
@@ -82,11 +82,11 @@ ticked-from-c {masks} {s} {e} {s'} x =
       calls = from-c x.calls;
       given = λ b v g. x.given b v (gave-from-c x.calls b v g);
       second = x.second;
-      closes = subst (λ (a : Outcome). Closes x.last x.second s' a) (zero-done r.0 r.2) r.1;
+      closes = subst (λ (a : Result ⊤ Refusal). Closes x.last x.second s' a) (zero-done r.0 r.2) r.1;
     }
 
 pub watched-from-c : {file : List ℕ} {us : List Event} {s : List ℕ} → WatchedFromC file us s → Watched file us s
 watched-from-c {file} (begun {before = before} {s = s} l) =
     let r = load_same l in
-    call.begun (subst (λ (a : Outcome). LoadsRule file before s a) (zero-done r.0 r.2) r.1)
+    call.begun (subst (λ (a : Result ⊤ Refusal). LoadsRule file before s a) (zero-done r.0 r.2) r.1)
 watched-from-c (ticked w e x) = call.ticked (watched-from-c w) e (ticked-from-c x)

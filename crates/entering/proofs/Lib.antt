@@ -2,6 +2,5 @@
 pub mod Telling
 pub mod Outers
 pub mod Registers
-pub mod Writing
 pub mod Finding
 pub mod Outcomes

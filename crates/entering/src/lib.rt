@@ -24,11 +24,12 @@ pub struct Entered {
 }
 
 // A slot's board and how many nodes it has, as one number: slots with other stamps are not equal.
+#[tactic(auto, unfolding(tokens::specs::Kept::stamp_of))]
 pub fn stamp_of(board: u8, nodes: usize) -> u64
     requires { nodes < 2 ^ 32 }
     ensures { result ≡ stamp_of board nodes }
 {
-    nodes as u64 * STAMP_ROOM + board as u64
+    nodes as u64 * STAMP_ROOM + u64::from(board)
 }
 
 // Whether two tokens stand for the same bytes. Equal texts may stand at two places.
@@ -45,8 +46,8 @@ fn alike(bytes: &[u8], marks: &[u32], t: u16, u: u16) -> bool
     if u < TEXT {
         return false;
     }
-    let a = buffers::wide(t - TEXT);
-    let b = buffers::wide(u - TEXT);
+    let a = usize::from(t - TEXT);
+    let b = usize::from(u - TEXT);
     let n = marks::length_of(marks[a]);
     let m = marks::length_of(marks[b]);
     if n != m {
@@ -60,13 +61,10 @@ fn same_tokens(bytes: &[u8], marks: &[u32], bodies: &[u16], from: usize, tokens:
     requires { RunsAsk bytes.now marks.now bodies.now from tokens.now }
     ensures { RunsTold bytes.now marks.now bodies.now from tokens.now result }
 {
-    let n = tokens.len();
-    let mut i: usize = 0;
-    while i < n {
-        if !alike(bytes, marks, tokens[i], bodies[from + i]) {
+    for (i, t) in tokens.iter().enumerate() {
+        if !alike(bytes, marks, *t, bodies[from + i]) {
             return false;
         }
-        i += 1;
     }
     true
 }
@@ -89,8 +87,8 @@ fn is_entry(
     if stamps[k] != stamp {
         return false;
     }
-    let from = buffers::wide(places[k]);
-    let end = buffers::wide(places[k + 1]);
+    let from = usize::from(places[k]);
+    let end = usize::from(places[k + 1]);
     if end - from != tokens.len() {
         return false;
     }
@@ -111,27 +109,12 @@ fn find(
     requires { EnterAsk bytes.now marks.now tokens.now stamp entries bodies.now places.now stamps.now }
     ensures { FindsEntry bytes.now marks.now tokens.now stamp entries bodies.now places.now stamps.now result }
 {
-    let mut k: usize = 0;
-    while k < entries {
+    for k in 0..entries {
         if is_entry(bytes, marks, tokens, stamp, bodies, places, stamps, k) {
             return k;
         }
-        k += 1;
     }
     entries
-}
-
-// Copies the tokens to a place of the bodies; all else stays.
-fn put_tokens(bodies: &mut [u16], to: usize, tokens: &[u16])
-    requires { to + length tokens.now ≤ length bodies.old }
-    ensures { bodies.new ≡ take to bodies.old ++ (tokens.now ++ drop (to + length tokens.now) bodies.old) }
-{
-    let n = tokens.len();
-    let mut i: usize = 0;
-    while i < n {
-        bodies[to + i] = tokens[i];
-        i += 1;
-    }
 }
 
 // Puts an entry behind the others.
@@ -146,9 +129,10 @@ fn append(
     requires { AppendAsk tokens.now entries bodies.old places.old stamps.old }
     ensures { Appends tokens.now stamp entries bodies.old places.old stamps.old bodies.new places.new stamps.new }
 {
-    let at = buffers::wide(places[entries]);
-    put_tokens(bodies, at, tokens);
-    places[entries + 1] = buffers::narrow(at + tokens.len());
+    let at = usize::from(places[entries]);
+    let end = at + tokens.len();
+    bodies[at..end].copy_from_slice(tokens);
+    places[entries + 1] = buffers::narrow(end);
     stamps[entries] = stamp;
 }
 
@@ -169,10 +153,7 @@ pub fn enter(
 {
     let k = find(bytes, marks, tokens, stamp, entries, bodies, places, stamps);
     if k < entries {
-        return Entered {
-            entry: k,
-            entries: entries,
-        };
+        return Entered { entry: k, entries };
     }
     if entries == SLOTS_ROOM - 1 {
         return Entered {

@@ -1,6 +1,8 @@
 -- Nights over the calls' promises. What `report` has left does not depend on the order of the runs (`reports-reordered`). What `add` leaves of two
 -- reports is what `report` leaves of the two lists, one behind the other, where they have no more than 65,536 runs together (`reports-added`),
 -- and else it is 3 (`reports-too-many`). From C the same (`c-reports-reordered`, `c-reports-added`, `c-reports-too-many`). Assumes nothing.
+use Rattle.std.specs.Prelude.{Result, Ok, Err, ⊤}
+use Rattle.answers.specs.declared.Refusal.{Refusal}
 use mathlib.Core.Path.{◌≡◌, sym, ap, ap₂, ◌∙◌}
 use mathlib.Core.List.{List, [], ◌++◌}
 use Prim.Native.Nat.{ℕ, ◌+◌, ◌/◌, ◌<◌, ◌≤◌}
@@ -10,8 +12,6 @@ use Rattle.limits.specs.Limits.{rules_most, runs_most}
 use Rattle.le.proofs.Laws.{Bytes}
 use Rattle.answers.specs.Said.{Said, accepted, refused, left}
 use Rattle.answers.specs.declared.Refusal.TheVariants.{Range}
-use Rattle.answers.specs.declared.Outcome.{Outcome}
-use Rattle.answers.specs.declared.Outcome.TheVariants.{Refused, Done}
 use Rattle.answers.proofs.Answers.{said_outcome-injective, left-accepted}
 use Rattle.reports.specs.Runs.{run_length, runs_in}
 use Rattle.reports.specs.Report.{row_of}
@@ -21,7 +21,6 @@ use Rattle.reports.specs.Nights.{Night}
 use Rattle.reports.proofs.Order.{order-free}
 use Rattle.reports.proofs.ReadBack.{rows_same}
 use Rattle.reports.proofs.RunBytes.{runs-both}
-use Rattle.reporting.specs.declared.ReportAnswer.TheVariants.{Reported}
 use Rattle.reporting.specs.Report.{report_says, report_for, Reports}
 use Rattle.reporting.proofs.Told.{report-told, report-night, report-left}
 use Rattle.adding.specs.Add.{add_says, sum_for, AddsReport}
@@ -34,7 +33,7 @@ pub record ReportKept (runs report : List ℕ) : Type 0 where
   pub accepts : (report_says runs room).number ≡ 0
   pub leaves : report ≡ report_for runs
 
-pub accepted-of : {runs report report' : List ℕ} → Reports runs report report' Reported → ReportKept runs report'
+pub accepted-of : {runs report report' : List ℕ} → Reports runs report report' (Ok tt) → ReportKept runs report'
 accepted-of {runs} {report} p =
     let z = sym (ap (λ (a : Said). a.number) p.says) in
     record { room = length report; accepts = z; leaves = report-left runs report z p.leaves }
@@ -46,7 +45,7 @@ accepted-from-c {runs} {report} p = record { room = length report; accepts = sym
 same-report : {a b ra rb : List ℕ} → ReportKept a ra → ReportKept b rb → Reordered (runs_in a) (runs_in b) → ra ≡ rb
 same-report {a} {b} x y o = x.leaves ∙ rows_same (row_of (runs_in a)) (row_of (runs_in b)) rules_most (λ r h. order-free o r) ∙ sym y.leaves
 
-pub reports-reordered : {a b da db ra rb : List ℕ} → Reports a da ra Reported → Reports b db rb Reported → Reordered (runs_in a) (runs_in b) → ra ≡ rb
+pub reports-reordered : {a b da db ra rb : List ℕ} → Reports a da ra (Ok tt) → Reports b db rb (Ok tt) → Reordered (runs_in a) (runs_in b) → ra ≡ rb
 reports-reordered x y = same-report (accepted-of x) (accepted-of y)
 
 pub c-reports-reordered : {a b da db ra rb : List ℕ} {p p' q q' : ℕ} → ReportExported a da ra p p' 0 → ReportExported b db rb q q' 0 → Reordered (runs_in a) (runs_in b) → ra ≡ rb
@@ -78,15 +77,15 @@ module _ {a b ra rb : List ℕ} (x : ReportKept a ra) (y : ReportKept b rb) (a-b
   sum_left : {total : List ℕ} → length (runs_in a) + length (runs_in b) ≤ runs_most → total ≡ left (add_says ra rb) (sum_for ra rb) ra → total ≡ report_for (a ++ b)
   sum_left h e = e ∙ ap (λ (s : Said). left s (sum_for ra rb) ra) (add-says h) ∙ left-accepted _ (sum_for ra rb) ra ∙ add-leaves
 
-module _ {a b da db ra rb : List ℕ} (x : Reports a da ra Reported) (y : Reports b db rb Reported) (a-bytes : Bytes a) (b-bytes : Bytes b) {total : List ℕ} {answer : Outcome}
+module _ {a b da db ra rb : List ℕ} (x : Reports a da ra (Ok tt)) (y : Reports b db rb (Ok tt)) (a-bytes : Bytes a) (b-bytes : Bytes b) {total : List ℕ} {answer : Result ⊤ Refusal}
     (z : AddsReport ra rb total answer) where
-  pub reports-added : length (runs_in a) + length (runs_in b) ≤ runs_most → (answer ≡ Done) × (total ≡ report_for (a ++ b))
+  pub reports-added : length (runs_in a) + length (runs_in b) ≤ runs_most → (answer ≡ Ok tt) × (total ≡ report_for (a ++ b))
   reports-added h =
       let p = accepted-of x in let q = accepted-of y in
-      (said_outcome-injective answer Done (z.says ∙ add-says p q a-bytes b-bytes h), sum_left p q a-bytes b-bytes h z.leaves)
+      (said_outcome-injective answer (Ok tt) (z.says ∙ add-says p q a-bytes b-bytes h), sum_left p q a-bytes b-bytes h z.leaves)
 
-  pub reports-too-many : runs_most < length (runs_in a) + length (runs_in b) → answer ≡ Refused Range
-  reports-too-many h = said_outcome-injective answer (Refused Range) (z.says ∙ add-refuses (accepted-of x) (accepted-of y) a-bytes b-bytes h)
+  pub reports-too-many : runs_most < length (runs_in a) + length (runs_in b) → answer ≡ Err Range
+  reports-too-many h = said_outcome-injective answer (Err Range) (z.says ∙ add-refuses (accepted-of x) (accepted-of y) a-bytes b-bytes h)
 
 module _ {a b da db ra rb : List ℕ} {p p' q q' : ℕ} (x : ReportExported a da ra p p' 0) (y : ReportExported b db rb q q' 0) (a-bytes : Bytes a) (b-bytes : Bytes b)
     {total : List ℕ} {n : ℕ} (z : AddExported ra rb total n) where

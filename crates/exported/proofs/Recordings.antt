@@ -2,6 +2,7 @@
 -- recording again changes nothing (`c-mended-again`); a stretch of it has the events of the first stretch of the recording (`c-mended-stretch`),
 -- and one of the recording itself begins with the same events (`c-stretch-either`). A call that answers 0 does what the call's own promise allows,
 -- with the values that it stores (`mend-from-c`, `stretch-from-c`). Assumes nothing.
+use Rattle.std.specs.Prelude.{Ok, Err}
 use mathlib.Core.Path.{◌≡◌, sym, ap, ap₂, ◌∙◌}
 use mathlib.Core.List.{List, [], ◌∷◌}
 use Prim.Native.Nat.{ℕ}
@@ -12,16 +13,14 @@ use Rattle.le.proofs.Laws.{Bytes}
 use Rattle.answers.specs.Said.{Said, accepted}
 use Rattle.recordings.specs.Mending.{not_dropped, first_events}
 use Rattle.recordings.specs.Recording.{recording_length, count_in, records_in}
-use Rattle.mending.specs.declared.MendAnswer.TheVariants.{Mended}
 use Rattle.mending.specs.Mend.{Mends}
-use Rattle.stretching.specs.declared.StretchAnswer.TheVariants.{Taken}
 use Rattle.stretching.specs.Stretch.{Stretches}
 use Rattle.stretching.proofs.Mended.{mend-told, stretch-told, again-allowed, stretch-allowed, mended-stretch, either-allowed, stretch-either}
 use Rattle.exported.specs.Exported.{value_at, MendExported, StretchExported}
 
 -- ---- accepted
 pub mend-from-c : {s mended marks mended' marks' : List ℕ} {k f kept first : ℕ} → MendExported s mended marks mended' marks' k f kept first 0
-    → Mends s mended marks mended' marks' (Mended (record { kept = kept; first = first }))
+    → Mends s mended marks mended' marks' (Ok (record { kept = kept; first = first }))
 unfolding value_at pick
 mend-from-c {s} {mended} {marks} {k = k} {f = f} x =
     let e = mend-told s (length mended) (length marks) (sym x.says) in
@@ -31,14 +30,14 @@ mend-from-c {s} {mended} {marks} {k = k} {f = f} x =
       leaves-marks = x.leaves-marks;
     }
 
-pub stretch-from-c : {s events events' : List ℕ} {f first : ℕ} → StretchExported s events events' f first 0 → Stretches s events events' (Taken first)
+pub stretch-from-c : {s events events' : List ℕ} {f first : ℕ} → StretchExported s events events' f first 0 → Stretches s events events' (Ok first)
 unfolding value_at pick
 stretch-from-c {s} {events} {f = f} x =
     let e = stretch-told s (length events) (sym x.says) in
     record { says = ap (λ (a : ℕ). accepted (a ∷ [])) (x.gives-first ∙ ap (λ (a : Said). value_at a 0 f) e) ∙ sym e; leaves = x.leaves }
 
 -- a stretch that may be taken is
-taken-from-c : {s events events' due : List ℕ} {f f' n first : ℕ} → StretchExported s events events' f f' n → Stretches s events due (Taken first)
+taken-from-c : {s events events' due : List ℕ} {f f' n first : ℕ} → StretchExported s events events' f f' n → Stretches s events due (Ok first)
     → (n ≡ 0) × (f' ≡ first) × (events' ≡ due)
 unfolding value_at pick
 taken-from-c {f = f} y p =

@@ -7,16 +7,9 @@ ghost use Rattle.std.specs.Prelude.{◌≡◌};
 ghost use Rattle.answers.specs.Said.{said_outcome};
 ghost use Rattle.exported.specs.Exported.{ReadExported, WriteExported, ParseExported, PrintExported, CentralExported, LoadExported, SampleExported, StepExported, CloseExported, AskExported, CaptureExported, ReportExported, AddExported, MendExported, StretchExported};
 
-use answers::Outcome;
-use capturing::CaptureAnswer;
-use central::CentralAnswer;
-use mending::MendAnswer;
-use parsing::ParseAnswer;
-use printing::PrintAnswer;
-use reporting::ReportAnswer;
-use rules::{ReadAnswer, WriteAnswer};
-use stretching::StretchAnswer;
-use telling::AskAnswer;
+use answers::Refusal;
+use parsing::ParseError;
+use reporting::ReportError;
 
 #[unsafe(no_mangle)]
 pub extern "C" fn vydrulka_read(
@@ -31,8 +24,8 @@ pub extern "C" fn vydrulka_read(
 {
     let answer = reading::read(file, masks, formula);
     match answer {
-        ReadAnswer::Refused(why) => why.number(),
-        ReadAnswer::Rule(c) => {
+        Err(why) => u32::from(why),
+        Ok(c) => {
             *boards = c.boards;
             *propositions = c.propositions;
             *nodes = c.nodes;
@@ -53,8 +46,8 @@ pub extern "C" fn vydrulka_write(
 {
     let answer = writing::write(masks, propositions, formula, file);
     match answer {
-        WriteAnswer::Refused(why) => why.number(),
-        WriteAnswer::Written(n) => {
+        Err(why) => u32::from(why),
+        Ok(n) => {
             *written = n as u64;
             0
         }
@@ -73,13 +66,13 @@ pub extern "C" fn vydrulka_parse(
 {
     let answer = parsing::parse(text, formula);
     match answer {
-        ParseAnswer::Refused(why) => why.number(),
-        ParseAnswer::NoText(at) => {
+        Err(ParseError::Refused(why)) => u32::from(why),
+        Err(ParseError::NoText(at)) => {
             *line = at.line as u64;
             *byte = at.byte as u64;
             16
         }
-        ParseAnswer::Parsed(n) => {
+        Ok(n) => {
             *nodes = n as u64;
             0
         }
@@ -92,8 +85,8 @@ pub extern "C" fn vydrulka_print(formula: &[u8], text: &mut [u8], length: &mut u
 {
     let answer = printing::print(formula, text);
     match answer {
-        PrintAnswer::Refused(why) => why.number(),
-        PrintAnswer::Printed(n) => {
+        Err(why) => u32::from(why),
+        Ok(n) => {
             *length = n as u64;
             0
         }
@@ -112,10 +105,10 @@ pub extern "C" fn vydrulka_central(
 {
     let answer = central::central(formula, event, output);
     match answer {
-        CentralAnswer::Refused(why) => why.number(),
-        CentralAnswer::Progressed(p) => {
+        Err(why) => u32::from(why),
+        Ok(p) => {
             let v = p.verdict;
-            *verdict = v.number();
+            *verdict = u32::from(v);
             *nodes = p.length as u64;
             0
         }
@@ -123,12 +116,12 @@ pub extern "C" fn vydrulka_central(
 }
 
 // The number of an answer without values.
-fn number_of(outcome: Outcome) -> u32
+fn number_of(outcome: Result<(), Refusal>) -> u32
     ensures { result ≡ (said_outcome outcome).number }
 {
     match outcome {
-        Outcome::Refused(why) => why.number(),
-        Outcome::Done => 0,
+        Err(why) => u32::from(why),
+        Ok(()) => 0,
     }
 }
 
@@ -172,10 +165,10 @@ pub extern "C" fn vydrulka_ask(
 {
     let answer = asking::ask(state);
     match answer {
-        AskAnswer::Refused(why) => why.number(),
-        AskAnswer::Told(t) => {
+        Err(why) => u32::from(why),
+        Ok(t) => {
             let v = t.verdict;
-            *verdict = v.number();
+            *verdict = u32::from(v);
             *ticks = t.ticks;
             *slots = t.slots as u64;
             *nodes = t.nodes as u64;
@@ -197,12 +190,12 @@ pub extern "C" fn vydrulka_capture(
 {
     let answer = capturing::capture(state, second, events);
     match answer {
-        CaptureAnswer::Refused(why) => why.number(),
-        CaptureAnswer::Captured(c) => {
+        Err(why) => u32::from(why),
+        Ok(c) => {
             let v = c.verdict;
             let o = c.stop;
             *closed = c.closed as u64;
-            *verdict = v.number();
+            *verdict = u32::from(v);
             *stop = number_of(o);
             0
         }
@@ -215,12 +208,12 @@ pub extern "C" fn vydrulka_report(runs: &[u8], report: &mut [u8], place: &mut u6
 {
     let answer = reporting::report(runs, report);
     match answer {
-        ReportAnswer::Refused(why) => why.number(),
-        ReportAnswer::NoRun(at) => {
+        Err(ReportError::Refused(why)) => u32::from(why),
+        Err(ReportError::NoRun(at)) => {
             *place = at as u64;
             19
         }
-        ReportAnswer::Reported => 0,
+        Ok(()) => 0,
     }
 }
 
@@ -243,8 +236,8 @@ pub extern "C" fn vydrulka_mend(
 {
     let answer = mending::mend(recording, mended, marks);
     match answer {
-        MendAnswer::Refused(why) => why.number(),
-        MendAnswer::Mended(m) => {
+        Err(why) => u32::from(why),
+        Ok(m) => {
             *kept = m.kept as u64;
             *first = m.first as u64;
             0
@@ -258,8 +251,8 @@ pub extern "C" fn vydrulka_stretch(recording: &[u8], events: &mut [u64], first: 
 {
     let answer = stretching::stretch(recording, events);
     match answer {
-        StretchAnswer::Refused(why) => why.number(),
-        StretchAnswer::Taken(n) => {
+        Err(why) => u32::from(why),
+        Ok(n) => {
             *first = n as u64;
             0
         }

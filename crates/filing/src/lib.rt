@@ -23,10 +23,8 @@ fn put_masks(out: &mut [u8], masks: &[u64])
     requires { 8 * length masks.now ≤ length out.old }
     ensures { out.new ≡ mask_bytes masks.now ++ drop (8 * length masks.now) out.old }
 {
-    let mut i: usize = 0;
-    while i < masks.len() {
-        le::put_u64(out, 8 * i, masks[i]);
-        i += 1;
+    for (i, &mask) in masks.iter().enumerate() {
+        le::put_u64(out, 8 * i, mask);
     }
 }
 

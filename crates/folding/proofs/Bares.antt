@@ -1,16 +1,13 @@
--- Bytes with nothing to fold: `bare-more` and its like are the turns of the loop that looks for them, and `bare-stands` is what it tells: the
--- formula is folded as it stands. The last byte of a formula is a leaf's, so that nothing behind a formula stands behind until. Assumes
--- nothing.
+-- Bytes with nothing to fold: where the lowest is no constant's, there are such (`lowest-bare`), and their formula is folded as it stands
+-- (`bare-stands`). The last byte of a formula is a leaf's, so that nothing behind a formula stands behind until. Assumes nothing.
 use mathlib.Core.Path.{◌≡◌, refl, sym, ap, ◌∙◌}
 use mathlib.Core.Bool.{Bool, true, false}
 use mathlib.Core.List.{List, [], ◌∷◌, ◌++◌, append_assoc}
 use mathlib.Core.Logic.{◌⊎◌, inl, inr}
-use Prim.Native.Nat.{ℕ, suc, ◌+◌, ◌<◌, ◌≤◌, min}
+use Prim.Native.Nat.{ℕ, ◌<◌, ◌≤◌, min}
 use native.Mathlib.Omega.{arith}
-use borrow.Author.Tests.{eqb-true, le-leb, lt-leb, eq-eqb, ne_eqb}
+use borrow.Author.Tests.{eqb-true, le-leb, lt-leb}
 use lib.Dec.{eqb}
-use lib.ListN.{length, get_or, drop, drop_of_length-le}
-use lib.Seq.{drop-cons}
 use Rattle.lists.specs.Tests.{both, either}
 use Rattle.lists.proofs.Tests.{both-0, both-1, both_true}
 use Rattle.kinds.specs.declared.Leaf.{Leaf}
@@ -28,64 +25,15 @@ use Rattle.folded.proofs.Again.{Bare, bare-folded}
 use Rattle.folding.specs.Bare.{bare_byte, bare_from, lowest_from}
 
 -- ---- one byte
-pub byte_high : (last b : ℕ) → 2 ≤ b → true ≡ bare_byte last b
+byte_high : (last b : ℕ) → 2 ≤ b → true ≡ bare_byte last b
 unfolding bare_byte either
 byte_high last b h = sym (ap (λ (x : Bool). either x (both (eqb last 6) (eqb b 1))) (le-leb 2 b h))
 
-pub byte_low : (last b : ℕ) → b < 2 → bare_byte last b ≡ both (eqb last 6) (eqb b 1)
+byte_low : (last b : ℕ) → b < 2 → bare_byte last b ≡ both (eqb last 6) (eqb b 1)
 unfolding bare_byte either
 byte_low last b h = ap (λ (x : Bool). either x (both (eqb last 6) (eqb b 1))) (lt-leb 2 b h)
 
-pub byte-bad : (last b : ℕ) → b < 2 → (last ≡ 6 → ⊥) → false ≡ bare_byte last b
-unfolding both
-byte-bad last b h n = sym (byte_low last b h ∙ ap (λ (x : Bool). both x (eqb b 1)) (ne_eqb last 6 n))
-
-pub byte-behind : (last b : ℕ) → b < 2 → last ≡ 6 → eqb b 1 ≡ bare_byte last b
-unfolding both
-byte-behind last b h e = sym (byte_low last b h ∙ ap (λ (x : Bool). both x (eqb b 1)) (eq-eqb last 6 e))
-
--- ---- the loop: what is left, behind the byte read last, tells what all of it does
-pub record BareTo (s : List ℕ) (last i : ℕ) : Type 0 where
-  pub inside : i ≤ length s
-  pub tells : bare_from 0 s ≡ bare_from last (drop i s)
-
-module _ {s : List ℕ} {last i : ℕ} (h : BareTo s last i) (l : i < length s) where
-  next-byte : bare_from 0 s ≡ both (bare_byte last (get_or s i 0)) (bare_from (get_or s i 0) (drop (suc i) s))
-  next-byte = h.tells ∙ ap (bare_from last) (drop-cons s i 0 l)
-
-  pub bare-more : bare_byte last (get_or s i 0) ≡ true → BareTo s (get_or s i 0) (i + 1)
-  unfolding both
-  bare-more e =
-      let k : suc i ≡ i + 1 = omega arith in
-      record {
-        inside = omega arith;
-        tells = next-byte ∙ ap (λ (x : Bool). both x (bare_from (get_or s i 0) (drop (suc i) s))) e ∙ ap (λ (n : ℕ). bare_from (get_or s i 0) (drop n s)) k;
-      }
-
-  pub bare_ends : bare_byte last (get_or s i 0) ≡ false → false ≡ bare_from 0 s
-  unfolding both
-  bare_ends e = sym (next-byte ∙ ap (λ (x : Bool). both x (bare_from (get_or s i 0) (drop (suc i) s))) e)
-
-pub bare-all : {s : List ℕ} {last i : ℕ} → BareTo s last i → length s ≤ i → true ≡ bare_from 0 s
-bare-all {s} {last} {i} h l = sym (h.tells ∙ ap (bare_from last) (drop_of_length-le s {i = i} l))
-
 -- ---- the lowest byte
-pub record LowestTo (s : List ℕ) (low i : ℕ) : Type 0 where
-  pub inside : i ≤ length s
-  pub tells : lowest_from 255 s ≡ lowest_from low (drop i s)
-
-module _ {s : List ℕ} {low i : ℕ} (h : LowestTo s low i) (l : i < length s) where
-  pub lowest-more : (next : ℕ) → next ≡ min low (get_or s i 0) → LowestTo s next (i + 1)
-  lowest-more next e =
-      let k : suc i ≡ i + 1 = omega arith in
-      record {
-        inside = omega arith;
-        tells = h.tells ∙ ap (lowest_from low) (drop-cons s i 0 l) ∙ ap (λ (n : ℕ). lowest_from n (drop (suc i) s)) (sym e) ∙ ap (λ (n : ℕ). lowest_from next (drop n s)) k;
-      }
-
-pub lowest-all : {s : List ℕ} {low i : ℕ} → LowestTo s low i → length s ≤ i → low ≡ lowest_from 255 s
-lowest-all {s} {low} {i} h l = sym (h.tells ∙ ap (lowest_from low) (drop_of_length-le s {i = i} l))
-
 -- it is no higher than what it began with
 lowest-few : (low : ℕ) (l : List ℕ) → lowest_from low l ≤ low
 lowest-few low [] = omega arith

@@ -3,6 +3,7 @@
 use mathlib.Core.Path.{◌≡◌, refl, sym, ap, ap₂, ◌∙◌, subst}
 use mathlib.Core.Bool.{Bool, true, false}
 use mathlib.Core.List.{List, [], ◌∷◌, ◌++◌}
+use mathlib.Core.Logic.{◌⊎◌, inl, inr}
 use Prim.Native.Nat.{ℕ, suc, ◌+◌, ◌-◌, ◌<◌, ◌≤◌}
 use native.Mathlib.Omega.{arith}
 use lib.ListN.{length, get_or, set, drop, length-set}
@@ -55,11 +56,10 @@ makes-not {o} {n} e = record { means = go }
     go true h = (false, ap (λ (u : Unary). folded_one u (constant true)) e ∙ not-constant true, omega arith)
     go false h = (true, ap (λ (u : Unary). folded_one u (constant false)) e ∙ not-constant false, omega arith)
 
-pub makes-next : {o : Unary} {n : ℕ} → o ≡ Next → MakesConstant o n n
-makes-next e = record { means = λ v h. (v, ap (λ (u : Unary). folded_one u (constant v)) e ∙ next-constant v, h) }
-
-pub makes-ever : {o : Unary} {j : Join} {n : ℕ} → o ≡ Ever j → MakesConstant o n n
-makes-ever {j = j} e = record { means = λ v h. (v, ap (λ (u : Unary). folded_one u (constant v)) e ∙ ever-constant j v, h) }
+-- next and the temporal operators nothing else
+pub makes-same : {o : Unary} {n : ℕ} → (o ≡ Next) ⊎ ((j : Join) × (o ≡ Ever j)) → MakesConstant o n n
+makes-same (inl e) = record { means = λ v h. (v, ap (λ (u : Unary). folded_one u (constant v)) e ∙ next-constant v, h) }
+makes-same (inr x) = record { means = λ v h. (v, ap (λ (u : Unary). folded_one u (constant v)) x.1 ∙ ever-constant x.0 v, h) }
 
 module _ {f : Formula} {fs : List Formula} {p notes : List ℕ} {w t : ℕ} (s : Results (f ∷ fs) p notes w t) where
   lowest : LowestResult f fs p notes w t
@@ -95,3 +95,6 @@ pub record OneRoom (p notes : List ℕ) (w t : ℕ) : Type 0 where
 
 pub one-room : {p notes : List ℕ} {w t : ℕ} → OneAsk p notes w t → OneRoom p notes w t
 one-room a = let l = lowest-of a.results in let n = l.note in let k = l.long in record { there = l.there; inside = omega arith; few = l.few }
+
+-- for the search
+pub ruleset room = (one-room)

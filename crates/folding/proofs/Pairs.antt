@@ -212,3 +212,6 @@ two-room {p} {notes} {w} {t} a =
         let h = subst (λ (x : Formula). length (held_all (x ∷ (a.g ∷ a.others))) < length (encodes (x ∷ (a.g ∷ a.others)))) (sym k.1) (held-shorter k.0 (a.g ∷ a.others)) in
         let f = a.fits in
         omega arith
+
+-- for the search
+pub ruleset room = (two-room)

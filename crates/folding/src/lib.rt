@@ -4,9 +4,8 @@
 
 mod results;
 
-ghost use Rattle.std.specs.Prelude.{◌≡◌};
+ghost use Rattle.std.specs.Prelude.{◌≡◌, ◌≤◌};
 ghost use Rattle.limits.specs.Limits.{nodes_room};
-ghost use Rattle.outlining.specs.Outlined.{small_nodes};
 ghost use Rattle.folding.specs.Bare.{bare_byte, bare_from, lowest_from};
 ghost use Rattle.folding.specs.Folds.{FoldNodeAsk, FoldsNode, FoldAsk, FoldNotedAsk, Folds};
 
@@ -23,49 +22,35 @@ pub struct Lows {
 }
 
 // Whether a byte behind `last` is no constant's, or true's behind until's.
+#[tactic(auto, unfolding(crate::specs::Bare::bare_byte, lists::specs::Tests::both, lists::specs::Tests::either))]
 fn bare_byte(last: u8, b: u8) -> bool
     ensures { result ≡ bare_byte last b }
 {
-    if 2 <= b {
-        return true;
-    }
-    if last != Kind::UNTIL {
-        return false;
-    }
-    b == Kind::TRUE
+    2 <= b || last == Kind::UNTIL && b == Kind::TRUE
 }
 
 // The lowest byte, 255 where there is none. A loop without a way out, which compilers turn into one over many bytes at a time.
 fn lowest(s: &[u8]) -> u8
     ensures { result ≡ lowest_from 255 s.now }
 {
-    let n = s.len();
-    let mut low: u8 = 255;
-    let mut i: usize = 0;
-    while i < n {
-        let b = s[i];
-        if b < low {
-            low = b;
-        }
-        i += 1;
+    let mut low = u8::MAX;
+    for &b in s {
+        low = low.min(b);
     }
     low
 }
 
 // Whether every byte is such a one.
+#[tactic(auto, unfolding(lists::specs::Tests::both))]
 fn bare_bytes(s: &[u8]) -> bool
     ensures { result ≡ bare_from 0 s.now }
 {
-    let n = s.len();
-    let mut last: u8 = 0;
-    let mut i: usize = 0;
-    while i < n {
-        let b = s[i];
+    let mut last = 0;
+    for &b in s {
         if !bare_byte(last, b) {
             return false;
         }
         last = b;
-        i += 1;
     }
     true
 }
@@ -74,10 +59,7 @@ fn bare_bytes(s: &[u8]) -> bool
 pub fn is_bare(s: &[u8]) -> bool
     ensures { result ≡ bare_from 0 s.now }
 {
-    if 2 <= lowest(s) {
-        return true;
-    }
-    bare_bytes(s)
+    2 <= lowest(s) || bare_bytes(s)
 }
 
 // The node with the byte c, whose operands' results are the lowest, becomes a result.
@@ -85,28 +67,28 @@ fn fold_node(c: u8, p: &mut [u8], notes: &mut [u16], w: usize, t: usize) -> Lows
     requires { FoldNodeAsk c p.old notes.old w t }
     ensures { FoldsNode c p.old notes.old w t p.new notes.new result.w result.t }
 {
-    let k = Kind::of(c);
+    let k = Kind::from(c);
     match k {
-        Kind::Zero(_) => {
-            let v = fold_leaf(c, p, notes, w, t);
-            Lows { w: v, t: t - 1 }
-        }
-        Kind::One(o) => {
-            let v = fold_one(o, c, p, notes, w, t);
-            Lows { w: v, t: t }
-        }
+        Kind::Zero(_) => Lows {
+            w: fold_leaf(c, p, notes, w, t),
+            t: t - 1,
+        },
+        Kind::One(o) => Lows {
+            w: fold_one(o, c, p, notes, w, t),
+            t,
+        },
         Kind::Two(o) => match o {
-            Binary::Joined(j) => {
-                let v = fold_join(j, c, p, notes, w, t);
-                Lows { w: v, t: t + 1 }
-            }
-            Binary::Until => {
-                let v = fold_until(p, notes, w, t);
-                Lows { w: v, t: t + 1 }
-            }
+            Binary::Joined(j) => Lows {
+                w: fold_join(j, c, p, notes, w, t),
+                t: t + 1,
+            },
+            Binary::Until => Lows {
+                w: fold_until(p, notes, w, t),
+                t: t + 1,
+            },
         },
         // No formula begins with such a byte.
-        Kind::NoCode => Lows { w: w, t: t },
+        Kind::NoCode => Lows { w, t },
     }
 }
 
@@ -115,31 +97,23 @@ fn fold_noted(s: &[u8], p: &mut [u8], notes: &mut [u16]) -> usize
     requires { FoldNotedAsk s.now p.old notes.old }
     ensures { Folds s.now p.new result }
 {
-    let mut i = s.len();
-    let mut w = p.len();
-    let mut t = notes.len();
-    while 0 < i {
-        i -= 1;
-        let low = fold_node(s[i], p, notes, w, t);
-        w = low.w;
-        t = low.t;
+    let mut low = Lows {
+        w: p.len(),
+        t: notes.len(),
+    };
+    for i in (0..s.len()).rev() {
+        low = fold_node(s[i], p, notes, low.w, low.t);
     }
-    put_constant(notes[t], p, w)
+    put_constant(notes[low.t], p, low.w)
 }
 
-fn fold_small(s: &[u8], p: &mut [u8]) -> usize
-    requires { FoldAsk small_nodes s.now p.old }
+// The same with notes of its own, N of them. Each is filled at every call, so a small formula has few.
+fn fold_with<const N: usize>(s: &[u8], p: &mut [u8]) -> usize
+    requires asks { FoldAsk N s.now p.old }
+    requires most { N ≤ nodes_room }
     ensures { Folds s.now p.new result }
 {
-    let mut notes = [1u16; SMALL_NODES];
-    fold_noted(s, p, &mut notes)
-}
-
-fn fold_large(s: &[u8], p: &mut [u8]) -> usize
-    requires { FoldAsk nodes_room s.now p.old }
-    ensures { Folds s.now p.new result }
-{
-    let mut notes = [1u16; NODES_ROOM];
+    let mut notes = [1u16; N];
     fold_noted(s, p, &mut notes)
 }
 
@@ -149,7 +123,8 @@ pub fn fold(s: &[u8], p: &mut [u8]) -> usize
     ensures { Folds s.now p.new result }
 {
     if s.len() <= SMALL_NODES {
-        return fold_small(s, p);
+        fold_with::<SMALL_NODES>(s, p)
+    } else {
+        fold_with::<NODES_ROOM>(s, p)
     }
-    fold_large(s, p)
 }

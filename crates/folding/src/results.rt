@@ -14,10 +14,7 @@ use kinds::{Join, Kind, Unary};
 fn note_length(n: u16) -> usize
     ensures { result ≡ note_length n }
 {
-    if n < 2 {
-        return 0;
-    }
-    buffers::wide(n) - 1
+    usize::from(n.saturating_sub(1))
 }
 
 // A result of one node with the byte c, below the others.
@@ -27,7 +24,7 @@ pub fn fold_leaf(c: u8, p: &mut [u8], notes: &mut [u16], w: usize, t: usize) -> 
 {
     let at = t - 1;
     if c < 2 {
-        notes[at] = c as u16;
+        notes[at] = u16::from(c);
         return w;
     }
     let v = w - 1;
@@ -43,12 +40,12 @@ fn of_constant(o: Unary, n: u16) -> u16
 {
     match o {
         Unary::Not => 1 - n,
-        Unary::Next => n,
-        Unary::Ever(_) => n,
+        Unary::Next | Unary::Ever(_) => n,
     }
 }
 
 // The operator o, with the byte c, over the lowest result.
+#[tactic(auto, using(crate::proofs::Made::room))]
 pub fn fold_one(o: Unary, c: u8, p: &mut [u8], notes: &mut [u16], w: usize, t: usize) -> usize
     requires { OneAsk p.old notes.old w t }
     ensures { FoldsOne o c p.old notes.old w t p.new notes.new result }
@@ -75,6 +72,7 @@ fn deciding(j: Join) -> u16
 }
 
 // The join j, with the byte c, over the two lowest results.
+#[tactic(auto, using(crate::proofs::Pairs::room))]
 pub fn fold_join(j: Join, c: u8, p: &mut [u8], notes: &mut [u16], w: usize, t: usize) -> usize
     requires { TwoAsk p.old notes.old w t }
     ensures { FoldsTwo (binary.Joined j) c p.old notes.old w t p.new notes.new result }
@@ -103,6 +101,7 @@ pub fn fold_join(j: Join, c: u8, p: &mut [u8], notes: &mut [u16], w: usize, t: u
 }
 
 // Until over the two lowest results: its right operand where that is a constant, or the left one is false.
+#[tactic(auto, using(crate::proofs::Pairs::room))]
 pub fn fold_until(p: &mut [u8], notes: &mut [u16], w: usize, t: usize) -> usize
     requires { TwoAsk p.old notes.old w t }
     ensures { FoldsTwo binary.Until (binary_code binary.Until) p.old notes.old w t p.new notes.new result }

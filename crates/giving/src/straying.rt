@@ -14,7 +14,7 @@ pub fn strays(s: &[u8], c: Counts, k: usize) -> bool
     ensures { result ≡ lone_other (mask_in s.now (board_of_in s.now k)) (formula_at s.now k) }
 {
     let first = state::span_of(s, c, k).from;
-    let kind = Kind::of(s[first]);
+    let kind = Kind::from(s[first]);
     match kind {
         Kind::Zero(a) => match a {
             Leaf::Const(_) => false,

@@ -2,3 +2,4 @@
 pub mod Fits
 pub mod Looking
 pub mod Checks
+pub mod Inspects

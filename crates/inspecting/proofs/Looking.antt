@@ -1,8 +1,7 @@
--- Looking for a clash: by the counter and the event (`clash-same`, `clash-other`), four records at once (`four-clear`), one record more or four that
--- have none (`clear-one`, `clear-more`, `clear-four`), and where the loop ends (`clash-here`, `clear-all`). What is known where all records were
--- looked over: no clash (`looked-clear`), or one (`looked-clash`). Assumes nothing.
-use mathlib.Core.Path.{◌≡◌, refl, sym, ap, ap₂, ◌∙◌, subst}
-use mathlib.Core.Bool.{Bool, true, false, not}
+-- Looking for a clash: where the counters are the same (`same_step`), four records at once (`four-clear`), and four records more that have none
+-- (`clear-four`). What is known where all records were looked over: no clash (`looked-clear`), or one (`looked-clash`). Assumes nothing.
+use mathlib.Core.Path.{◌≡◌, refl, sym, ap, ◌∙◌, subst}
+use mathlib.Core.Bool.{Bool, true, false}
 use mathlib.Core.List.{List}
 use Prim.Native.Nat.{ℕ, suc, ◌+◌, ◌-◌, ◌<◌, ◌≤◌, ◌^◌}
 use native.Mathlib.Omega.{arith}
@@ -28,14 +27,10 @@ same_step a b h k {d} e = go (ℕ_discrete b a)
     go (no z) = ne_eqb d 0 (λ x. z (step-zero a b h k (sym e ∙ x))) ∙ sym (ne_eqb b a z)
 
 module _ (f : ℕ → Record) (i : ℕ) where
-  -- by its counter, and by its event where that is the same
-  pub clash-other : same_by f i ≡ false → clash_by f i ≡ false
+  -- another counter is no clash
+  clash-other : same_by f i ≡ false → clash_by f i ≡ false
   unfolding clashes both
   clash-other e = rw e refl
-
-  pub clash-same : same_by f i ≡ true → clash_by f i ≡ not (eqb (f i).event (f (i - 1)).event)
-  unfolding clashes both
-  clash-same e = rw e refl
 
 -- ---- four records
 either-not : (a b : Bool) → either a b ≡ false → (a ≡ false) × (b ≡ false)
@@ -63,10 +58,7 @@ four-clear f i e =
       clash-other f (i + 3) (four-not (same_by f) i (i + 3) e (omega arith) (omega arith)),
     ) refl
 
--- ---- the loops
-pub clear-one : (s : List ℕ) → ClearTo s 1
-clear-one s = record { some = omega arith; clear = λ i l. absurd (omega arith) }
-
+-- ---- the loop
 module _ {s : List ℕ} {i : ℕ} (t : ClearTo s i) where
   -- some records more
   clear-some : (m : ℕ) → ((j : ℕ) → i ≤ j → j < i + m → clash_by (record_in s) j ≡ false) → ClearTo s (i + m)
@@ -79,18 +71,8 @@ module _ {s : List ℕ} {i : ℕ} (t : ClearTo s i) where
           let z : j ≡ suc j - 1 = omega arith in
           ap (λ (x : ℕ). clashes (record_in s x) (record_in s (suc j))) z ∙ h (suc j) (omega arith) l
 
-  pub clear-more : clash_by (record_in s) i ≡ false → ClearTo s (i + 1)
-  clear-more e = clear-some 1 (λ j h k. let z : j ≡ i = omega arith in ap (clash_by (record_in s)) z ∙ e)
-
   pub clear-four : any_four (clash_by (record_in s)) i ≡ false → ClearTo s (i + 4)
   clear-four e = clear-some 4 (λ j h k. four-not (clash_by (record_in s)) i j e h k)
-
-  -- ---- their end
-  pub clash-here : {n : ℕ} → i < n → clash_by (record_in s) i ≡ true → LooksOver s n i
-  clash-here h e = record { few = omega arith; clear = t.clear; clash = λ l. (t.some, e) }
-
-  pub clear-all : {n : ℕ} → n ≤ i → LooksOver s n n
-  clear-all h = record { few = omega arith; clear = λ j l. t.clear j (omega arith); clash = λ l. absurd (omega arith) }
 
 -- ---- all records
 module _ {s : List ℕ} {n r : ℕ} (t : LooksOver s n r) (count : n ≡ count_in s) where

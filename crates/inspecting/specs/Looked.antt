@@ -1,10 +1,11 @@
--- Tests of a record beside the one before it, of one and of four at once, and what is asked and told where records are looked over for a clash.
--- Assumes nothing: these are definitions.
-use Rattle.std.specs.Prelude.{◌≡◌, Bool, true, List, ℕ, ◌+◌, ◌-◌, ◌<◌, ◌≤◌, length, eqb}
-use Rattle.lists.specs.Tests.{either}
+-- Tests of a record beside the one before it, of one and of four at once, what is asked and told where records are looked over for a clash, and
+-- the checks of a call on a recording. Assumes nothing: these are definitions.
+use Rattle.std.specs.Prelude.{◌≡◌, Bool, true, List, [], ◌∷◌, ℕ, ◌+◌, ◌-◌, ◌<◌, ◌≤◌, length, eqb}
+use Rattle.lists.specs.Tests.{both, either}
+use Rattle.answers.specs.Said.{Said, check, in_order}
 use Rattle.recordings.specs.Records.{Record, clashes}
-use Rattle.recordings.specs.Mending.{NoClash}
-use Rattle.recordings.specs.Recording.{recording_length, record_in}
+use Rattle.recordings.specs.Mending.{agree, NoClash}
+use Rattle.recordings.specs.Recording.{recording_length, record_in, records_in, total_ok, header_ok}
 
 -- ---- tests
 -- the record at a place has the counter of the one before it
@@ -41,3 +42,14 @@ pub record LooksOver (s : List ℕ) (n r : ℕ) : Type 0 where
   pub few : r ≤ n
   pub clear : NoClash (record_in s) r
   pub clash : r < n → (0 < r) × (clash_by (record_in s) r ≡ true)
+
+-- ---- the checks of a call on a recording
+-- 1: the recording is as long as its total, and what is lent has the right lengths; 4: its header; 20: no record clashes
+abbrev pub inspect_says : Bool → List ℕ → Said → Said
+inspect_says lengths s answer =
+    in_order
+    (check 1 (both (total_ok s) lengths)
+    ∷ check 4 (header_ok s)
+    ∷ check 20 (agree (records_in s))
+    ∷ [])
+    answer

@@ -13,9 +13,9 @@ pub fn join(p: &mut [u8], notes: &mut [u16], w: usize, op: u8, decide: u8) -> us
     requires { JoinAsk p.old notes.old w op decide }
     ensures { JoinsPair p.old notes.old w op decide p.new notes.new result }
 {
-    let l = buffers::wide(notes[w]);
+    let l = usize::from(notes[w]);
     let m = w + l;
-    let r = buffers::wide(notes[m]);
+    let r = usize::from(notes[m]);
     let first = p[w];
     if first == decide {
         return stacking::push(decide, p, notes, m + r);

@@ -9,10 +9,7 @@ fn is_same(p: &[u8], w: usize, l: usize, at: usize, end: usize) -> bool
     requires { (0 < l) × (w + l ≤ length p.now) × (at ≤ end) × (end ≤ length p.now) }
     ensures { SameAt p.now w l at end result }
 {
-    if end - at != l {
-        return false;
-    }
-    buffers::same(p, w, at, l)
+    end - at == l && buffers::same(p, w, at, l)
 }
 
 // The length of the left operand of what is joined at `at`.
@@ -21,7 +18,7 @@ fn left_of(p: &[u8], notes: &mut [u16], at: usize) -> usize
     ensures { LeftOf p.now notes.old at notes.new result }
 {
     let left = at + 1;
-    let known = buffers::wide(notes[left]);
+    let known = usize::from(notes[left]);
     if 0 < known {
         return known;
     }
@@ -38,6 +35,7 @@ pub fn is_member(p: &[u8], notes: &mut [u16], op: u8, w: usize, l: usize, r: usi
 {
     let mut at = w + l;
     let end = at + r;
+    // A `while`, since each turn goes on to the right operand, which begins behind a left one of any length.
     while p[at] == op {
         // A formula that is not longer has no other member that the one at w could be.
         if end - at <= l {

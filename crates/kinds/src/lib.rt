@@ -1,12 +1,12 @@
 // The node kinds of the rule language: what a byte of a formula is. The codes and the limits of their ranges are constants
-// of `Kind`, and `Kind::of` gives a byte its kind. Where one kind alone matters, other crates compare the byte itself.
+// of `Kind`, and `Kind::from` gives a byte its kind. Where one kind alone matters, other crates compare the byte itself.
 #![tactic(auto)]
 
 ghost use Rattle.std.specs.Prelude.{◌≡◌, ◌≤◌};
 ghost use Rattle.kinds.specs.Kinds.{kind_of, join_code, operands};
 
 // A node with no operand: a constant, a proposition, or the place holder of a slot.
-#[derive(Clone, Copy)]
+#[derive(Clone, Copy, Debug, PartialEq, Eq)]
 pub enum Leaf {
     Const(bool),
     Prop(u8),
@@ -14,18 +14,18 @@ pub enum Leaf {
 }
 
 // The two connectives that are each other's mirror image.
-#[derive(Clone, Copy)]
+#[derive(Clone, Copy, Debug, PartialEq, Eq)]
 pub enum Join {
     And,
     Or,
 }
 
-impl Join {
-    // The connective's byte.
-    pub fn code(j: Join) -> u8
-        ensures { result ≡ join_code j }
-    {
-        match j {
+// The connective's byte.
+impl From<Join> for u8 {
+    ghost from_gives = { λ join code. code ≡ join_code join };
+
+    fn from(join: Join) -> u8 {
+        match join {
             Join::And => Kind::AND,
             Join::Or => Kind::OR,
         }
@@ -34,7 +34,7 @@ impl Join {
 
 // A node with one operand. `Ever` is the operator that unfolds to its operand joined with itself at the next tick: by or it is
 // eventually, by and it is always.
-#[derive(Clone, Copy)]
+#[derive(Clone, Copy, Debug, PartialEq, Eq)]
 pub enum Unary {
     Not,
     Next,
@@ -42,19 +42,38 @@ pub enum Unary {
 }
 
 // A node with two operands.
-#[derive(Clone, Copy)]
+#[derive(Clone, Copy, Debug, PartialEq, Eq)]
 pub enum Binary {
     Joined(Join),
     Until,
 }
 
 // What a byte is, by the number of its operands. Every other byte is no code.
-#[derive(Clone, Copy)]
+#[derive(Clone, Copy, Debug, PartialEq, Eq)]
 pub enum Kind {
     Zero(Leaf),
     One(Unary),
     Two(Binary),
     NoCode,
+}
+
+impl From<u8> for Kind {
+    ghost from_gives = { λ b kind. kind ≡ kind_of b };
+
+    fn from(b: u8) -> Kind {
+        match b {
+            Kind::FALSE => Kind::Zero(Leaf::Const(false)),
+            Kind::TRUE => Kind::Zero(Leaf::Const(true)),
+            Kind::NOT => Kind::One(Unary::Not),
+            Kind::AND => Kind::Two(Binary::Joined(Join::And)),
+            Kind::OR => Kind::Two(Binary::Joined(Join::Or)),
+            Kind::NEXT => Kind::One(Unary::Next),
+            Kind::UNTIL => Kind::Two(Binary::Until),
+            Kind::EVENTUALLY => Kind::One(Unary::Ever(Join::Or)),
+            Kind::ALWAYS => Kind::One(Unary::Ever(Join::And)),
+            _ => Kind::of_range(b),
+        }
+    }
 }
 
 impl Kind {
@@ -83,23 +102,6 @@ impl Kind {
     pub const HOLD: u8 = 128;
 
     pub const END: u8 = 192;
-
-    pub fn of(b: u8) -> Kind
-        ensures { result ≡ kind_of b }
-    {
-        match b {
-            Kind::FALSE => Kind::Zero(Leaf::Const(false)),
-            Kind::TRUE => Kind::Zero(Leaf::Const(true)),
-            Kind::NOT => Kind::One(Unary::Not),
-            Kind::AND => Kind::Two(Binary::Joined(Join::And)),
-            Kind::OR => Kind::Two(Binary::Joined(Join::Or)),
-            Kind::NEXT => Kind::One(Unary::Next),
-            Kind::UNTIL => Kind::Two(Binary::Until),
-            Kind::EVENTUALLY => Kind::One(Unary::Ever(Join::Or)),
-            Kind::ALWAYS => Kind::One(Unary::Ever(Join::And)),
-            _ => Kind::of_range(b),
-        }
-    }
 
     // How many operands a node has.
     pub fn operands(k: Kind) -> usize

@@ -19,7 +19,8 @@ use Rattle.limits.specs.Limits.{boards_most}
 use Rattle.ltl.specs.Formula.{Formula, one, two, size}
 use Rattle.network.specs.Layout.{Laid, cut, looked, laid}
 use Rattle.nodes.specs.Begins.{Front}
-use Rattle.cutting.specs.Cuts.{code_of, stays_on, Rests}
+use Rattle.scores.specs.Choice.{code_of, stays_on}
+use Rattle.cutting.specs.Cuts.{Rests}
 use Rattle.cutting.proofs.Looking.{stays-none, stays-board}
 use Rattle.tagging.specs.Packed.{board_in}
 use Rattle.tagging.specs.Tags.{Tags, Tagged}

@@ -10,7 +10,7 @@ use Rattle.ltl.specs.Formula.{Formula, Within}
 use Rattle.network.specs.Scores.{chosen}
 use Rattle.nodes.specs.Begins.{Front}
 use Rattle.scores.specs.Owned.{Owned}
-use Rattle.cutting.specs.Cuts.{choice_of}
+use Rattle.scores.specs.Choice.{picked_by}
 use Rattle.cutting.proofs.Looking.{place-given}
 use Rattle.tagging.specs.declared.TaggedPart.{TaggedPart}
 use Rattle.tagging.specs.Tags.{TaggedAs}
@@ -20,7 +20,7 @@ use Rattle.laying.specs.Lays.{OnBoard}
 pub on-board : {owner u tags : List ℕ} {f : Formula} {board : ℕ} (p q : ℕ) (masks : List ℕ) (y : TaggedPart) → Owned p masks owner → Within p q f → Front u f []
     → TaggedAs owner f board tags y → board < boards_most → OnBoard (chosen masks) u tags f [] board
 on-board {tags = tags} {board = board} p q masks y owned within front m l =
-    let b : y.board ≡ board = m.board-is ∙ place-given board (choice_of y.scores.counts) (λ e. omega arith) in
+    let b : y.board ≡ board = m.board-is ∙ place-given board (picked_by y.scores.counts) (λ e. omega arith) in
     let h = tag-has (get_or tags 0 0) y.here y.board m.tag_is (board-fits y.board (omega arith)) m.small in
     record {
       front = front;

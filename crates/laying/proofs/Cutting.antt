@@ -20,7 +20,7 @@ use Rattle.kinds.specs.Kinds.{kind_of, leaf_code, unary_code}
 use Rattle.le.specs.Le.{le}
 use Rattle.ltl.specs.Formula.{Formula, size, encode}
 use Rattle.network.specs.Layout.{Laid, whole, beside, cut, looked, laid}
-use Rattle.cutting.specs.Cuts.{stays_on}
+use Rattle.scores.specs.Choice.{stays_on}
 use Rattle.tagging.specs.Packed.{board_in, ahead_in}
 use Rattle.tagging.specs.Tags.{here_on}
 use Rattle.tagging.proofs.Packing.{Has}

@@ -1,7 +1,8 @@
 -- The numbers that the code of the cycle needs: what is there at the entry (`entry`, `hold-entry`, `slot-begun`), that what was laid
 -- takes no more than there was (`cut-done`), and both for a node that is put in front of its operands (`begun`, `first_done`,
--- `right-begun`, `both-done`). Assumes nothing.
-use mathlib.Core.Path.{◌≡◌, refl, ap, ap₂, ◌∙◌}
+-- `right-begun`, `both-done`), which `not_first`, `pair_first` and `pair_right` say in one. Assumes nothing.
+use mathlib.Core.Bool.{Bool}
+use mathlib.Core.Path.{◌≡◌, refl, sym, ap, ap₂, ◌∙◌}
 use mathlib.Core.List.{List}
 use mathlib.Core.Option.{Option}
 use Prim.Native.Nat.{ℕ, ◌+◌, ◌-◌, ◌<◌, ◌≤◌}
@@ -11,10 +12,11 @@ use Rattle.state.specs.Form.{slot_row, slot_rows}
 use Rattle.lists.specs.Runs.{tail, tail_as}
 use Rattle.lists.proofs.Parts.{tail-length, handed-length}
 use Rattle.kinds.specs.declared.Leaf.TheVariants.{Hold}
+use Rattle.kinds.specs.declared.Unary.TheVariants.{Not}
 use Rattle.kinds.specs.declared.Join.{Join}
 use Rattle.kinds.specs.declared.Binary.TheVariants.{Joined}
 use Rattle.kinds.specs.declared.Kind.{Kind}
-use Rattle.kinds.specs.declared.Kind.TheVariants.{Zero, Two}
+use Rattle.kinds.specs.declared.Kind.TheVariants.{Zero, One, Two}
 use Rattle.kinds.specs.Kinds.{kind_of, leaf_code}
 use Rattle.limits.specs.Limits.{slots_room, nodes_room}
 use Rattle.ltl.specs.Formula.{Formula, size}
@@ -22,13 +24,14 @@ use Rattle.ltl.proofs.Decoding.{size-some}
 use Rattle.network.specs.Layout.{Laid}
 use Rattle.nodes.specs.Begins.{Front}
 use Rattle.nodes.proofs.Fronts.{parts-as, front_length}
-use Rattle.tagging.specs.Packed.{ahead_in}
+use Rattle.scores.specs.Choice.{stays_on}
+use Rattle.tagging.specs.Packed.{here_in, board_in, ahead_in}
 use Rattle.tagging.proofs.Packing.{Has}
 use Rattle.laying.specs.declared.Place.{Place}
 use Rattle.laying.specs.declared.Lain.{Lain}
-use Rattle.laying.specs.Lays.{Source, Fits, Lays, CutAsk, Cuts, LookAsk, Looks, SlotAsk}
+use Rattle.laying.specs.Lays.{Source, Fits, Lays, IsJoin, CutAsk, Cuts, LookAsk, Looks, SlotAsk}
 use Rattle.laying.proofs.Places.{inner, behind, owned}
-use Rattle.laying.proofs.Parts.{Opens, first-asks, right-asks}
+use Rattle.laying.proofs.Parts.{Opens, not, pair, first-asks, right-asks}
 use Rattle.laying.proofs.Slots.{slot-size, slot-asks, held}
 
 -- ---- at the entry
@@ -140,6 +143,35 @@ both-done {u} {p = p} {q = q} {r1 = r1} {q2 = q2} {r2 = r2} {b = b} {n = n} {x =
     let v = handed-length (1 + x.here) P q2 (omega arith) k in
     let w = handed-length n r1 r2 (omega arith) l in
     record { reads = omega arith; here = omega arith; slots = omega arith; nodes = omega arith; kept = omega arith; records-kept = omega arith }
+
+-- the same by what not's and a pair's own functions ask; each has what is known before besides
+module _ {u tags p r : List ℕ} {at : Place} where
+  pub not_begun : CutAsk u tags at p r × (kind_of (get_or u 0 0) ≡ One Not) → Begun u tags at p r 2
+  not_begun h = begun h.0 not h.1 2
+
+  pub pair_begun : CutAsk u tags at p r × IsJoin u → Begun u tags at p r (get_or u 0 0)
+  pair_begun h = begun h.0 pair h.1.kind (get_or u 0 0)
+
+  module _ {q r1 : List ℕ} {x : Lain} where
+    pub not_first : CutAsk u tags at p r × (kind_of (get_or u 0 0) ≡ One Not) → Looks (tail 1 u) (tail 1 tags) (inner at) (tail 1 (set p 0 2)) r q r1 x
+        → length q ≡ length (tail 1 (set p 0 2)) → Begun u tags at p r 2 × FirstDone u tags at p r 2 q x
+    not_first h l e = (not_begun h, first_done (not_begun h) l e)
+
+    pub pair_first : CutAsk u tags at p r × IsJoin u → Looks (tail 1 u) (tail 1 tags) (inner at) (tail 1 (set p 0 (get_or u 0 0))) r q r1 x
+        → length q ≡ length (tail 1 (set p 0 (get_or u 0 0))) → Begun u tags at p r (get_or u 0 0) × FirstDone u tags at p r (get_or u 0 0) q x
+    pair_first h l e = (pair_begun h, first_done (pair_begun h) l e)
+
+    pub pair_right : {n : ℕ} → CutAsk u tags at p r × IsJoin u → Looks (tail 1 u) (tail 1 tags) (inner at) (tail 1 (set p 0 (get_or u 0 0))) r q r1 x
+        → length q ≡ length (tail 1 (set p 0 (get_or u 0 0))) → length r1 ≡ length r → n ≡ slot_rows x.slots
+        → Begun u tags at p r (get_or u 0 0) × FirstDone u tags at p r (get_or u 0 0) q x × RightBegun u tags at (tail_as 1 (set p 0 (get_or u 0 0)) q) r1 n x
+    pair_right h l e k rows = let d = first_done (pair_begun h) l e in (pair_begun h, d, right-begun h.0 h.1.kind l d k rows)
+
+-- ---- what the tag tells
+pub slot_has : {t n c : ℕ} → n ≡ here_in t → c ≡ board_in t → Has t n c
+slot_has e f = record { here-is = sym e; board-is = sym f }
+
+pub stays_told : (t board : ℕ) {choice : ℕ} {b : Bool} → choice ≡ board_in t → b ≡ stays_on choice board → stays_on (board_in t) board ≡ b
+stays_told t board e f = sym (f ∙ ap (λ (c : ℕ). stays_on c board) e)
 
 -- ---- a place holder
 pub record HoldEntry (u tags : List ℕ) (ahead : ℕ) : Type 0 where

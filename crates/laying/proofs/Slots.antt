@@ -15,7 +15,7 @@ use Rattle.kinds.specs.declared.Kind.TheVariants.{Zero}
 use Rattle.kinds.specs.Kinds.{kind_of}
 use Rattle.ltl.specs.Formula.{Formula, size}
 use Rattle.network.specs.Layout.{Laid, cut, laid}
-use Rattle.cutting.specs.Cuts.{stays_on}
+use Rattle.scores.specs.Choice.{stays_on}
 use Rattle.nodes.proofs.Fronts.{Parts, is_zero, parts-as}
 use Rattle.tagging.specs.Packed.{board_in, here_in, ahead_in}
 use Rattle.tagging.specs.Tags.{here_on}

@@ -40,7 +40,7 @@ pub fn cut_parts(u: &[u8], tags: &[u32], at: Place, p: &mut [u8], r: &mut [u8]) 
     ensures { Cuts u.now tags.now at p.old r.old p.new r.new result }
 {
     let b = u[0];
-    let k = Kind::of(b);
+    let k = Kind::from(b);
     match k {
         Kind::Zero(a) => match a {
             Leaf::Const(_) => put_leaf(p, b),
@@ -166,7 +166,7 @@ fn look(u: &[u8], tags: &[u32], at: Place, p: &mut [u8], r: &mut [u8]) -> Lain
     ensures { Looks u.now tags.now at p.old r.old p.new r.new result }
 {
     let choice = packed::board_of(tags[0]);
-    if cutting::stays_on(choice, at.board) {
+    if scores::stays_on(choice, at.board) {
         return cut_parts(u, tags, at, p, r);
     }
     lay_slot(u, tags, at, p, r)
@@ -185,7 +185,7 @@ fn lay_slot(u: &[u8], tags: &[u32], at: Place, p: &mut [u8], r: &mut [u8]) -> La
     p[0] = Kind::HOLD + at.slot as u8;
     state::put_record(r, board, at.node as u16, n as u16);
     let own = Place {
-        board: board,
+        board,
         slot: at.slot + 1,
         node: at.node + n,
         gap: n,
@@ -210,7 +210,7 @@ pub fn lay_root(u: &[u8], tags: &[u32], p: &mut [u8], r: &mut [u8])
     let board = packed::board_of(tag);
     state::put_record(r, board, 0, n as u16);
     let own = Place {
-        board: board,
+        board,
         slot: 1,
         node: n,
         gap: n,

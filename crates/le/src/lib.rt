@@ -5,22 +5,14 @@ ghost use Rattle.std.specs.Prelude.{◌≡◌, ◌++◌, ◌+◌, ◌-◌, ◌*�
 ghost use Rattle.lists.specs.Listed.{listed};
 ghost use Rattle.le.specs.Le.{le, le_at};
 
-fn wide(x: u8) -> u64
-    ensures { (result ≡ x) × (result < 256) }
-{
-    x as u64
-}
-
 // The number in the w bytes at `at`.
 fn number_at(s: &[u8], at: usize, w: usize) -> u64
     requires { (at + w ≤ length s.now) × (w ≤ 8) }
     ensures { (result ≡ le_at s.now at w) × (result < 256 ^ w) }
 {
     let mut v: u64 = 0;
-    let mut i = w;
-    while 0 < i {
-        i -= 1;
-        v = v * 256 + wide(s[at + i]);
+    for i in (0..w).rev() {
+        v = v * 256 + u64::from(s[at + i]);
     }
     v
 }
@@ -31,11 +23,9 @@ fn put_at(s: &mut [u8], at: usize, w: usize, v: u64)
     ensures { s.new ≡ take at s.old ++ (le w v ++ drop (at + w) s.old) }
 {
     let mut x = v;
-    let mut k: usize = 0;
-    while k < w {
+    for k in 0..w {
         s[at + k] = (x % 256) as u8;
-        x = x / 256;
-        k += 1;
+        x /= 256;
     }
 }
 
@@ -65,10 +55,8 @@ pub fn column(s: &[u8], at: usize, step: usize, out: &mut [u64], n: usize)
     requires { (8 ≤ step) × (at + step * n ≤ length s.now) × (n ≤ length out.old) }
     ensures { out.new ≡ listed (λ i. le_at s.now (at + step * i) 8) n ++ drop n out.old }
 {
-    let mut i: usize = 0;
-    while i < n {
+    for i in 0..n {
         out[i] = u64_at(s, at + step * i);
-        i += 1;
     }
 }
 
@@ -76,14 +64,14 @@ pub fn put_u16(s: &mut [u8], at: usize, v: u16)
     requires { at + 2 ≤ length s.old }
     ensures { s.new ≡ take at s.old ++ (le 2 v ++ drop (at + 2) s.old) }
 {
-    put_at(s, at, 2, v as u64);
+    put_at(s, at, 2, u64::from(v));
 }
 
 pub fn put_u32(s: &mut [u8], at: usize, v: u32)
     requires { at + 4 ≤ length s.old }
     ensures { s.new ≡ take at s.old ++ (le 4 v ++ drop (at + 4) s.old) }
 {
-    put_at(s, at, 4, v as u64);
+    put_at(s, at, 4, u64::from(v));
 }
 
 pub fn put_u64(s: &mut [u8], at: usize, v: u64)

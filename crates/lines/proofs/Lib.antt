@@ -1,3 +1,2 @@
--- Laws of lines that are built in a buffer.
-pub mod Adding
+-- Laws of the digits in lines.
 pub mod Decimals

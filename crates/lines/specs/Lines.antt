@@ -1,21 +1,11 @@
 -- The lines as bytes. Assumes nothing: these are definitions.
-use Rattle.std.specs.Prelude.{◌≡◌, ℕ, zero, suc, ◌+◌, ◌≤◌, ◌^◌, List, [], ◌∷◌, ◌++◌, length, take, ltb}
+use Rattle.std.specs.Prelude.{ℕ, zero, suc, ◌+◌, ◌^◌, List, [], ◌∷◌, ◌++◌, ltb}
 use Rattle.lists.specs.Tests.{pick}
 use Rattle.io.specs.Digits.{last_digits}
 use Rattle.answers.specs.declared.Refusal.{Refusal}
 use Rattle.answers.specs.declared.Verdict.{Verdict}
 use Rattle.answers.specs.declared.Verdict.TheVariants.{False, True, Pending}
 use Rattle.answers.specs.Said.{number_of}
-
--- text behind the first `at` bytes of a line, which stay; it ends at r
-pub record Adds (text line : List ℕ) (at : ℕ) (line' : List ℕ) (r : ℕ) : Type 0 where
-  pub ends : r ≡ at + length text
-  pub holds : take r line' ≡ take at line ++ text
-
--- the first r bytes of a buffer are this line
-pub record Line (text buffer : List ℕ) (r : ℕ) : Type 0 where
-  pub short : r ≤ length buffer
-  pub holds : take r buffer ≡ text
 
 -- ---- fields
 -- how many decimal digits a number takes, of at most f + 1

@@ -1,4 +1,6 @@
 -- A rule folded into p, or with nothing to fold: what is asked and given on the way to its watch. Assumes nothing.
+use Rattle.std.specs.Prelude.{Result, ⊤}
+use Rattle.answers.specs.declared.Refusal.{Refusal}
 use mathlib.Core.Path.{◌≡◌, sym, subst}
 use mathlib.Core.Bool.{true}
 use mathlib.Core.List.{List}
@@ -6,7 +8,6 @@ use Prim.Native.Nat.{ℕ, ◌≤◌}
 use native.Mathlib.Omega.{arith}
 use lib.ListN.{length}
 use Rattle.limits.specs.Limits.{rule_nodes_most, nodes_room}
-use Rattle.answers.specs.declared.Outcome.{Outcome}
 use Rattle.lists.specs.Runs.{tail}
 use Rattle.lists.proofs.Parts.{tail-length}
 use Rattle.ltl.specs.Formula.{Formula}
@@ -49,8 +50,8 @@ module _ {masks bytes p : List ℕ} {w : ℕ} (h : Folds bytes p w) where
     pub folded-begins : length p ≡ rule_nodes_most → BeginAsk masks (tail w p) state
     folded-begins l = record { rule = folded a.rule; ruled = folded-ruled l a.ruled; long = a.long }
 
-  pub folded-begun : {state state' : List ℕ} {answer : Outcome} → length p ≡ rule_nodes_most → Begun masks (tail w p) state state' answer → BegunFolded masks bytes state state' answer
+  pub folded-begun : {state state' : List ℕ} {answer : Result ⊤ Refusal} → length p ≡ rule_nodes_most → Begun masks (tail w p) state state' answer → BegunFolded masks bytes state state' answer
   folded-begun l b rule r = b (folded rule) (folded-ruled l r)
 
-pub bare-begun : {masks bytes state state' : List ℕ} {answer : Outcome} → bare_from 0 bytes ≡ true → Begun masks bytes state state' answer → BegunFolded masks bytes state state' answer
+pub bare-begun : {masks bytes state state' : List ℕ} {answer : Result ⊤ Refusal} → bare_from 0 bytes ≡ true → Begun masks bytes state state' answer → BegunFolded masks bytes state state' answer
 bare-begun {masks} {bytes} {state} {state'} {answer} e b rule r = subst (λ (x : Formula). RuleBegun masks x state state' answer) (sym (bare-stands r.front e)) (b rule r)

@@ -1,4 +1,5 @@
 -- What `load` answers and leaves, one law for each outcome, over plain lists. Assumes nothing.
+use Rattle.std.specs.Prelude.{Result, Ok, Err, ⊤}
 use mathlib.Core.Path.{◌≡◌, refl, sym, ap, ap₂, ◌∙◌, subst}
 use mathlib.Core.Bool.{Bool, true, false}
 use mathlib.Core.List.{List, [], ◌∷◌, ◌++◌, append-nil}
@@ -12,8 +13,6 @@ use Rattle.lists.specs.Tests.{pick, both}
 use Rattle.lists.specs.Runs.{padded}
 use Rattle.answers.specs.declared.Refusal.{Refusal}
 use Rattle.answers.specs.declared.Refusal.TheVariants.{Length}
-use Rattle.answers.specs.declared.Outcome.{Outcome}
-use Rattle.answers.specs.declared.Outcome.TheVariants.{Refused}
 use Rattle.answers.specs.Said.{Said, accepted, refused, left, number_of, Check, check, in_order, said_outcome}
 use Rattle.answers.proofs.Answers.{number-some, left-refused, left-accepted, Passed, order-ok, order-refused, order-done}
 use Rattle.ltl.specs.Formula.{Formula, encode, Within, Coded}
@@ -25,7 +24,6 @@ use Rattle.masks.specs.Masks.{masks_rule}
 use Rattle.ltl.specs.Decode.{decoded, is_rule, some_formula}
 use Rattle.ltl.proofs.Decoding.{RuleText, rule-is, decoded-of, wider}
 use Rattle.rules.specs.declared.RuleCounts.{RuleCounts}
-use Rattle.rules.specs.declared.ReadAnswer.TheVariants.{Rule}
 use Rattle.lists.proofs.Listed.{listed-length}
 use Rattle.rules.proofs.Passed.{lengths-passed, counts-passed, offsets-passed}
 use Rattle.rules.proofs.ReadOutcomes.{ReadPassed, read-passed}
@@ -55,12 +53,12 @@ order-after [] ds t p = refl
 order-after (c ∷ cs) ds t p = ap (λ b. pick b (in_order (cs ++ ds) t) (refused c.number)) p.0 ∙ order-after cs ds t p.1
 
 module _ (file state : List ℕ) where
-  load-refusal : (why : Refusal) → load_says file (length state) ≡ refused (number_of why) → LoadsRule file state state (Refused why)
+  load-refusal : (why : Refusal) → load_says file (length state) ≡ refused (number_of why) → LoadsRule file state state (Err why)
   load-refusal why e =
       let o = loaded_state (form_in state) (masks_in_file file) (start_in file) in
       record { says = sym e; leaves = sym (ap (λ (s : Said). left s o state) e ∙ left-refused why o state) }
 
-  pub load-length : (Formed state → ⊥) → LoadsRule file state state (Refused Length)
+  pub load-length : (Formed state → ⊥) → LoadsRule file state state (Err Length)
   unfolding load_says load_lengths_ok both
   load-length n = load-refusal Length (order-refused 1 _ _ _ (rw (ne_eqb (length state) (state_length (form_in state)) n)))
 
@@ -84,13 +82,13 @@ module _ (file state : List ℕ) where
     unfolding load_says load_lengths_ok both read.read_lengths_ok
     says_is = rw (eq-eqb (length state) (state_length (form_in state)) long)
 
-    pub load_read : (why : Refusal) → refused (number_of why) ≡ read_says file boards_most rule_nodes_most → LoadsRule file state state (Refused why)
+    pub load_read : (why : Refusal) → refused (number_of why) ≡ read_says file boards_most rule_nodes_most → LoadsRule file state state (Err why)
     unfolding read_says
     load_read why e = load-refusal why (says_is ∙ order-more file-checks layout-checks (boards_in_file file ∷ propositions_in_file file ∷ nodes_in_file file ∷ []) (accepted []) (number_of why) (number-some why) (sym e))
 
     -- the file was read
     module _ (passed : ReadPassed file boards_most rule_nodes_most) where
-      pub load-begun : (state' : List ℕ) (answer : Outcome) → said_outcome answer ≡ begin_says (form_in state) (masks_in_file file) (start_in file)
+      pub load-begun : (state' : List ℕ) (answer : Result ⊤ Refusal) → said_outcome answer ≡ begin_says (form_in state) (masks_in_file file) (start_in file)
           → state' ≡ left (begin_says (form_in state) (masks_in_file file) (start_in file)) (loaded_state (form_in state) (masks_in_file file) (start_in file)) state → LoadsRule file state state' answer
       load-begun state' answer e f =
           let says : load_says file (length state) ≡ begin_says (form_in state) (masks_in_file file) (start_in file) =
@@ -137,7 +135,7 @@ pub record RuleRead (file masks' formula' : List ℕ) (c : RuleCounts) : Type 0 
   pub masks-are : take c.boards masks' ≡ masks_in_file file
   pub formula-is : take c.nodes formula' ≡ formula_in_file file
 
-module _ {file masks formula masks' formula' : List ℕ} {c : RuleCounts} (m : length masks ≡ boards_most) (f : length formula ≡ rule_nodes_most) (r : Reads file masks formula masks' formula' (Rule c)) where
+module _ {file masks formula masks' formula' : List ℕ} {c : RuleCounts} (m : length masks ≡ boards_most) (f : length formula ≡ rule_nodes_most) (r : Reads file masks formula masks' formula' (Ok c)) where
   passed : ReadPassed file boards_most rule_nodes_most
   passed = read-passed file boards_most rule_nodes_most (ap (λ (s : Said). s.number) (sym (r.says ∙ ap₂ (read_says file) m f)))
 
@@ -185,7 +183,7 @@ module _ {file masks' formula' : List ℕ} {c : RuleCounts} {state : List ℕ} (
   pub read-begins : BeginAsk (take c.boards masks') (take c.nodes formula') state
   read-begins = record { rule = rule_in file; ruled = rw (r.masks-are, r.formula-is) (read-ruled file r.passed); long = long }
 
-  pub read-begun : {state' : List ℕ} {answer : Outcome} → BegunFolded (take c.boards masks') (take c.nodes formula') state state' answer → LoadsRule file state state' answer
+  pub read-begun : {state' : List ℕ} {answer : Result ⊤ Refusal} → BegunFolded (take c.boards masks') (take c.nodes formula') state state' answer → LoadsRule file state state' answer
   read-begun h =
       let x = rw (r.masks-are, r.formula-is) at (h (rule_in file)) (read-ruled file r.passed) in
       load-begun file state long r.passed _ _ x.says x.leaves

@@ -1,6 +1,6 @@
 -- Beginning a watch with a rule that was read and is to be folded: what is asked and given. Assumes nothing: these are definitions.
-use Rattle.std.specs.Prelude.{◌≡◌, List, ℕ, length}
-use Rattle.answers.specs.declared.Outcome.{Outcome}
+use Rattle.answers.specs.declared.Refusal.{Refusal}
+use Rattle.std.specs.Prelude.{◌≡◌, List, ℕ, length, Result, ⊤}
 use Rattle.limits.specs.Limits.{rule_nodes_most}
 use Rattle.ltl.specs.Formula.{Formula}
 use Rattle.folded.specs.Folding.{folded}
@@ -13,5 +13,5 @@ pub record BeginFoldedAsk (masks bytes p state : List ℕ) : Type 0 where
   pub long : length p ≡ rule_nodes_most
 
 -- the watch of the folded rule is begun, or refused
-abbrev pub BegunFolded : List ℕ → List ℕ → List ℕ → List ℕ → Outcome → Type 0
+abbrev pub BegunFolded : List ℕ → List ℕ → List ℕ → List ℕ → Result ⊤ Refusal → Type 0
 BegunFolded masks bytes state state' answer = (rule : Formula) → RuleGiven masks bytes rule → RuleBegun masks (folded rule) state state' answer

@@ -1,8 +1,8 @@
 -- Loading a rule file: the answer and the lent state. Assumes nothing: these are definitions.
-use Rattle.std.specs.Prelude.{◌≡◌, ℕ, Bool, List, [], ◌∷◌, length, leb, eqb}
+use Rattle.answers.specs.declared.Refusal.{Refusal}
+use Rattle.std.specs.Prelude.{◌≡◌, ℕ, Bool, List, [], ◌∷◌, length, leb, eqb, Result, ⊤}
 use Rattle.lists.specs.Tests.{both}
 use Rattle.answers.specs.Said.{Said, accepted, left, check, in_order, said_outcome}
-use Rattle.answers.specs.declared.Outcome.{Outcome}
 use Rattle.ltl.specs.Formula.{Formula}
 use Rattle.ltl.specs.Decode.{decoded, is_rule, some_formula}
 use Rattle.folded.specs.Folding.{folded}
@@ -39,6 +39,6 @@ load_says file room =
     ∷ [])
     (accepted [])
 
-pub record LoadsRule (file state state' : List ℕ) (answer : Outcome) : Type 0 where
+pub record LoadsRule (file state state' : List ℕ) (answer : Result ⊤ Refusal) : Type 0 where
   pub says : said_outcome answer ≡ load_says file (length state)
   pub leaves : state' ≡ left (load_says file (length state)) (loaded_state (form_in state) (masks_in_file file) (start_in file)) state

@@ -6,13 +6,12 @@ ghost use Rattle.beginning.specs.Beginning.{BeginAsk};
 ghost use Rattle.loading.specs.Begin.{BeginFoldedAsk, BegunFolded};
 ghost use Rattle.loading.specs.Load.{LoadsRule};
 
-use answers::{Outcome, Refusal};
+use answers::Refusal;
 use limits::{BOARDS_MOST, RULE_NODES_MOST};
-use rules::ReadAnswer;
 use state::Form;
 
 // Folds the rule into p and begins its watch.
-fn begin_folded(masks: &[u64], rule: &[u8], p: &mut [u8], state: &mut [u8]) -> Outcome
+fn begin_folded(masks: &[u64], rule: &[u8], p: &mut [u8], state: &mut [u8]) -> Result<(), Refusal>
     requires { BeginFoldedAsk masks.now rule.now p.old state.old }
     ensures { BegunFolded masks.now rule.now state.old state.new result }
 {
@@ -21,7 +20,7 @@ fn begin_folded(masks: &[u64], rule: &[u8], p: &mut [u8], state: &mut [u8]) -> O
 }
 
 // Begins the watch of a rule that was read, folded first unless there is nothing to fold.
-fn begin_rule(masks: &[u64], rule: &[u8], state: &mut [u8]) -> Outcome
+fn begin_rule(masks: &[u64], rule: &[u8], state: &mut [u8]) -> Result<(), Refusal>
     requires { BeginAsk masks.now rule.now state.old }
     ensures { BegunFolded masks.now rule.now state.old state.new result }
 {
@@ -32,22 +31,17 @@ fn begin_rule(masks: &[u64], rule: &[u8], state: &mut [u8]) -> Outcome
     begin_folded(masks, rule, &mut folded, state)
 }
 
-pub fn load(file: &[u8], state: &mut [u8]) -> Outcome
+pub fn load(file: &[u8], state: &mut [u8]) -> Result<(), Refusal>
     ensures { LoadsRule file.now state.old state.new result }
 {
-    let form = Form::of(state.len());
+    let form = Form::from(state.len());
     if state.len() != form.length() {
-        return Outcome::Refused(Refusal::Length);
+        return Err(Refusal::Length);
     }
     let mut masks = [0u64; BOARDS_MOST];
     let mut formula = [0u8; RULE_NODES_MOST];
-    let answer = reading::read(file, &mut masks, &mut formula);
-    match answer {
-        ReadAnswer::Refused(why) => Outcome::Refused(why),
-        ReadAnswer::Rule(c) => {
-            let b = c.boards as usize;
-            let n = c.nodes as usize;
-            begin_rule(&masks[..b], &formula[..n], state)
-        }
-    }
+    let c = reading::read(file, &mut masks, &mut formula)?;
+    let b = c.boards as usize;
+    let n = c.nodes as usize;
+    begin_rule(&masks[..b], &formula[..n], state)
 }

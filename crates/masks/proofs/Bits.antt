@@ -1,16 +1,17 @@
--- Bits of a number: what the machine's counts of ones and of trailing zeros are, in the terms of specs/, and one turn of each loop
--- over the masks. Others use `bit-less`, `bit-suc`, `ones_is`, `ones-few`, `trailing-is` and `or-bit`. Assumes nothing.
+-- Bits of a number: what the machine's counts of ones and of trailing zeros are, in the terms of specs/, and the sum and the
+-- union of a list of masks. Others use `bit-less`, `bit-zero`, `bit-suc`, `sum_same`, `sum-few`, `or-bit` and `one_shifted`. Assumes nothing.
 use mathlib.Core.Path.{◌≡◌, refl, sym, ap, ap₂, ◌∙◌}
-use mathlib.Core.List.{List}
+use mathlib.Core.List.{List, [], ◌∷◌}
 use Prim.Native.Nat.{ℕ, zero, suc, ◌+◌, ◌*◌, ◌/◌, ◌%◌, ◌^◌, ◌<◌, ◌≤◌, max}
+use Rattle.std.specs.Prelude.{fold, sum_by}
+use Rattle.std.proofs.lemmas.List.Sums.{sum_by-cons}
 use native.Mathlib.Nat.{one-mul, div-div-eq-div-mul, pow-succ', div-one, mod-lt, zero-lt-suc, mul-add-mod_self_right, mod-eq_of_lt}
 use native.Mathlib.Omega.{arith}
 use native.Mathlib.Numerals.{add-one}
 use lib.Pow.{shr_lt, shl_exact}
 use lib.Bits.{bit_or, or_step, or_shr}
 use lib.Count.{ones, ones_step, count_trailing_zeros, under}
-use lib.ListN.{length, drop, get_or, drop_of_length-le}
-use lib.Seq.{drop-cons}
+use lib.ListN.{length, get_or}
 use Rattle.limits.specs.Limits.{propositions_most}
 use Rattle.masks.specs.Masks.{bit_at, sum_to, ones_of, sum_ones, union_with}
 
@@ -57,10 +58,6 @@ pub ones_is : (m : ℕ) → m < 2 ^ 64 → ones m ≡ ones_of m
 unfolding ones_of
 ones_is m h = ones-bits 64 m h
 
-pub ones-few : (m : ℕ) → ones_of m ≤ propositions_most
-unfolding ones_of
-ones-few m = sum-few propositions_most (bit_at m) (bit-less m)
-
 -- ---- the machine's count of trailing zeros
 pub trailing-is : (k n : ℕ) → 0 < n → n < 2 ^ k
     → (count_trailing_zeros k n < k) × (bit_at n (count_trailing_zeros k n) ≡ 1) × ((j : ℕ) → j < count_trailing_zeros k n → bit_at n j ≡ 0)
@@ -94,19 +91,13 @@ or-bit a b i =
 pub one_shifted : (p : ℕ) → p < propositions_most → (1 * 2 ^ p) % 2 ^ 64 ≡ 2 ^ p
 one_shifted p h = shl_exact 1 p 64 (omega arith) (omega arith) ∙ one-mul (2 ^ p)
 
--- ---- one turn of a loop over the masks
-pub sum_ones-turn : (i : ℕ) (ms : List ℕ) → i < length ms → sum_ones (drop i ms) ≡ ones_of (get_or ms i 0) + sum_ones (drop (i + 1) ms)
+-- ---- sums and unions over a list
+pub sum_ones_is : (ms : List ℕ) → ((i : ℕ) → i < length ms → get_or ms i 0 < 2 ^ 64) → sum_by ones ms ≡ sum_ones ms
 unfolding sum_ones
-sum_ones-turn i ms h = rw (drop-cons ms i 0 h, add-one i)
+sum_ones_is [] h = refl
+sum_ones_is (m ∷ ms) h = sum_by-cons ones m ms ∙ ap₂ (λ (x y : ℕ). x + y) (ones_is m (h 0 (omega arith))) (sum_ones_is ms (λ i l. h (suc i) (omega arith)))
 
-pub sum_ones-done : (i : ℕ) (ms : List ℕ) → length ms ≤ i → sum_ones (drop i ms) ≡ 0
-unfolding sum_ones
-sum_ones-done i ms h = rw (drop_of_length-le ms h)
-
-pub union_with-turn : (a i : ℕ) (ms : List ℕ) → i < length ms → union_with a (drop i ms) ≡ union_with (bit_or a (get_or ms i 0)) (drop (i + 1) ms)
+pub union_is : (a : ℕ) (ms : List ℕ) → fold bit_or a ms ≡ union_with a ms
 unfolding union_with
-union_with-turn a i ms h = rw (drop-cons ms i 0 h, add-one i)
-
-pub union_with-done : (a i : ℕ) (ms : List ℕ) → length ms ≤ i → union_with a (drop i ms) ≡ a
-unfolding union_with
-union_with-done a i ms h = rw (drop_of_length-le ms h)
+union_is a [] = refl
+union_is a (m ∷ ms) = union_is (bit_or a m) ms

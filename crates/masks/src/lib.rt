@@ -12,26 +12,14 @@ pub fn sum_ones(masks: &[u64]) -> u64
     requires { length masks.now ≤ boards_most }
     ensures { result ≡ sum_ones masks.now }
 {
-    let mut sum: u64 = 0;
-    let mut i: usize = 0;
-    while i < masks.len() {
-        sum += u64::count_ones(masks[i]) as u64;
-        i += 1;
-    }
-    sum
+    masks.iter().map(|mask| u64::from(mask.count_ones())).sum()
 }
 
 // The union of all masks.
 pub fn union(masks: &[u64]) -> u64
     ensures { result ≡ union_with 0 masks.now }
 {
-    let mut all: u64 = 0;
-    let mut i: usize = 0;
-    while i < masks.len() {
-        all = all | masks[i];
-        i += 1;
-    }
-    all
+    masks.iter().fold(0, |all, mask| all | mask)
 }
 
 // The lowest p bits.
@@ -51,11 +39,7 @@ pub fn follow_rule(masks: &[u64], p: u64) -> bool
     requires { (length masks.now ≤ boards_most) × (p ≤ propositions_most) }
     ensures { result ≡ masks_rule p masks.now }
 {
-    if sum_ones(masks) == p {
-        union(masks) == low_bits(p)
-    } else {
-        false
-    }
+    sum_ones(masks) == p && union(masks) == low_bits(p)
 }
 
 // A mask's lowest proposition.
@@ -63,5 +47,5 @@ pub fn lowest(mask: u64) -> u32
     requires { 0 < mask }
     ensures { (result < propositions_most) × (bit_at mask result ≡ 1) × ((j : ℕ) → j < result → bit_at mask j ≡ 0) }
 {
-    u64::trailing_zeros(mask)
+    mask.trailing_zeros()
 }

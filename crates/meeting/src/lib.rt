@@ -30,6 +30,7 @@ fn with_bit(x: u64, k: usize) -> u64
 }
 
 // Whether k is in the set.
+#[tactic(auto, unfolding(lists::specs::Tests::bit))]
 fn has_bit(x: u64, k: usize) -> bool
     requires { k < slots_room }
     ensures { result ≡ bit x k }
@@ -38,13 +39,11 @@ fn has_bit(x: u64, k: usize) -> bool
 }
 
 // Whether a token is a place holder.
+#[tactic(auto, unfolding(lists::specs::Tests::both))]
 fn is_holder(t: u16) -> bool
     ensures { result ≡ both (ltb hold_code (t + 1)) (ltb t text_code) }
 {
-    if t < HOLDERS {
-        return false;
-    }
-    t < TEXTS
+    HOLDERS <= t && t < TEXTS
 }
 
 // Entry k is met, and then those below it, unless it was met before.
@@ -90,16 +89,13 @@ pub fn meet_row(
     ensures { WalkMeets tokens.now bodies.now places.now own row.old sets.old m row.new sets.new result }
 {
     let mut so_far = m;
-    let mut held: u64 = 0;
-    let mut i: usize = 0;
-    while i < tokens.len() {
-        let t = tokens[i];
-        if is_holder(t) {
-            let k = (t - HOLDERS) as usize;
+    let mut held = 0;
+    for t in tokens {
+        if is_holder(*t) {
+            let k = (*t - HOLDERS) as usize;
             held = with_bit(held, k);
             so_far = meet(k, bodies, places, row, sets, so_far);
         }
-        i += 1;
     }
     sets[own] = held;
     so_far

@@ -4,23 +4,10 @@
 
 ghost use Rattle.std.specs.Prelude.{◌≡◌, ◌++◌, ◌<◌, ◌≤◌, ◌^◌, length, drop};
 ghost use Rattle.recordings.specs.Recording.{records_at, recording_length, header_of};
-ghost use Rattle.mending.specs.Mend.{Mends, MendReady};
+ghost use Rattle.mending.specs.Mend.{Mends};
 
 use answers::Refusal;
-use recordings::{RECORD_LENGTH, RECORDS_AT};
-
-// How many records were kept, and how many of these are in the first stretch.
-#[derive(Clone, Copy)]
-pub struct Mended {
-    pub kept: usize,
-    pub first: usize,
-}
-
-#[derive(Clone, Copy)]
-pub enum MendAnswer {
-    Refused(Refusal),
-    Mended(Mended),
-}
+use recordings::{Mended, RECORD_LENGTH, RECORDS_AT};
 
 // Puts the header of n records.
 fn put_header(mended: &mut [u8], n: usize)
@@ -33,37 +20,14 @@ fn put_header(mended: &mut [u8], n: usize)
     le::put_u32(mended, 12, 0);
 }
 
-// Mends a recording that was looked over.
-fn mend_ready(recording: &[u8], mended: &mut [u8], marks: &mut [u8]) -> MendAnswer
-    requires { MendReady recording.now mended.old marks.old }
+pub fn mend(recording: &[u8], mended: &mut [u8], marks: &mut [u8]) -> Result<Mended, Refusal>
     ensures { Mends recording.now mended.old marks.old mended.new marks.new result }
 {
+    if mended.len() != recording.len() {
+        return Err(Refusal::Length);
+    }
+    inspecting::inspect(recording, marks.len())?;
     let counts = sifting::sift(recording, &mut mended[RECORDS_AT..], marks);
     put_header(mended, counts.kept);
-    MendAnswer::Mended(Mended {
-        kept: counts.kept,
-        first: counts.first,
-    })
-}
-
-pub fn mend(recording: &[u8], mended: &mut [u8], marks: &mut [u8]) -> MendAnswer
-    ensures { Mends recording.now mended.old marks.old mended.new marks.new result }
-{
-    if !inspecting::total_fits(recording) {
-        return MendAnswer::Refused(Refusal::Length);
-    }
-    if mended.len() != recording.len() {
-        return MendAnswer::Refused(Refusal::Length);
-    }
-    let n = inspecting::count_in(recording);
-    if marks.len() != n {
-        return MendAnswer::Refused(Refusal::Length);
-    }
-    if !inspecting::header_fits(recording) {
-        return MendAnswer::Refused(Refusal::Offset);
-    }
-    if inspecting::first_clash(recording, n) != n {
-        return MendAnswer::Refused(Refusal::Clash);
-    }
-    mend_ready(recording, mended, marks)
+    Ok(counts)
 }

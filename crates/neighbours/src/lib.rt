@@ -4,12 +4,13 @@
 
 ghost use Rattle.std.specs.Prelude.{◌≡◌, ◌+◌, ◌<◌, ◌≤◌, length, ◌==◌};
 ghost use Rattle.lists.specs.Tests.{pick};
-ghost use Rattle.recordings.specs.Records.{step_from, dropped};
+ghost use Rattle.recordings.specs.Records.{mark_byte, step_from, dropped};
 ghost use Rattle.recordings.specs.Recording.{record_length, recording_length, record_in};
 ghost use Rattle.neighbours.specs.Steps.{mark_of_step, StepsTo, StepsToFirst};
 
-use recordings::{BROKEN, DROPPED, KEPT, RECORD_LENGTH, RECORDS_AT};
+use recordings::{Mark, RECORD_LENGTH, RECORDS_AT};
 
+#[tactic(auto, unfolding(recordings::specs::Recording::record_in))]
 pub fn counter_at(recording: &[u8], i: usize) -> u32
     requires { recording_length i + record_length ≤ length recording.now }
     ensures { result ≡ (record_in recording.now i).counter }
@@ -17,6 +18,7 @@ pub fn counter_at(recording: &[u8], i: usize) -> u32
     le::u32_at(recording, RECORDS_AT + RECORD_LENGTH * i)
 }
 
+#[tactic(auto, unfolding(recordings::specs::Recording::record_in))]
 pub fn event_at(recording: &[u8], i: usize) -> u64
     requires { recording_length i + record_length ≤ length recording.now }
     ensures { result ≡ (record_in recording.now i).event }
@@ -25,13 +27,15 @@ pub fn event_at(recording: &[u8], i: usize) -> u64
 }
 
 // The step from one counter to the next. A counter goes from its top to 0, and so does the subtraction.
+#[tactic(auto, unfolding(recordings::specs::Records::step_from))]
 pub fn step(before: u32, counter: u32) -> u32
     ensures { result ≡ step_from before counter }
 {
-    std::num::wrapping_sub_u32(counter, before)
+    counter.wrapping_sub(before)
 }
 
 // The counter that the first of n records comes one step after: it is kept, whatever it is.
+#[tactic(auto, unfolding(crate::specs::Steps::step_by, recordings::specs::Records::step_from))]
 fn before_first(recording: &[u8], n: usize) -> u32
     requires { recording_length n ≤ length recording.now }
     ensures { StepsToFirst recording.now n result }
@@ -39,7 +43,7 @@ fn before_first(recording: &[u8], n: usize) -> u32
     if n == 0 {
         return 0;
     }
-    std::num::wrapping_sub_u32(counter_at(recording, 0), 1)
+    counter_at(recording, 0).wrapping_sub(1)
 }
 
 // The counter that record i of n comes after: the one before it has that, where there is one.
@@ -54,24 +58,21 @@ pub fn before_at(recording: &[u8], i: usize, n: usize) -> u32
 }
 
 // The mark of a record that does not clash with the one before it, by the step to it: where the counter is the same, the event is too.
-pub fn mark_of(step: u32) -> u8
-    ensures { result ≡ mark_of_step step }
+#[tactic(auto, unfolding(crate::specs::Steps::mark_of_step, lists::specs::Tests::pick))]
+pub fn mark_of(step: u32) -> Mark
+    ensures { mark_byte result ≡ mark_of_step step }
 {
-    if step == 0 {
-        return DROPPED;
+    match step {
+        0 => Mark::Dropped,
+        1 => Mark::Kept,
+        _ => Mark::Broken,
     }
-    if step == 1 {
-        return KEPT;
-    }
-    BROKEN
 }
 
 // How many records this mark keeps.
-pub fn kept_by(mark: u8) -> usize
-    ensures { result ≡ pick (mark == dropped) 0 1 }
+#[tactic(auto, unfolding(lists::specs::Tests::pick))]
+pub fn kept_by(mark: Mark) -> usize
+    ensures { result ≡ pick (mark_byte mark == dropped) 0 1 }
 {
-    if mark == DROPPED {
-        return 0;
-    }
-    1
+    usize::from(mark != Mark::Dropped)
 }

@@ -12,8 +12,9 @@ pub fn operand_end(s: &[u8]) -> usize
 {
     let mut owed: usize = 1;
     let mut i: usize = 0;
+    // A `while`: it ends where nothing is owed, which is known to come before the bytes end. A `for` would ask for the end besides.
     while 0 < owed {
-        owed = owed - 1 + Kind::operands(Kind::of(s[i]));
+        owed = owed - 1 + Kind::operands(Kind::from(s[i]));
         i += 1;
     }
     i

@@ -270,19 +270,19 @@ module _ {order numbers₀ numbers : List ℕ} {i : ℕ} (x : Counting order num
   next : drop (i - 1) order ≡ get_or order (i - 1) 0 ∷ drop i order
   next = let f = x.few in let e : suc (i - 1) ≡ i = omega arith in drop-cons order (i - 1) 0 (omega arith) ∙ ap (λ (k : ℕ). get_or order (i - 1) 0 ∷ drop k order) e
 
-  pub counting_more : get_or order (i - 1) 0 < length numbers → Counting order numbers₀ (set numbers (get_or order (i - 1) 0) i) (i - 1)
-  counting_more r =
+  pub counting_more : {v : ℕ} → v ≡ i → get_or order (i - 1) 0 < length numbers → Counting order numbers₀ (set numbers (get_or order (i - 1) 0) v) (i - 1)
+  counting_more {v} n r =
       let f = x.few in
-      record { few = omega arith; long = length-set numbers (get_or order (i - 1) 0) i ∙ x.long; told = λ k m. told k m (ℕ_discrete k (get_or order (i - 1) 0)) }
+      record { few = omega arith; long = length-set numbers (get_or order (i - 1) 0) v ∙ x.long; told = λ k m. told k m (ℕ_discrete k (get_or order (i - 1) 0)) }
     where
       told : (k : ℕ) → is_among k (drop (i - 1) order) ≡ true → Dec (k ≡ get_or order (i - 1) 0)
-          → get_or (set numbers (get_or order (i - 1) 0) i) k 0 ≡ suc (i - 1 + place_in k (drop (i - 1) order))
+          → get_or (set numbers (get_or order (i - 1) 0) v) k 0 ≡ suc (i - 1 + place_in k (drop (i - 1) order))
       told k m (yes e) =
           let p : place_in k (drop (i - 1) order) ≡ 0 =
           ap (place_in k) next ∙ place-cons k (get_or order (i - 1) 0) (drop i order)
           ∙ pick_yes (eqb k (get_or order (i - 1) 0)) 0 (suc (place_in k (drop i order))) (eq-eqb k (get_or order (i - 1) 0) e) in
-          let q : i ≡ suc (i - 1 + place_in k (drop (i - 1) order)) = omega arith in
-          ap (λ (j : ℕ). get_or (set numbers (get_or order (i - 1) 0) i) j 0) e ∙ get_or-set_same numbers (get_or order (i - 1) 0) i 0 r ∙ q
+          let q : v ≡ suc (i - 1 + place_in k (drop (i - 1) order)) = omega arith in
+          ap (λ (j : ℕ). get_or (set numbers (get_or order (i - 1) 0) v) j 0) e ∙ get_or-set_same numbers (get_or order (i - 1) 0) v 0 r ∙ q
       told k m (no d) =
           let p : place_in k (drop (i - 1) order) ≡ suc (place_in k (drop i order)) =
           ap (place_in k) next ∙ place-cons k (get_or order (i - 1) 0) (drop i order)
@@ -292,7 +292,7 @@ module _ {order numbers₀ numbers : List ℕ} {i : ℕ} (x : Counting order num
           (either-cases (eqb k (get_or order (i - 1) 0)) (is_among k (drop i order)) (sym (ap (is_among k) next ∙ among-cons k (get_or order (i - 1) 0) (drop i order)) ∙ m)) in
           let t = x.told k b in
           let q : suc (i + place_in k (drop i order)) ≡ suc (i - 1 + place_in k (drop (i - 1) order)) = omega arith in
-          get_or-set_other numbers (get_or order (i - 1) 0) k i 0 d ∙ t ∙ q
+          get_or-set_other numbers (get_or order (i - 1) 0) k v 0 d ∙ t ∙ q
 
 pub counting-done : {order numbers₀ numbers : List ℕ} {i : ℕ} → Counting order numbers₀ numbers i → i ≤ 0 → NumbersBy order numbers
 counting-done {order = order} {numbers = numbers} {i = i} x h k m =

@@ -18,14 +18,11 @@ fn put_level(level: u8, met: &[u8], chain: &[u8], order: &mut [u8], placed: usiz
     ensures { LevelPut level met.now chain.now order.old placed order.new result }
 {
     let mut w = placed;
-    let mut i: usize = 0;
-    while i < met.len() {
-        let k = met[i];
-        if chain[k as usize] == level {
-            order[w] = k;
+    for k in met {
+        if chain[*k as usize] == level {
+            order[w] = *k;
             w += 1;
         }
-        i += 1;
     }
     w
 }
@@ -37,6 +34,7 @@ fn put_levels(n: usize, met: &[u8], chain: &[u8], order: &mut [u8])
 {
     let mut placed: usize = 0;
     let mut level: u8 = 1;
+    // A `while`: how many levels there are is not known before all are placed.
     while placed < n {
         placed = put_level(level, met, chain, order, placed);
         level += 1;
@@ -48,10 +46,8 @@ fn put_numbers(order: &[u8], numbers: &mut [u8])
     requires { (length order.now < slots_room) × ((k : ℕ) → is_among k order.now ≡ true → k < length numbers.old) }
     ensures { NumbersBy order.now numbers.new }
 {
-    let mut i = order.len();
-    while 0 < i {
-        numbers[order[i - 1] as usize] = i as u8;
-        i -= 1;
+    for i in (0..order.len()).rev() {
+        numbers[order[i] as usize] = (i + 1) as u8;
     }
 }
 

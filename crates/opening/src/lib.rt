@@ -8,7 +8,8 @@ ghost use Rattle.opening.specs.Opening.{Opens};
 
 use state::Counts;
 
-// What a state is found to be: none, a watch that is finished, or one that goes on.
+// What a state is found to be: none, a watch that is finished, or one that goes on. `ask` answers the last two and the other calls the
+// last alone, so that neither is a failure for all.
 #[derive(Clone, Copy)]
 pub enum Opening {
     Broken,

@@ -55,20 +55,16 @@ module _ {s notes : List ℕ} (a : Outlinable s notes) {i : ℕ} (h : i < length
   pub here-begins : Begins (tail i s)
   here-begins = head-begins here
 
-  -- it has m bytes, as the walk over it has found
+  -- it has m bytes, as the walk over it has found: one at least, and it ends within
   module _ {m : ℕ} (ends : Ends (tail i s) m) where
-    pub here-some : 0 < m
-    here-some = let e = head-long here ends in let z = size-some here.head in omega arith
-
-    pub here-within : i + m ≤ length s
-    here-within = let e = head-long here ends in let l = head-within here h in omega arith
+    pub here_within : (0 < m) × (i + m ≤ length s)
+    here_within = let e = head-long here ends in let z = size-some here.head in let l = head-within here h in (omega arith, omega arith)
 
     -- its length is noted beside its last byte
     pub outlined-whole : {now : List ℕ} {x : ℕ} → Outlined s now i → length now ≡ length notes → whole_kind (kind_of (get_or s i 0)) ≡ true → x ≡ m
         → Outlined s (set now (i + m - 1) x) (i + m)
     outlined-whole {now} {x} o e w q =
-        let z = here-some in
-        let k = here-within in
+        let z = here_within in
         let r = a.room in
         let g = head-long here ends in
         whole {l = i + m - 1} (noted (i + m - 1) x (omega arith) o) here.head here.front.coded (ap whole_kind (sym (head-kind here)) ∙ w)

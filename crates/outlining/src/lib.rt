@@ -16,19 +16,10 @@ pub const SMALL_NODES: usize = 128;
 pub fn stays_whole(k: Kind) -> bool
     ensures { result ≡ whole_kind k }
 {
-    match k {
-        Kind::Zero(_) => false,
-        Kind::One(o) => match o {
-            Unary::Not => false,
-            Unary::Next => true,
-            Unary::Ever(_) => true,
-        },
-        Kind::Two(o) => match o {
-            Binary::Joined(_) => false,
-            Binary::Until => true,
-        },
-        Kind::NoCode => false,
-    }
+    matches!(
+        k,
+        Kind::One(Unary::Next | Unary::Ever(_)) | Kind::Two(Binary::Until)
+    )
 }
 
 // Notes beside the last byte of each outermost part that stays whole how long it is, and 0 beside every other byte outside them.
@@ -37,9 +28,10 @@ pub fn outline(s: &[u8], notes: &mut [u16])
     ensures { Outlines s.now notes.new }
 {
     let n = s.len();
-    let mut i: usize = 0;
+    let mut i = 0;
+    // A `while`, since a part that stays whole is gone over in one turn.
     while i < n {
-        if stays_whole(Kind::of(s[i])) {
+        if stays_whole(Kind::from(s[i])) {
             let m = nodes::operand_end(&s[i..]);
             i += m;
             notes[i - 1] = buffers::narrow(m);

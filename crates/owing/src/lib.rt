@@ -14,8 +14,8 @@ pub fn stands(k: Kind, p: u64, h: u64) -> bool
     match k {
         Kind::Zero(a) => match a {
             Leaf::Const(_) => true,
-            Leaf::Prop(i) => (i as u64) < p,
-            Leaf::Hold(m) => (m as u64) < h,
+            Leaf::Prop(i) => u64::from(i) < p,
+            Leaf::Hold(m) => u64::from(m) < h,
         },
         Kind::One(_) => true,
         Kind::Two(_) => true,
@@ -28,17 +28,15 @@ pub fn is_formula(s: &[u8], p: u64, h: u64) -> bool
     ensures { result ≡ is_formula p h s.now }
 {
     let mut owed: usize = 1;
-    let mut i: usize = 0;
-    while i < s.len() {
+    for byte in s {
         if owed == 0 {
             return false;
         }
-        let k = Kind::of(s[i]);
+        let k = Kind::from(*byte);
         if !stands(k, p, h) {
             return false;
         }
         owed = owed - 1 + Kind::operands(k);
-        i += 1;
     }
     owed == 0
 }

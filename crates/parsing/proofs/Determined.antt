@@ -1,5 +1,7 @@
 -- The promise leaves no choice: a text has one formula at most, or one place where it is refused. Others use `parse-one`,
 -- `parses-determined`. Assumes nothing.
+use Rattle.answers.specs.declared.Refusal.{Refusal}
+use Rattle.std.specs.Prelude.{Result, Ok, Err}
 use mathlib.Core.Path.{◌≡◌, refl, ap}
 use mathlib.Core.List.{List, [], ◌∷◌}
 use Prim.Native.Nat.{ℕ, ◌<◌, ◌≤◌}
@@ -13,8 +15,8 @@ use Rattle.text.specs.Grammar.{Text}
 use Rattle.text.specs.Places.{line_at}
 use Rattle.text.proofs.Stops.{place-one}
 use Rattle.text.proofs.Unique.{text-one}
-use Rattle.parsing.specs.declared.ParseAnswer.{ParseAnswer}
-use Rattle.parsing.specs.declared.ParseAnswer.TheVariants.{Refused, NoText, Parsed}
+use Rattle.parsing.specs.declared.ParseError.{ParseError}
+use Rattle.parsing.specs.declared.ParseError.TheVariants.{Refused, NoText}
 use Rattle.parsing.specs.Parse.{ParseSays, length-refused, text-refused, range-refused, parsed, said_parse, Parses}
 
 -- a text of more nodes than the limit is none of fewer
@@ -42,20 +44,20 @@ parse-one {most} (parsed l x h) (parsed m y i) =
     let e = text-one x y in (ap (λ (f : Formula). accepted (size f ∷ [])) e, ap (λ (f : Formula). padded most (encode f)) e)
 
 -- ---- an answer is known by its number and values
-pub said_parse-injective : (a b : ParseAnswer) → said_parse a ≡ said_parse b → a ≡ b
-said_parse-injective (Refused v) (Refused w) e = ap Refused (number-injective v w (ap (λ (s : Said). s.number) e))
-said_parse-injective (Refused v) (NoText c) e = let y = ap (λ (s : Said). length s.values) e in absurd (omega arith)
-said_parse-injective (Refused v) (Parsed n) e = let z = number-some v in let y = ap (λ (s : Said). s.number) e in absurd (omega arith)
-said_parse-injective (NoText c) (Refused w) e = let y = ap (λ (s : Said). length s.values) e in absurd (omega arith)
-said_parse-injective (NoText c) (NoText d) e =
+pub said_parse-injective : (a b : Result ℕ ParseError) → said_parse a ≡ said_parse b → a ≡ b
+said_parse-injective (Err (Refused v)) (Err (Refused w)) e = ap (λ (x : Refusal). Err (Refused x)) (number-injective v w (ap (λ (s : Said). s.number) e))
+said_parse-injective (Err (Refused v)) (Err (NoText c)) e = let y = ap (λ (s : Said). length s.values) e in absurd (omega arith)
+said_parse-injective (Err (Refused v)) (Ok n) e = let z = number-some v in let y = ap (λ (s : Said). s.number) e in absurd (omega arith)
+said_parse-injective (Err (NoText c)) (Err (Refused w)) e = let y = ap (λ (s : Said). length s.values) e in absurd (omega arith)
+said_parse-injective (Err (NoText c)) (Err (NoText d)) e =
     let v = ap (λ (s : Said). s.values) e in
     let l : c.line ≡ d.line = ap (λ (x : List ℕ). get_or x 0 0) v in
     let b : c.byte ≡ d.byte = ap (λ (x : List ℕ). get_or x 1 0) v in
-    λ i. NoText (record { byte = b i; line = l i })
-said_parse-injective (NoText c) (Parsed n) e = let y = ap (λ (s : Said). s.number) e in absurd (omega arith)
-said_parse-injective (Parsed n) (Refused w) e = let z = number-some w in let y = ap (λ (s : Said). s.number) e in absurd (omega arith)
-said_parse-injective (Parsed n) (NoText d) e = let y = ap (λ (s : Said). s.number) e in absurd (omega arith)
-said_parse-injective (Parsed n) (Parsed m) e = ap Parsed (ap (λ (s : Said). get_or s.values 0 0) e)
+    λ i. Err (NoText (record { byte = b i; line = l i }))
+said_parse-injective (Err (NoText c)) (Ok n) e = let y = ap (λ (s : Said). s.number) e in absurd (omega arith)
+said_parse-injective (Ok n) (Err (Refused w)) e = let z = number-some w in let y = ap (λ (s : Said). s.number) e in absurd (omega arith)
+said_parse-injective (Ok n) (Err (NoText d)) e = let y = ap (λ (s : Said). s.number) e in absurd (omega arith)
+said_parse-injective (Ok n) (Ok m) e = ap Ok (ap (λ (s : Said). get_or s.values 0 0) e)
 
-pub parses-determined : {t d e e₂ : List ℕ} (a b : ParseAnswer) → Parses t d e a → Parses t d e₂ b → (a ≡ b) × (e ≡ e₂)
+pub parses-determined : {t d e e₂ : List ℕ} (a b : Result ℕ ParseError) → Parses t d e a → Parses t d e₂ b → (a ≡ b) × (e ≡ e₂)
 parses-determined a b x y = let (p, q) = parse-one x y in (said_parse-injective a b p, q)

@@ -1,5 +1,6 @@
 -- One law for each way out of `parse`, and what a refusal keeps (`parse-keeps`) and is answered by (`parse-answers`). The check goes by the
 -- machine and the building by what is gathered; here they become the grammar. Assumes nothing.
+use Rattle.std.specs.Prelude.{Result, Ok, Err}
 use mathlib.Core.Path.{◌≡◌, refl, sym, ap, ◌∙◌, subst}
 use mathlib.Core.Bool.{true}
 use mathlib.Core.List.{List, [], ◌∷◌}
@@ -16,18 +17,17 @@ use Rattle.text.specs.Machine.{accepts}
 use Rattle.text.proofs.Derives.{accepts-text}
 use Rattle.text.proofs.Stops.{refused-at}
 use Rattle.cursor.specs.declared.TextCursor.{TextCursor}
-use Rattle.recognising.specs.declared.Recognised.TheVariants as Seen
 use Rattle.recognising.specs.Recognises.{Recognises}
 use Rattle.building.specs.Nodes.{nodes_in}
 use Rattle.building.proofs.Nodes.{text-nodes}
-use Rattle.parsing.specs.declared.ParseAnswer.{ParseAnswer}
-use Rattle.parsing.specs.declared.ParseAnswer.TheVariants.{Refused, NoText, Parsed}
+use Rattle.parsing.specs.declared.ParseError.{ParseError}
+use Rattle.parsing.specs.declared.ParseError.TheVariants.{Refused, NoText}
 use Rattle.parsing.specs.Parse.{ParseSays, length-refused, text-refused, range-refused, parsed, said_parse, Parses}
 use Rattle.parsing.specs.Building.{BuiltInto}
 
 -- the promise of an answer is that of an equal one
-pub parse-as : {t d e : List ℕ} {a b : ParseAnswer} → a ≡ b → Parses t d e a → Parses t d e b
-parse-as {t} {d} {e} h x = subst (λ (c : ParseAnswer). Parses t d e c) h x
+pub parse-as : {t d e : List ℕ} {a b : Result ℕ ParseError} → a ≡ b → Parses t d e a → Parses t d e b
+parse-as {t} {d} {e} h x = subst (λ (c : Result ℕ ParseError). Parses t d e c) h x
 
 -- ---- refusals
 -- a refusal leaves the buffer
@@ -38,31 +38,31 @@ parse-keeps (range-refused l x m) h = refl
 parse-keeps (parsed l x m) h = absurd (omega arith)
 
 -- every refusal is some answer's
-pub parse-answers : {t d e : List ℕ} {s : Said} → ParseSays rule_nodes_most t d s e → (s.number ≡ 0 → ⊥) → (answer : ParseAnswer) × (0 < (said_parse answer).number) × Parses t d e answer
-parse-answers (length-refused n) h = (Refused Length, omega arith, length-refused n)
-parse-answers {t = t} (text-refused {k = k} l x) h = (NoText (record { byte = k; line = line_at t k }), omega arith, text-refused l x)
-parse-answers (range-refused l x m) h = (Refused Range, omega arith, range-refused l x m)
+pub parse-answers : {t d e : List ℕ} {s : Said} → ParseSays rule_nodes_most t d s e → (s.number ≡ 0 → ⊥) → (answer : Result ℕ ParseError) × (0 < (said_parse answer).number) × Parses t d e answer
+parse-answers (length-refused n) h = (Err (Refused Length), omega arith, length-refused n)
+parse-answers {t = t} (text-refused {k = k} l x) h = (Err (NoText (record { byte = k; line = line_at t k })), omega arith, text-refused l x)
+parse-answers (range-refused l x m) h = (Err (Refused Range), omega arith, range-refused l x m)
 parse-answers (parsed l x m) h = absurd (h refl)
 
 -- ---- the ways out
-pub length-wrong : {t d : List ℕ} → (length d ≡ rule_nodes_most → ⊥) → Parses t d d (Refused Length)
+pub length-wrong : {t d : List ℕ} → (length d ≡ rule_nodes_most → ⊥) → Parses t d d (Err (Refused Length))
 length-wrong n = length-refused n
 
 module _ {t d : List ℕ} (room : length d ≡ rule_nodes_most) where
   -- the machine died at the position, whose line is that of its byte
-  pub no_text : (c : TextCursor) → Recognises t (Seen.Refused c) → Parses t d d (NoText c)
+  pub no_text : (c : TextCursor) → Recognises t (Err c) → Parses t d d (Err (NoText c))
   no_text c (a, b, l) =
       subst (λ (n : ℕ). ParseSays rule_nodes_most t d (refused_with 16 (n ∷ c.byte ∷ [])) d) (sym l)
       (text-refused room (subst (λ (k : ℕ). RefusedAt t k) (sym b) (refused-at t a)))
 
   module _ (in-grammar : accepts t ≡ true) {n : ℕ} (count : n ≡ nodes_in t) where
-    pub too_many : rule_nodes_most < n → Parses t d d (Refused Range)
+    pub too_many : rule_nodes_most < n → Parses t d d (Err (Refused Range))
     too_many h =
         let (f, x) = accepts-text t in-grammar in
         let e = text-nodes x in
         range-refused room x (omega arith)
 
-    pub all_read : n ≤ rule_nodes_most → {e : List ℕ} → BuiltInto t d e → Parses t d e (Parsed n)
+    pub all_read : n ≤ rule_nodes_most → {e : List ℕ} → BuiltInto t d e → Parses t d e (Ok n)
     all_read h {e} built =
         let (f, x) = accepts-text t in-grammar in
         let same : size f ≡ n = sym (text-nodes x) ∙ sym count in

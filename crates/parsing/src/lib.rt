@@ -8,13 +8,12 @@ ghost use Rattle.parsing.specs.Building.{BuildAsk, BuiltInto, TextAsk};
 use answers::Refusal;
 use cursor::TextCursor;
 use limits::RULE_NODES_MOST;
-use recognising::Recognised;
 
-#[derive(Clone, Copy)]
-pub enum ParseAnswer {
+// Why a text was not parsed: a refusal, or a place in bytes that are no text.
+#[derive(Clone, Copy, Debug, PartialEq, Eq)]
+pub enum ParseError {
     Refused(Refusal),
     NoText(TextCursor),
-    Parsed(usize),
 }
 
 // The formula of a text of n nodes to the front of the output, and zeros behind it.
@@ -27,27 +26,27 @@ fn build_into(text: &[u8], formula: &mut [u8], n: usize)
 }
 
 // Reads a text of the grammar.
-fn parse_text(text: &[u8], formula: &mut [u8]) -> ParseAnswer
+fn parse_text(text: &[u8], formula: &mut [u8]) -> Result<usize, ParseError>
     requires { TextAsk text.now formula.old }
     ensures { Parses text.now formula.old formula.new result }
 {
     let n = building::count_nodes(text);
     if RULE_NODES_MOST < n {
-        return ParseAnswer::Refused(Refusal::Range);
+        return Err(ParseError::Refused(Refusal::Range));
     }
     build_into(text, formula, n);
-    ParseAnswer::Parsed(n)
+    Ok(n)
 }
 
-pub fn parse(text: &[u8], formula: &mut [u8]) -> ParseAnswer
+pub fn parse(text: &[u8], formula: &mut [u8]) -> Result<usize, ParseError>
     ensures { Parses text.now formula.old formula.new result }
 {
     if formula.len() != RULE_NODES_MOST {
-        return ParseAnswer::Refused(Refusal::Length);
+        return Err(ParseError::Refused(Refusal::Length));
     }
     let found = recognising::recognise(text);
     match found {
-        Recognised::Accepted => parse_text(text, formula),
-        Recognised::Refused(at) => ParseAnswer::NoText(at),
+        Ok(()) => parse_text(text, formula),
+        Err(at) => Err(ParseError::NoText(at)),
     }
 }

@@ -7,7 +7,7 @@ use native.Mathlib.Omega.{arith}
 use lib.ListN.{get_or}
 use Rattle.kinds.specs.declared.Binary.TheVariants.{Until}
 use Rattle.ltl.specs.Formula.{Formula, two}
-use Rattle.choices.specs.Choice.{code_of}
+use Rattle.scores.specs.Choice.{code_of}
 use Rattle.choices.specs.Marks.{choice_in, later_in, again_in}
 use Rattle.parting.specs.Parts.{parts_room, PartAt}
 use Rattle.parting.proofs.Standing.{marked-mark, node-part, later-part, again_part}

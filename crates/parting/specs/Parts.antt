@@ -7,7 +7,7 @@ use Rattle.kinds.specs.declared.Binary.TheVariants.{Until}
 use Rattle.ltl.specs.Formula.{Formula, one, two}
 use Rattle.ltl.specs.Progression.{unfolded}
 use Rattle.nodes.specs.Begins.{Front}
-use Rattle.choices.specs.Choice.{code_of}
+use Rattle.scores.specs.Choice.{code_of}
 use Rattle.choices.specs.Marks.{Marked, later_of}
 
 -- how many parts of a node are told apart

@@ -35,19 +35,12 @@ pub struct PartTop {
     pub right: usize,
 }
 
-// A byte as a token.
-fn token_of(b: u8) -> usize
-    ensures { (result ≡ b) × (result < 256) }
-{
-    b as usize
-}
-
 // A token without operands.
 fn alone(token: usize) -> PartTop
     ensures { result ≡ alone_top token }
 {
     PartTop {
-        token: token,
+        token,
         nodes: 1,
         operands: 0,
         left: 0,
@@ -60,7 +53,7 @@ fn over(token: usize, operand: usize) -> PartTop
     ensures { result ≡ over_top token operand }
 {
     PartTop {
-        token: token,
+        token,
         nodes: 1,
         operands: 1,
         left: operand,
@@ -73,11 +66,11 @@ fn between(token: usize, left: usize, right: usize) -> PartTop
     ensures { result ≡ between_top token left right }
 {
     PartTop {
-        token: token,
+        token,
         nodes: 1,
         operands: 2,
-        left: left,
-        right: right,
+        left,
+        right,
     }
 }
 
@@ -104,8 +97,8 @@ fn pair_top(marks: &[u32], at: usize, o: Binary) -> PartTop
     let left = at + 1;
     let right = left + marks::length_of(marks[left]);
     match o {
-        Binary::Joined(j) => between(token_of(Join::code(j)), left * PARTS, right * PARTS),
-        Binary::Until => between(token_of(Kind::OR), right * PARTS, at * PARTS + LATER),
+        Binary::Joined(j) => between(usize::from(u8::from(j)), left * PARTS, right * PARTS),
+        Binary::Until => between(usize::from(Kind::OR), right * PARTS, at * PARTS + LATER),
     }
 }
 
@@ -116,9 +109,13 @@ fn single_top(marks: &[u32], at: usize, o: Unary) -> PartTop
 {
     let operand = at + 1;
     match o {
-        Unary::Not => over(token_of(Kind::NOT), operand * PARTS),
+        Unary::Not => over(usize::from(Kind::NOT), operand * PARTS),
         Unary::Next => text_top(marks, operand),
-        Unary::Ever(j) => between(token_of(Join::code(j)), operand * PARTS, at * PARTS + AGAIN),
+        Unary::Ever(j) => between(
+            usize::from(u8::from(j)),
+            operand * PARTS,
+            at * PARTS + AGAIN,
+        ),
     }
 }
 
@@ -128,9 +125,9 @@ fn leaf_token(b: u8, a: Leaf, held: &[u8]) -> usize
     ensures { result ≡ leaf_code (held_leaf held.now a) }
 {
     match a {
-        Leaf::Const(_) => token_of(b),
-        Leaf::Prop(_) => token_of(b),
-        Leaf::Hold(m) => token_of(Kind::HOLD) + token_of(held[m as usize]),
+        Leaf::Const(_) => usize::from(b),
+        Leaf::Prop(_) => usize::from(b),
+        Leaf::Hold(m) => usize::from(Kind::HOLD) + usize::from(held[m as usize]),
     }
 }
 
@@ -140,13 +137,13 @@ fn node_top(u: &[u8], marks: &[u32], held: &[u8], at: usize) -> PartTop
     ensures { TopsPart u.now marks.now held.now (node_code at) result }
 {
     let b = u[0];
-    let k = Kind::of(b);
+    let k = Kind::from(b);
     match k {
         Kind::Zero(a) => alone(leaf_token(b, a, held)),
         Kind::One(o) => single_top(marks, at, o),
         Kind::Two(o) => pair_top(marks, at, o),
         // No formula begins with such a byte.
-        Kind::NoCode => alone(token_of(b)),
+        Kind::NoCode => alone(usize::from(b)),
     }
 }
 
@@ -161,7 +158,7 @@ pub fn top_of(u: &[u8], marks: &[u32], held: &[u8], part: usize) -> PartTop
         return node_top(u, marks, held, at);
     }
     if which == LATER {
-        return between(token_of(Kind::AND), (at + 1) * PARTS, at * PARTS + AGAIN);
+        return between(usize::from(Kind::AND), (at + 1) * PARTS, at * PARTS + AGAIN);
     }
     text_top(marks, at)
 }

@@ -1,35 +1,32 @@
 -- Bytes put one after the other, each changed by a function. Assumes nothing.
-use mathlib.Core.Path.{◌≡◌, sym, ap, ap₂, ◌∙◌}
-use mathlib.Core.List.{List, [], ◌∷◌, ◌++◌, map, map-append, append-nil, append_assoc}
-use Prim.Native.Nat.{ℕ, suc, ◌+◌, ◌<◌, ◌≤◌}
-use native.Mathlib.Omega.{arith}
+use mathlib.Core.Path.{◌≡◌, sym, ap, subst, ◌∙◌}
+use mathlib.Core.List.{List, [], ◌∷◌, ◌++◌, map, append_assoc}
+use Prim.Native.Nat.{ℕ, ◌+◌, ◌<◌}
 use native.Mathlib.Numerals.{add-one}
-use lib.ListN.{length, take, set, get_or, length-map}
-use lib.Seq.{take-suc, take-suc-set, take_all}
-use Rattle.lines.specs.Lines.{Adds}
+use Rattle.std.specs.List.{AllZip}
+use Rattle.std.proofs.lemmas.Slice.Zip.{AllZip-map, all_zipped_more}
+use lib.ListN.{length, take, get_or}
+use lib.Seq.{take-suc}
 
--- the first i bytes are put
-abbrev pub Changed : (ℕ → ℕ) → List ℕ → List ℕ → ℕ → List ℕ → ℕ → Type 0
-Changed f bytes out₀ at out i = take (at + i) out ≡ take at out₀ ++ map f (take i bytes)
+-- bytes are put, each as R relates it
+abbrev pub Changed : (ℕ → ℕ → Type 0) → List ℕ → List ℕ → List ℕ → Type 0
+Changed R bytes out₀ out = (put : List ℕ) × AllZip R bytes put × (out ≡ out₀ ++ put)
 
-module _ (f : ℕ → ℕ) (bytes out₀ : List ℕ) (at : ℕ) where
-  pub changed-none : Changed f bytes out₀ at out₀ 0
-  changed-none = let e : at + 0 ≡ at = omega arith in ap (λ (k : ℕ). take k out₀) e ∙ sym (append-nil (take at out₀))
+module _ (R : ℕ → ℕ → Type 0) (bytes out₀ : List ℕ) where
+  pub changed-more : (out out' : List ℕ) (i x : ℕ) → i < length bytes → R (get_or bytes i 0) x → out' ≡ out ++ (x ∷ []) → Changed R (take i bytes) out₀ out
+      → Changed R (take (i + 1) bytes) out₀ out'
+  changed-more out out' i x l r e c = (
+    c.0 ++ (x ∷ []),
+    subst (λ (ys : List ℕ). AllZip R ys (c.0 ++ (x ∷ []))) (sym (ap (λ (k : ℕ). take k bytes) (add-one i) ∙ take-suc bytes i 0 l)) (all_zipped_more R (take i bytes) c.0 (get_or bytes i 0) x c.1 r),
+    e ∙ ap (λ (a : List ℕ). a ++ (x ∷ [])) c.2 ∙ append_assoc out₀ c.0 (x ∷ []),
+  )
 
-  pub changed-more : (out : List ℕ) (i x : ℕ) → i < length bytes → at + i < length out → x ≡ f (get_or bytes i 0) → Changed f bytes out₀ at out i
-      → Changed f bytes out₀ at (set out (at + i) x) (i + 1)
-  changed-more out i x l h e c =
-      let n : at + (i + 1) ≡ suc (at + i) = omega arith in
-      ap (λ (k : ℕ). take k (set out (at + i) x)) n
-      ∙ take-suc-set out (at + i) x h
-      ∙ ap₂ (λ (a : List ℕ) (y : ℕ). a ++ (y ∷ [])) c e
-      ∙ append_assoc (take at out₀) (map f (take i bytes)) (f (get_or bytes i 0) ∷ [])
-      ∙ ap (λ (a : List ℕ). take at out₀ ++ a) (sym (map-append f (take i bytes) (get_or bytes i 0 ∷ [])) ∙ ap (map f) (sym (take-suc bytes i 0 l) ∙ ap (λ (k : ℕ). take k bytes) (sym (add-one i))))
-
-  pub changed-all : (out : List ℕ) (i : ℕ) → i ≤ length bytes → length bytes ≤ i → Changed f bytes out₀ at out i → Adds (map f bytes) out₀ at out (at + length bytes)
-  changed-all out i l h c =
-      let e : i ≡ length bytes = omega arith in
-      record {
-        ends = ap (λ (k : ℕ). at + k) (sym (length-map bytes f));
-        holds = ap (λ (k : ℕ). take (at + k) out) (sym e) ∙ c ∙ ap (λ (a : List ℕ). take at out₀ ++ map f a) (take_all i bytes h);
-      }
+-- bytes that a function changes
+pub changed-by : (f : ℕ → ℕ) (R : ℕ → ℕ → Type 0) (bytes out out' : List ℕ) → ((x y : ℕ) → R x y → y ≡ f x) → Changed R bytes out out' → out' ≡ out ++ map f bytes
+changed-by f R bytes out out' by c = c.2 ∙ ap (λ (xs : List ℕ). out ++ xs) (AllZip-map f bytes c.0 (go bytes c.0 c.1))
+  where
+    go : (xs ys : List ℕ) → AllZip R xs ys → AllZip (λ x y. y ≡ f x) xs ys
+    go [] [] h = tt
+    go [] (y ∷ ys) h = h
+    go (x ∷ xs) [] h = h
+    go (x ∷ xs) (y ∷ ys) h = (by x y h.0, go xs ys h.1)

@@ -5,8 +5,10 @@
 pub mod shown;
 pub mod window;
 
-ghost use Rattle.std.specs.Prelude.{◌≡◌, min, length};
+ghost use Rattle.std.specs.Prelude.{◌≡◌, min};
 ghost use Rattle.pointing.specs.Points.{Points};
+
+use lines::TextBuffer;
 
 // Room for the two lines: a window, a line feed, what stands before the place, the mark and a line feed.
 pub const POINT_ROOM: usize = 141;
@@ -15,19 +17,20 @@ pub const POINT_ROOM: usize = 141;
 pub fn least(a: usize, b: usize) -> usize
     ensures { result ≡ min a b }
 {
-    if a < b { a } else { b }
+    a.min(b)
 }
 
-// Puts the two lines for a place of a text, which is its end where it has no such byte: where they end.
-pub fn put(out: &mut [u8], text: &[u8], place: usize) -> usize
-    requires { length out.old ≡ POINT_ROOM }
-    ensures { Points text.now place out.new result }
+// The two lines for a place of a text, which is its end where it has no such byte.
+pub fn put(text: &[u8], place: usize) -> TextBuffer<POINT_ROOM>
+    ensures { Points text.now place result }
 {
     let at = least(place, text.len());
     let from = window::from(text, at);
     let to = window::to(text, at);
-    let a = shown::put_shown(out, 0, &text[from..to]);
-    let b = lines::text(out, a, b"\n");
-    let c = shown::put_under(out, b, &text[from..at]);
-    lines::text(out, c, b"^\n")
+    let mut lines = TextBuffer::new();
+    shown::put_shown(&mut lines, &text[from..to]);
+    lines.put(b"\n");
+    shown::put_under(&mut lines, &text[from..at]);
+    lines.put(b"^\n");
+    lines
 }

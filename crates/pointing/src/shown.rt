@@ -1,61 +1,55 @@
 // Bytes as they are shown to people, each in one column, so that a mark below stands right: a byte that does not print is shown as `?`.
-ghost use Rattle.std.specs.Prelude.{◌≡◌, map, ◌+◌, ◌≤◌, length};
-ghost use Rattle.lines.specs.Lines.{Adds};
+ghost use Rattle.std.specs.Prelude.{◌≡◌, ℕ, List, ◌++◌, map, ◌+◌, ◌≤◌, length};
+ghost use Rattle.std.specs.List.{AllZip};
 ghost use Rattle.pointing.specs.Columns.{shown_byte, under_byte};
 
-const TAB: u8 = 9;
+use lines::TextBuffer;
+
+const TAB: u8 = b'\t';
 
 // A byte as it is shown. A carriage return, which ends a line in some files, is a blank.
+#[tactic(auto, unfolding(crate::specs::Columns::shown_byte, lists::specs::Tests::pick))]
 fn shown(c: u8) -> u8
     ensures { result ≡ shown_byte c }
 {
-    if c == TAB {
-        return c;
+    match c {
+        TAB | 32..=126 => c,
+        b'\r' => b' ',
+        _ => b'?',
     }
-    if c == 13 {
-        return b' ';
-    }
-    if c < 32 {
-        return b'?';
-    }
-    if 126 < c {
-        return b'?';
-    }
-    c
 }
 
 // What stands below it in a line with a mark: a tab below a tab, and else a blank.
+#[tactic(auto, unfolding(crate::specs::Columns::under_byte, lists::specs::Tests::pick))]
 fn under(c: u8) -> u8
     ensures { result ≡ under_byte c }
 {
-    if c == TAB {
-        return c;
-    }
-    b' '
+    if c == TAB { c } else { b' ' }
 }
 
-// Puts bytes as they are shown behind the first `at` bytes: where they end.
-pub fn put_shown(out: &mut [u8], at: usize, bytes: &[u8]) -> usize
-    requires { at + length bytes.now ≤ length out.old }
-    ensures { Adds (map shown_byte bytes.now) out.old at out.new result × (result ≡ at + length bytes.now) }
+// Puts bytes, each as `of` gives it.
+fn put_each<const N: usize, F: Fn(u8) -> u8>(out: &mut TextBuffer<N>, bytes: &[u8], of: F)
+    requires room { length out.old + length bytes.now ≤ N }
+    requires callable { F.IsAlwaysCallable of }
+    ensures { (put : List ℕ) × AllZip (F.post of) bytes.now put × (out.new ≡ out.old ++ put) }
 {
-    let mut i: usize = 0;
-    while i < bytes.len() {
-        out[at + i] = shown(bytes[i]);
-        i += 1;
+    for c in bytes {
+        out.put(&[of(*c)]);
     }
-    at + bytes.len()
+}
+
+// Puts bytes as they are shown.
+pub fn put_shown<const N: usize>(out: &mut TextBuffer<N>, bytes: &[u8])
+    requires { length out.old + length bytes.now ≤ N }
+    ensures { out.new ≡ out.old ++ map shown_byte bytes.now }
+{
+    put_each(out, bytes, shown);
 }
 
 // Puts what stands below them.
-pub fn put_under(out: &mut [u8], at: usize, bytes: &[u8]) -> usize
-    requires { at + length bytes.now ≤ length out.old }
-    ensures { Adds (map under_byte bytes.now) out.old at out.new result × (result ≡ at + length bytes.now) }
+pub fn put_under<const N: usize>(out: &mut TextBuffer<N>, bytes: &[u8])
+    requires { length out.old + length bytes.now ≤ N }
+    ensures { out.new ≡ out.old ++ map under_byte bytes.now }
 {
-    let mut i: usize = 0;
-    while i < bytes.len() {
-        out[at + i] = under(bytes[i]);
-        i += 1;
-    }
-    at + bytes.len()
+    put_each(out, bytes, under);
 }

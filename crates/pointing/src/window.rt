@@ -7,24 +7,20 @@ const BEFORE_MOST: usize = 59;
 
 const BEHIND_MOST: usize = 20;
 
-const FEED: u8 = 10;
+const FEED: u8 = b'\n';
 
 // Where the part begins.
 pub fn from(text: &[u8], at: usize) -> usize
     requires { at ≤ length text.now }
     ensures { ShownBefore text.now at result }
 {
-    let mut from = at;
-    while 0 < from {
-        if at - from == BEFORE_MOST {
-            return from;
+    let least = at.saturating_sub(BEFORE_MOST);
+    for from in (least..at).rev() {
+        if text[from] == FEED {
+            return from + 1;
         }
-        if text[from - 1] == FEED {
-            return from;
-        }
-        from -= 1;
     }
-    from
+    least
 }
 
 // Where it ends.
@@ -32,15 +28,11 @@ pub fn to(text: &[u8], at: usize) -> usize
     requires { at ≤ length text.now }
     ensures { ShownBehind text.now at result }
 {
-    let mut to = at;
-    while to < text.len() {
-        if to - at == BEHIND_MOST {
-            return to;
-        }
+    let most = text.len().min(at + BEHIND_MOST);
+    for to in at..most {
         if text[to] == FEED {
             return to;
         }
-        to += 1;
     }
-    to
+    most
 }

@@ -1,6 +1,6 @@
 -- The last sign of the arrays is popped, or stays, as the definition says. `Popping` is the invariant of `pop`; others use `popped-room`.
 -- Assumes nothing.
-use mathlib.Core.Path.{◌≡◌, refl, sym, ap, ◌∙◌}
+use mathlib.Core.Path.{◌≡◌, refl, sym, ap, ◌∙◌, subst}
 use mathlib.Core.List.{List, ◌∷◌}
 use Prim.Native.Nat.{ℕ, zero, suc, ◌+◌, ◌-◌, ◌≤◌, ◌<◌}
 use lib.ListN.{length, get_or, set, drop, length-set}
@@ -76,25 +76,25 @@ pub popping-none : (levels depths : List ℕ) (d k : ℕ) (l : List ℕ) (x : Ed
 popping-none levels depths d k l x r = record { less = omega arith; moved = omega arith; long = refl; is = refl; room = r }
 
 module _ {levels depths : List ℕ} {d k top₀ at₀ : ℕ} {l : List ℕ} {top at : ℕ} {m : List ℕ} (p : Popping levels depths d k top₀ at₀ l top at m) where
-  -- no more is popped
-  abbrev Done : Type 0
-  Done = Pops levels depths d k (record { top = top₀; at = at₀ }) l (record { top = top; at = at }) m
+  -- no more is popped, and t signs wait
+  abbrev Done : ℕ → Type 0
+  Done t = Pops levels depths d k (record { top = top₀; at = at₀ }) l (record { top = t; at = at }) m
 
-  done : record { waits = waits_of top levels depths; bytes = drop at m } ≡ pops (waits_of top levels depths) d k (drop at m) → Done
-  done e = record { less = p.less; moved = p.moved; is = e ∙ p.is }
+  done : {t : ℕ} → t ≡ top → record { waits = waits_of top levels depths; bytes = drop at m } ≡ pops (waits_of top levels depths) d k (drop at m) → Done t
+  done t e = subst Done (sym t) (record { less = p.less; moved = p.moved; is = e ∙ p.is })
 
   low : Levels top levels
   low i h = let e = p.less in p.room.low i (omega arith)
 
   -- each way out
-  pub popped-none : top ≤ 0 → Done
-  popped-none h = done (pop-none levels depths top d k (drop at m) h)
+  pub popped-none : top ≤ 0 → Done 0
+  popped-none h = done (omega arith) (pop-none levels depths top d k (drop at m) h)
 
-  pub popped-other : 0 < top → (get_or depths (top - 1) 0 ≡ d → ⊥) → Done
-  popped-other h e = done (pop-other levels depths top d k (drop at m) h e)
+  pub popped-other : 0 < top → (get_or depths (top - 1) 0 ≡ d → ⊥) → Done (top - 1 + 1)
+  popped-other h e = done (omega arith) (pop-other levels depths top d k (drop at m) h e)
 
-  pub popped-loose : 0 < top → get_or depths (top - 1) 0 ≡ d → k ≤ get_or levels (top - 1) 0 → Done
-  popped-loose h e b = done (pop-loose levels depths top d k (drop at m) h low e b)
+  pub popped-loose : 0 < top → get_or depths (top - 1) 0 ≡ d → k ≤ get_or levels (top - 1) 0 → Done (top - 1 + 1)
+  popped-loose h e b = done (omega arith) (pop-loose levels depths top d k (drop at m) h low e b)
 
   -- one turn: the last sign's byte goes in front
   pub popping-more : 0 < top → get_or depths (top - 1) 0 ≡ d → get_or levels (top - 1) 0 < k → (c : ℕ) → c ≡ binary_code (sign_at (get_or levels (top - 1) 0))

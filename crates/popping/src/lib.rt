@@ -16,6 +16,7 @@ pub struct Edges {
 }
 
 // The byte of the sign of a level.
+#[tactic(auto, unfolding(crate::specs::Waits::sign_at, lists::specs::Tests::pick))]
 fn code_at(level: u8) -> u8
     ensures { result ≡ binary_code (sign_at level) }
 {
@@ -31,21 +32,16 @@ pub fn pop(out: &mut [u8], levels: &[u8], depths: &[usize], x: Edges, d: usize, 
     requires { Room levels.now depths.now out.old x }
     ensures { Pops levels.now depths.now d k x out.old result out.new }
 {
-    let mut top = x.top;
     let mut at = x.at;
-    while 0 < top {
-        if depths[top - 1] != d {
-            return Edges { top, at };
+    for i in (0..x.top).rev() {
+        let j = levels[i];
+        if depths[i] != d || k <= j {
+            return Edges { top: i + 1, at };
         }
-        let j = levels[top - 1];
-        if k <= j {
-            return Edges { top, at };
-        }
-        out[at - 1] = code_at(j);
-        top -= 1;
         at -= 1;
+        out[at] = code_at(j);
     }
-    Edges { top, at }
+    Edges { top: 0, at }
 }
 
 // The sign o at the depth d has its right operand, and waits for its left one. Signs of its own level go in front, for they group to
@@ -63,11 +59,10 @@ pub fn push(
 {
     let j = text::level_of(o);
     let p = pop(out, levels, depths, x, d, j + 1);
-    let t = p.top;
-    levels[t] = j;
-    depths[t] = d;
+    levels[p.top] = j;
+    depths[p.top] = d;
     Edges {
-        top: t + 1,
+        top: p.top + 1,
         at: p.at,
     }
 }

@@ -1,5 +1,6 @@
 -- What `print` answers and leaves by the check that decides, one law for each outcome, over plain lists, in the order of the checks;
 -- what an accepted call's checks told (`print-passed`), and the formula that it is lent then (`printable`). Assumes nothing.
+use Rattle.std.specs.Prelude.{Ok, Err}
 use mathlib.Core.Path.{◌≡◌, sym, ap, ◌∙◌}
 use mathlib.Core.Bool.{true, false}
 use mathlib.Core.List.{List, [], ◌∷◌}
@@ -20,7 +21,6 @@ use Rattle.ltl.specs.Formula as formula
 use Rattle.ltl.specs.Decode.{formula_of, is_rule}
 use Rattle.nodes.proofs.Wholes.{whole}
 use Rattle.text.specs.Printing.{printed}
-use Rattle.printing.specs.declared.PrintAnswer.TheVariants.{Refused, Printed}
 use Rattle.printing.specs.Print.{print_says, Prints, Printable, PrintsTo}
 
 -- ---- what the checks tell
@@ -51,20 +51,20 @@ module _ (s text : List ℕ) where
   output = padded text_length (printed (formula_of s))
 
   -- a refusal leaves the output as it was
-  refusal : (why : Refusal) → print_says s (length text) ≡ refused (number_of why) → Prints s text text (Refused why)
+  refusal : (why : Refusal) → print_says s (length text) ≡ refused (number_of why) → Prints s text text (Err why)
   refusal why e = record { says = sym e; leaves = sym (ap (λ (x : Said). left x output text) e ∙ left-refused why output text) }
 
-  pub print-length : eqb (length text) text_length ≡ false → Prints s text text (Refused Length)
+  pub print-length : eqb (length text) text_length ≡ false → Prints s text text (Err Length)
   unfolding print_says
   print-length h = refusal Length (order-refused 1 _ _ _ h)
 
   module _ (o₁ : eqb (length text) text_length ≡ true) where
-    pub print-range : in_range rule_nodes_most (length s) ≡ false → Prints s text text (Refused Range)
+    pub print-range : in_range rule_nodes_most (length s) ≡ false → Prints s text text (Err Range)
     unfolding print_says
     print-range h = refusal Range (order-ok 1 _ _ _ o₁ ∙ order-refused 3 _ _ _ h)
 
     module _ (o₂ : in_range rule_nodes_most (length s) ≡ true) where
-      pub print-formula : is_rule propositions_most s ≡ false → Prints s text text (Refused Formula)
+      pub print-formula : is_rule propositions_most s ≡ false → Prints s text text (Err Formula)
       unfolding print_says
       print-formula h = refusal Formula (order-ok 1 _ _ _ o₁ ∙ order-ok 3 _ _ _ o₂ ∙ order-refused 6 _ _ _ h)
 
@@ -72,7 +72,7 @@ module _ (s text : List ℕ) where
   unfolding print_says
   says-printed o = order-ok 1 _ _ _ o.space ∙ order-ok 3 _ _ _ o.count ∙ order-ok 6 _ _ _ o.rule ∙ order-done _
 
-  pub print-printed : PrintPassed s (length text) → {text' : List ℕ} {n : ℕ} → PrintsTo s text' n → Prints s text text' (Printed n)
+  pub print-printed : PrintPassed s (length text) → {text' : List ℕ} {n : ℕ} → PrintsTo s text' n → Prints s text text' (Ok n)
   print-printed o {text'} {n} p =
       let b = whole s o.rule in
       let q = p b.formula-is b.front in

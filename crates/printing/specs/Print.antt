@@ -1,5 +1,6 @@
 -- Printing a rule's formula: the answer and the lent buffer. Assumes nothing: these are definitions.
-use Rattle.std.specs.Prelude.{◌≡◌, ℕ, ◌≤◌, List, [], ◌∷◌, length, eqb}
+use Rattle.answers.specs.declared.Refusal.{Refusal}
+use Rattle.std.specs.Prelude.{◌≡◌, ℕ, ◌≤◌, List, [], ◌∷◌, length, eqb, Result, Ok, Err}
 use Rattle.limits.specs.Limits.{propositions_most, rule_nodes_most, text_length}
 use Rattle.lists.specs.Tests.{in_range}
 use Rattle.lists.specs.Runs.{padded}
@@ -8,8 +9,6 @@ use Rattle.ltl.specs.Formula.{Formula}
 use Rattle.ltl.specs.Decode.{formula_of, is_rule}
 use Rattle.nodes.specs.Begins.{Front}
 use Rattle.text.specs.Printing.{printed}
-use Rattle.printing.specs.declared.PrintAnswer.{PrintAnswer}
-use Rattle.printing.specs.declared.PrintAnswer.TheVariants.{Refused, Printed}
 
 unfoldable pub print_says : List ℕ → ℕ → Said
 print_says formula room =
@@ -21,12 +20,12 @@ print_says formula room =
     (accepted (length (printed (formula_of formula)) ∷ []))
 
 -- the enum's cases by number and values
-abbrev pub said_print : PrintAnswer → Said
-said_print (Refused why) = refused (number_of why)
-said_print (Printed n) = accepted (n ∷ [])
+abbrev pub said_print : Result ℕ Refusal → Said
+said_print (Err why) = refused (number_of why)
+said_print (Ok n) = accepted (n ∷ [])
 
 -- the promise: the answer, and the lent output, zero past the text
-pub record Prints (formula text text' : List ℕ) (answer : PrintAnswer) : Type 0 where
+pub record Prints (formula text text' : List ℕ) (answer : Result ℕ Refusal) : Type 0 where
   pub says : said_print answer ≡ print_says formula (length text)
   pub leaves : text' ≡ left (print_says formula (length text)) (padded text_length (printed (formula_of formula))) text
 

@@ -9,12 +9,6 @@ ghost use Rattle.printing.specs.Print.{Printable, PrintsTo, Prints};
 use answers::Refusal;
 use limits::{PROPOSITIONS_MOST, RULE_NODES_MOST, TEXT_LENGTH};
 
-#[derive(Clone, Copy)]
-pub enum PrintAnswer {
-    Refused(Refusal),
-    Printed(usize),
-}
-
 // As many nodes as a rule may have.
 fn nodes_ok(n: usize) -> bool
     ensures { result ≡ in_range rule_nodes_most n }
@@ -35,17 +29,17 @@ fn print_rule(formula: &[u8], text: &mut [u8]) -> usize
     n
 }
 
-pub fn print(formula: &[u8], text: &mut [u8]) -> PrintAnswer
+pub fn print(formula: &[u8], text: &mut [u8]) -> Result<usize, Refusal>
     ensures { Prints formula.now text.old text.new result }
 {
     if text.len() != TEXT_LENGTH {
-        return PrintAnswer::Refused(Refusal::Length);
+        return Err(Refusal::Length);
     }
     if !nodes_ok(formula.len()) {
-        return PrintAnswer::Refused(Refusal::Range);
+        return Err(Refusal::Range);
     }
     if !owing::is_rule(formula, PROPOSITIONS_MOST as u64) {
-        return PrintAnswer::Refused(Refusal::Formula);
+        return Err(Refusal::Formula);
     }
-    PrintAnswer::Printed(print_rule(formula, text))
+    Ok(print_rule(formula, text))
 }

@@ -1,13 +1,9 @@
 -- Where the bytes in hand stand in a piece, and that none is lost. Assumes nothing: these are definitions.
-use Rattle.std.specs.Prelude.{◌≡◌, List, ℕ, ◌+◌, ◌-◌, ◌≤◌, ◌<◌, length, take, drop}
+use Rattle.std.specs.Prelude.{◌≡◌, Result, Ok, Err, List, ℕ, ◌-◌, ◌≤◌, length, take, drop}
 use Rattle.came.specs.declared.Next.{Next}
 use Rattle.came.specs.declared.Next.TheVariants as next
 use Rattle.programs.specs.declared.input.Hand.{Hand}
 use Rattle.programs.specs.declared.input.Taking.{Taking}
-use Rattle.programs.specs.declared.input.Brought.{Brought}
-use Rattle.programs.specs.declared.input.Brought.TheVariants as brought
-use Rattle.programs.specs.declared.input.Came.{Came}
-use Rattle.programs.specs.declared.input.Came.TheVariants as came
 use Rattle.programs.specs.declared.input.Taken.{Taken}
 use Rattle.programs.specs.declared.input.Taken.TheVariants as taken
 use Rattle.came.specs.Came.{next_in}
@@ -24,20 +20,15 @@ bytes_of piece hand = take (hand.end - hand.from) (drop hand.from piece)
 abbrev pub Leads : List ℕ → List ℕ → Type 0
 Leads before s = take (length before) s ≡ before
 
--- a read from `end` on has brought some bytes, and none past the piece
-abbrev pub ReadsWithin : ℕ → ℕ → Brought → Type 0
-ReadsWithin end piece (brought.More more) = (0 < more) × (end + more ≤ piece)
-ReadsWithin end piece brought.End = Unit {0}
-ReadsWithin end piece brought.Failed = Unit {0}
-
 -- what came stands within the piece, and begins with what was in hand before
 pub record Brings (before piece : List ℕ) (hand : Hand) : Type 0 where
   pub within : InHand (length piece) hand
   pub leads : Leads before (bytes_of piece hand)
 
-abbrev pub CameBehind : List ℕ → List ℕ → Came → Type 0
-CameBehind before piece (came.Bytes hand) = Brings before piece hand
-CameBehind before piece came.Failed = Unit {0}
+-- what came behind what was in hand before, where no read has failed
+abbrev pub CameBehind : {E : Type 0} → List ℕ → List ℕ → Result Hand E → Type 0
+CameBehind before piece (Ok hand) = Brings before piece hand
+CameBehind before piece (Err _) = Unit {0}
 
 -- of the bytes that came, which begin with what was in hand before, this is next
 pub record Tells (before : List ℕ) (next : Next) : Type 0 where
@@ -52,8 +43,8 @@ pub record Takes (before piece : List ℕ) (taking : Taking) : Type 0 where
   pub rest-is : bytes_of piece taking.rest ≡ drop 8 tells.all
 
 -- what was taken is what is next in the bytes that came, where no read has failed
-abbrev pub TakenBehind : List ℕ → List ℕ → Taken → Type 0
-TakenBehind before piece (taken.Event taking) = Takes before piece taking
-TakenBehind before piece taken.End = Tells before next.End
-TakenBehind before piece taken.Leftover = Tells before next.Leftover
-TakenBehind before piece taken.Failed = Unit {0}
+abbrev pub TakenBehind : {E : Type 0} → List ℕ → List ℕ → Result Taken E → Type 0
+TakenBehind before piece (Ok (taken.Event taking)) = Takes before piece taking
+TakenBehind before piece (Ok taken.End) = Tells before next.End
+TakenBehind before piece (Ok taken.Leftover) = Tells before next.Leftover
+TakenBehind before piece (Err _) = Unit {0}

@@ -14,9 +14,5 @@ use answers::Verdict;
 pub fn goes_on(verdict: Verdict) -> bool
     ensures { result ≡ goes_on verdict }
 {
-    match verdict {
-        Verdict::False => false,
-        Verdict::True => false,
-        Verdict::Pending => true,
-    }
+    matches!(verdict, Verdict::Pending)
 }

@@ -4,32 +4,27 @@ ghost use Rattle.std.specs.Io.KnownBytes.{Appends};
 ghost use Rattle.lines.specs.Lines.{standing_line, progress_line};
 
 use answers::{Refusal, Verdict};
-use lines::LINE;
 use std::io::Write;
 
 // The line of a watch: whether it was written whole. Where it was not, the program is to end.
 pub fn standing<W: Write>(out: &mut W, ticks: u64, verdict: Verdict, slots: u64, nodes: u64) -> bool
     ensures { result ≡ true → Appends (W.contents out.old) (W.contents out.new) (standing_line ticks verdict slots nodes) }
 {
-    let mut line = [0u8; LINE];
-    let end = lines::standing(&mut line, ticks, verdict, slots, nodes);
-    out.write_all(&line[0..end]).is_ok()
+    out.write_all(lines::standing(ticks, verdict, slots, nodes).bytes())
+        .is_ok()
 }
 
 // The line of a rule in one place, in the same way.
 pub fn progress<W: Write>(out: &mut W, ticks: u64, verdict: Verdict, nodes: u64) -> bool
     ensures { result ≡ true → Appends (W.contents out.old) (W.contents out.new) (progress_line ticks verdict nodes) }
 {
-    let mut line = [0u8; LINE];
-    let end = lines::progress(&mut line, ticks, verdict, nodes);
-    out.write_all(&line[0..end]).is_ok()
+    out.write_all(lines::progress(ticks, verdict, nodes).bytes())
+        .is_ok()
 }
 
 // The last line after a refusal. The program ends behind it, whether it could be written or not.
 pub fn refused<W: Write>(out: &mut W, refusal: Refusal) {
-    let mut line = [0u8; LINE];
-    let end = lines::refused(&mut line, refusal);
-    let _ = out.write_all(&line[0..end]);
+    let _ = out.write_all(lines::refused(refusal).bytes());
 }
 
 // The last line where a read has failed.

@@ -4,20 +4,13 @@ ghost use Rattle.std.specs.Prelude.{◌≡◌, ◌≤◌, length};
 ghost use Rattle.programs.specs.Hand.{InHand, bytes_of};
 ghost use Rattle.programs.specs.Turns.{FileInFront, EventBehind};
 
-use crate::input::{Came, Hand, PIECE, Taken, Taking};
+use crate::input::{Hand, PIECE, Taken, Taking};
 use crate::{goes_on, input, output};
 use answers::{Refusal, Verdict};
 use std::io::{Read, Write};
 
-// What a turn begins with.
-#[derive(Clone, Copy)]
-pub enum NextEvent {
-    Event(Taking),
-    Over,
-}
-
 // What a turn leaves: how many nodes wait for the next event, none where the program is over, and what is in hand behind the event.
-#[derive(Clone, Copy)]
+#[derive(Clone, Copy, Debug, PartialEq, Eq)]
 pub struct Turned {
     pub waiting: usize,
     pub hand: Hand,
@@ -34,56 +27,48 @@ impl Turned {
     }
 }
 
-// The rule file, in front of the piece, and in hand what came behind it.
-pub fn file<I: Read, W: Write>(input: &mut I, out: &mut W, piece: &mut [u8]) -> Came
+// The rule file, in front of the piece, and in hand what came behind it. Where a read has failed there is none.
+pub fn file<I: Read, W: Write>(input: &mut I, out: &mut W, piece: &mut [u8]) -> Option<Hand>
     requires { length piece.old ≡ PIECE }
     ensures { FileInFront piece.new result }
 {
-    let awaited = input::await_file(input, piece);
-    let Came::Bytes(all) = awaited else {
+    let Ok(all) = input::await_file(input, piece) else {
         output::failed_read(out);
-        return Came::Failed;
+        return None;
     };
-    let end = all.end;
-    let length = came::file_in(&piece[0..end]);
-    Came::Bytes(Hand {
-        from: length,
-        end: end,
-    })
+    let from = came::file_in(&piece[0..all.end]);
+    Some(Hand { from, end: all.end })
 }
 
-// The next event.
+// The next event. Where there is none the program is over.
 pub fn event<I: Read, W: Write>(
     input: &mut I,
     out: &mut W,
     piece: &mut [u8],
     hand: Hand,
-) -> NextEvent
+) -> Option<Taking>
     requires { InHand (length piece.old) hand × (8 ≤ length piece.old) }
     ensures { EventBehind (bytes_of piece.old hand) piece.new result }
 {
-    let taken = input::take_event(input, piece, hand);
-    match taken {
-        Taken::Event(taking) => NextEvent::Event(taking),
-        Taken::End => NextEvent::Over,
-        Taken::Leftover => {
+    match input::take_event(input, piece, hand) {
+        Ok(Taken::Event(taking)) => Some(taking),
+        Ok(Taken::End) => None,
+        Ok(Taken::Leftover) => {
             output::refused(out, Refusal::Length);
-            NextEvent::Over
+            None
         }
-        Taken::Failed => {
+        Err(_) => {
             output::failed_read(out);
-            NextEvent::Over
+            None
         }
     }
 }
 
 // How many nodes wait for the next event behind this verdict: none where a watch does not go on, or its line was not written.
 pub fn waiting(written: bool, verdict: Verdict, nodes: usize) -> usize {
-    if !written {
-        return 0;
+    if written && goes_on(verdict) {
+        nodes
+    } else {
+        0
     }
-    if !goes_on(verdict) {
-        return 0;
-    }
-    nodes
 }

@@ -10,12 +10,11 @@ ghost use Rattle.programs.specs.Hand.{InHand};
 ghost use Rattle.progress.specs.Before.{verdict_before, FoldsFirst, ProgressedFrom};
 
 use answers::{Refusal, Verdict};
-use central::CentralAnswer;
+use central::Progress;
 use limits::{BOARDS_MOST, CENTRAL_NODES_MOST, PROPOSITIONS_MOST, RULE_NODES_MOST};
-use programs::input::{Came, Hand, PIECE};
-use programs::turns::{NextEvent, Turned};
+use programs::input::{Hand, PIECE};
+use programs::turns::Turned;
 use programs::{output, turns};
-use rules::ReadAnswer;
 use std::io::{Read, Write};
 
 // Below this number two more ticks can be counted.
@@ -60,11 +59,11 @@ fn report<W: Write>(out: &mut W, ticks: u64, verdict: Verdict, nodes: usize) -> 
 
 // Progresses the formula that the first `nodes` bytes of `held` are. There are always so many, since `read` or `central` put
 // the nodes there; the test spares a proof of that.
-fn progressed(held: &[u8], nodes: usize, event: u64, output: &mut [u8]) -> CentralAnswer
+fn progressed(held: &[u8], nodes: usize, event: u64, output: &mut [u8]) -> Result<Progress, Refusal>
     ensures { ProgressedFrom held.now nodes event output.old output.new result }
 {
     if held.len() < nodes {
-        return CentralAnswer::Refused(Refusal::Length);
+        return Err(Refusal::Length);
     }
     central::central(&held[0..nodes], event, output)
 }
@@ -80,11 +79,11 @@ fn tick<W: Write>(
 ) -> usize {
     let answer = progressed(held, nodes, event, output);
     match answer {
-        CentralAnswer::Refused(refusal) => {
+        Err(refusal) => {
             output::refused(out, refusal);
             0
         }
-        CentralAnswer::Progressed(progress) => {
+        Ok(progress) => {
             let verdict = progress.verdict;
             report(out, ticks, verdict, progress.length)
         }
@@ -105,14 +104,12 @@ fn turn<I: Read, W: Write>(
     requires { InHand (length piece.old) hand × (8 ≤ length piece.old) }
     ensures { InHand (length piece.old) result.hand }
 {
-    let next = turns::event(input, out, piece, hand);
-    let NextEvent::Event(taking) = next else {
+    let Some(taking) = turns::event(input, out, piece, hand) else {
         return Turned::over();
     };
-    let rest = taking.rest;
     Turned {
         waiting: tick(out, held, nodes, taking.event, output, ticks),
-        hand: rest,
+        hand: taking.rest,
     }
 }
 
@@ -132,6 +129,7 @@ fn run<I: Read, W: Write>(
     let mut hand = behind;
     let mut waiting = nodes;
     let mut ticks: u64 = 0;
+    // A `while`: the ticks go up by two a turn.
     while ticks < TICKS_MOST {
         if waiting == 0 {
             return;
@@ -140,19 +138,17 @@ fn run<I: Read, W: Write>(
         if first.waiting == 0 {
             return;
         }
-        let between = first.hand;
         let then = turn(
             input,
             out,
             piece,
-            between,
+            first.hand,
             output,
             first.waiting,
             held,
             ticks + 2,
         );
-        let rest = then.hand;
-        hand = rest;
+        hand = then.hand;
         waiting = then.waiting;
         ticks += 2;
     }
@@ -172,15 +168,14 @@ fn watch<I: Read, W: Write>(
     requires held_whole { length held.old ≡ CENTRAL_NODES_MOST }
     requires output_whole { length output.old ≡ CENTRAL_NODES_MOST }
 {
-    let came = turns::file(input, out, piece);
-    let Came::Bytes(behind) = came else {
+    let Some(behind) = turns::file(input, out, piece) else {
         return;
     };
     let length = behind.from;
     let answer = reading::read(&piece[0..length], masks, &mut held[0..RULE_NODES_MOST]);
     match answer {
-        ReadAnswer::Refused(refusal) => output::refused(out, refusal),
-        ReadAnswer::Rule(counts) => {
+        Err(refusal) => output::refused(out, refusal),
+        Ok(counts) => {
             let nodes = fold_first(held, counts.nodes as usize, output);
             let waiting = report(out, 0, verdict_before(held[0], nodes), nodes);
             run(input, out, piece, behind, held, waiting, output);

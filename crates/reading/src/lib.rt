@@ -5,27 +5,24 @@ ghost use Rattle.rules.specs.Read.{Reads};
 
 use answers::Refusal;
 use limits::BOARDS_MOST;
-use rules::{ReadAnswer, RuleCounts, checks};
+use rules::{RuleCounts, checks};
 
-pub fn read(file: &[u8], masks: &mut [u64], formula: &mut [u8]) -> ReadAnswer
+pub fn read(file: &[u8], masks: &mut [u64], formula: &mut [u8]) -> Result<RuleCounts, Refusal>
     ensures { Reads file.now masks.old formula.old masks.new formula.new result }
 {
-    let head = checks::head_of(file, masks.len(), formula.len());
-    let ReadAnswer::Rule(c) = head else {
-        return head;
-    };
+    let c = checks::head_of(file, masks.len(), formula.len())?;
     let b = c.boards as usize;
     let p = c.propositions;
     let n = c.nodes as usize;
     let mut found = [0u64; BOARDS_MOST];
     if !checks::masks_ok(file, b, p, &mut found) {
-        return ReadAnswer::Refused(Refusal::Masks);
+        return Err(Refusal::Masks);
     }
     if !checks::formula_ok(file, b, p) {
-        return ReadAnswer::Refused(Refusal::Formula);
+        return Err(Refusal::Formula);
     }
     handing::put_rule(file, b, &found, masks, formula);
-    ReadAnswer::Rule(RuleCounts {
+    Ok(RuleCounts {
         boards: b as u64,
         propositions: p,
         nodes: n as u64,

@@ -1,28 +1,32 @@
 -- What the check of a text promises (`Recognises`), and what one turn of it does. Assumes nothing: these are definitions.
-use Rattle.std.specs.Prelude.{◌≡◌, true, false, List, ℕ, zero, suc, ◌≤◌, ◌<◌, drop}
+use Rattle.cursor.specs.declared.TextCursor.{TextCursor}
+use Rattle.std.specs.Prelude.{◌≡◌, true, false, List, ℕ, ◌≤◌, ◌<◌, drop, Result, Ok, Err, ⊤}
 use Rattle.text.specs.Places.{line_at}
-use Rattle.text.specs.Machine.{Mode, want, got, run, final, accepts, passed}
+use Rattle.text.specs.Machine.{Mode, want, got, dead, run, final, accepts, passed}
 use Rattle.cursor.specs.Positions.{Stands, Moves, Ends}
-use Rattle.recognising.specs.declared.Recognised.{Recognised}
-use Rattle.recognising.specs.declared.Recognised.TheVariants.{Accepted, Refused}
+use Rattle.recognising.specs.declared.CheckStage.{CheckStage}
+use Rattle.recognising.specs.declared.CheckStage.TheVariants.{Wanted, Ended, Accepted, Refused}
 use Rattle.recognising.specs.declared.TextCheck.{TextCheck}
 
 -- the machine accepts the text; or it doesn't, the byte is where it died, or the end, and the line is that byte's
-abbrev pub Recognises : List ℕ → Recognised → Type 0
-Recognises t Accepted = accepts t ≡ true
-Recognises t (Refused c) = (accepts t ≡ false) × (c.byte ≡ passed t (want 0)) × (c.line ≡ line_at t c.byte)
+abbrev pub Recognises : List ℕ → Result ⊤ TextCursor → Type 0
+Recognises t (Ok _) = accepts t ≡ true
+Recognises t (Err c) = (accepts t ≡ false) × (c.byte ≡ passed t (want 0)) × (c.line ≡ line_at t c.byte)
 
--- the machine's mode, by the stage of a check that goes on
-abbrev pub mode_at : ℕ → ℕ → Mode
-mode_at zero d = want d
-mode_at (suc n) d = got d
+-- the machine in s at byte i goes on to byte j, where an operand is wanted or one has ended; or it accepts; or it accepts nothing, and j
+-- is the place
+abbrev pub StageIs : List ℕ → ℕ → Mode → ℕ → ℕ → CheckStage → Type 0
+StageIs t i s j d Wanted = Moves t i s j (want d) × (i < j)
+StageIs t i s j d Ended = Moves t i s j (got d) × (i < j)
+StageIs t i s j d Accepted = final (run (drop i t) s) ≡ true
+StageIs t i s j d Refused = Ends t i s j
 
--- the machine in s at byte i goes on to byte j (stages 0 and 1), accepts (2), or accepts nothing, and j is the place (3)
-abbrev pub StageIs : List ℕ → ℕ → Mode → ℕ → ℕ → ℕ → Type 0
-StageIs t i s j d zero = Moves t i s j (want d) × (i < j)
-StageIs t i s j d (suc zero) = Moves t i s j (got d) × (i < j)
-StageIs t i s j d (suc (suc zero)) = final (run (drop i t) s) ≡ true
-StageIs t i s j d (suc (suc (suc n))) = Ends t i s j
+-- the machine's mode, by the stage of a check that goes on; one that is accepted or refused has no turn
+abbrev pub mode_at : CheckStage → ℕ → Mode
+mode_at Wanted d = want d
+mode_at Ended d = got d
+mode_at Accepted d = dead
+mode_at Refused d = dead
 
 -- one turn, from x to r
 pub record CheckTurn (t : List ℕ) (x r : TextCheck) : Type 0 where

@@ -1,5 +1,7 @@
 -- What a record is, and how it stands to the one before it. Assumes nothing: these are definitions.
 use Rattle.std.specs.Prelude.{ℕ, ◌+◌, ◌-◌, ◌%◌, ◌^◌, Bool, not, eqb}
+use Rattle.recordings.specs.declared.Mark.{Mark}
+use Rattle.recordings.specs.declared.Mark.TheVariants.{Kept, Dropped, Broken}
 use Rattle.lists.specs.Tests.{pick, both, either}
 
 -- what the recorder writes in a tick
@@ -34,6 +36,12 @@ dropped = 1
 -- kept after a break
 abbrev pub broken : ℕ
 broken = 2
+
+-- the byte of a mark
+abbrev pub mark_byte : Mark → ℕ
+mark_byte Kept = kept
+mark_byte Dropped = dropped
+mark_byte Broken = broken
 
 -- by the record before it
 unfoldable pub mark_of : Record → Record → ℕ

@@ -1,6 +1,6 @@
--- A test of every number below another, and of every byte, one turn of a loop at a time; some tests in a list. Assumes nothing.
-use mathlib.Core.Path.{◌≡◌, refl, sym, ap, ap₂, ◌∙◌}
-use mathlib.Core.Bool.{Bool, true, false, not}
+-- A test of every number below another, some tests in a list, and all bytes by their union (`union-all`). Assumes nothing.
+use mathlib.Core.Path.{◌≡◌, refl, sym, ap, ◌∙◌}
+use mathlib.Core.Bool.{Bool, true, false}
 use mathlib.Core.List.{List, [], ◌∷◌}
 use Prim.Native.Nat.{ℕ, zero, suc, ◌+◌, ◌<◌, ◌≤◌}
 use native.Mathlib.Nat.{eq-or-lt_of_le}
@@ -8,11 +8,11 @@ use native.Mathlib.Numerals.{add-one}
 use native.Mathlib.Omega.{arith}
 use native.Mathlib.Decide.{ℕ_discrete}
 use mathlib.Core.Logic.{⊎_elim}
-use lib.ListN.{length, get_or, drop, drop_of_length-le}
-use lib.Seq.{drop-cons}
+use lib.ListN.{get_or}
 use lib.Dec.{leb, eqb}
 use lib.Bits.{bit_or, or_add_and, and_le_l, and_le_r}
-use borrow.Author.Tests.{leb-true, eq-eqb, ne_eqb, not-true, not-false}
+use borrow.Author.Tests.{leb-true, eq-eqb, ne_eqb}
+use Rattle.std.specs.List.{fold}
 use Rattle.lists.specs.Tests.{both, in_range}
 use Rattle.lists.proofs.Tests.{both-0, both-1, both_true}
 use Rattle.state.specs.Clauses.{each_below, each_true, all_zero}
@@ -48,33 +48,6 @@ each_at test (suc n) i e l =
     (λ q. (let k : n ≡ i = omega arith in ap test (sym k) ∙ both-1 (each_below n test) (test n) e))
     (λ q. each_at test n i (both-0 (each_below n test) (test n) e) (omega arith))
     (eq-or-lt_of_le l)
-
--- ---- a loop that makes one test after the other: those before i hold
-pub record Through (test : ℕ → Bool) (n i : ℕ) : Type 0 where
-  pub inside : i ≤ n
-  pub all : each_below i test ≡ true
-
-pub through-none : {test : ℕ → Bool} {n : ℕ} → Through test n 0
-through-none {test} = record { inside = omega arith; all = each_none test }
-
-module _ {test : ℕ → Bool} {n i : ℕ} (t : Through test n i) where
-  pub through-all : n ≤ i → true ≡ each_below n test
-  through-all l = let e : i ≡ n = omega arith in sym (ap (λ (j : ℕ). each_below j test) (sym e) ∙ t.all)
-
-  module _ (l : i < n) where
-    pub through-on : test i ≡ true → Through test n (i + 1)
-    through-on h = record { inside = omega arith; all = each_more test i t.all h }
-
-    pub through-off : test i ≡ false → false ≡ each_below n test
-    through-off h = sym (each-false test i n l h)
-
-    -- the test of i, as a function answers it
-    module _ {b : Bool} (e : b ≡ test i) where
-      pub through-more : not b ≡ false → Through test n (i + 1)
-      through-more h = through-on (sym e ∙ not-false b h)
-
-      pub through_not : not b ≡ true → false ≡ each_below n test
-      through_not h = through-off (sym e ∙ not-true b h)
 
 -- the last of some tests
 pub both-last : (a : Bool) → a ≡ both a true
@@ -116,33 +89,17 @@ unfolding both
 both-assoc true b c = refl
 both-assoc false b c = refl
 
--- the bytes before i are 0 where their union is
-pub record Zeros (s : List ℕ) (union i : ℕ) : Type 0 where
-  pub inside : i ≤ length s
-  pub so_far : all_zero s ≡ both (eqb union 0) (all_zero (drop i s))
+union-from : (s : List ℕ) (union : ℕ) → eqb (fold bit_or union s) 0 ≡ both (eqb union 0) (all_zero s)
+unfolding all_zero
+union-from [] union = both-last (eqb union 0)
+union-from (x ∷ s) union =
+    union-from s (bit_or union x)
+    ∙ ap (λ (b : Bool). both b (all_zero s)) (union-zero union x)
+    ∙ sym (both-assoc (eqb union 0) (eqb x 0) (all_zero s))
 
-pub zeros-none : {s : List ℕ} → Zeros s 0 0
+pub union-all : (s : List ℕ) → eqb (fold bit_or 0 s) 0 ≡ all_zero s
 unfolding both
-zeros-none = record { inside = omega arith; so_far = refl }
-
-module _ {s : List ℕ} {union i : ℕ} (z : Zeros s union i) where
-  pub zeros-more : i < length s → Zeros s (bit_or union (get_or s i 0)) (i + 1)
-  unfolding all_zero
-  zeros-more h =
-      record {
-        inside = omega arith;
-        so_far =
-            z.so_far
-            ∙ ap (λ (x : List ℕ). both (eqb union 0) (all_zero x)) (drop-cons s i 0 h)
-            ∙ both-assoc (eqb union 0) (eqb (get_or s i 0) 0) (all_zero (drop (suc i) s))
-            ∙ ap₂ (λ (x : Bool) (j : ℕ). both x (all_zero (drop j s))) (sym (union-zero union (get_or s i 0))) (sym (add-one i));
-      }
-
-  pub zeros-all : length s ≤ i → eqb union 0 ≡ all_zero s
-  unfolding all_zero
-  zeros-all h =
-      let e : eqb union 0 ≡ both (eqb union 0) (all_zero (drop i s)) = rw (drop_of_length-le s h) (both-last (eqb union 0)) in
-      e ∙ sym z.so_far
+union-all s = union-from s 0
 
 -- ---- a range
 pub range-most : (most n : ℕ) → in_range most n ≡ true → n ≤ most

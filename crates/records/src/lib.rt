@@ -17,44 +17,32 @@ use state::{Counts, Form};
 fn zeros(s: &[u8]) -> bool
     ensures { result ≡ all_zero s.now }
 {
-    let mut union: u8 = 0;
-    let mut i: usize = 0;
-    while i < s.len() {
-        union = union | s[i];
-        i += 1;
-    }
-    union == 0
+    s.iter().fold(0, |union, x| union | *x) == 0
 }
 
 // A count from 1 to the most.
+#[tactic(auto, unfolding(lists::specs::Tests::both))]
 fn in_range(n: usize, most: usize) -> bool
     ensures { result ≡ in_range most n }
 {
-    if n < 1 {
-        return false;
-    }
-    n <= most
+    1 <= n && n <= most
 }
 
 // The counts are in range, and the places are theirs.
+#[tactic(auto, unfolding(lists::specs::Tests::both, state::specs::Clauses::each_true, state::specs::Clauses::header_ok))]
 pub fn header_ok(s: &[u8], c: Counts) -> bool
     requires { Formed s.now × Header s.now c }
     ensures { result ≡ header_ok s.now }
 {
-    let form = Form::of(s.len());
-    if !in_range(c.boards, BOARDS_MOST) {
-        return false;
-    }
-    if !in_range(c.slots, form.slots_most()) {
-        return false;
-    }
-    if !in_range(c.nodes, form.nodes_most()) {
-        return false;
-    }
-    state::places_ok(s, c)
+    let form = Form::from(s.len());
+    in_range(c.boards, BOARDS_MOST)
+        && in_range(c.slots, form.slots_most())
+        && in_range(c.nodes, form.nodes_most())
+        && state::places_ok(s, c)
 }
 
 // Board i's record: its flag, and its sample within its mask, 0 where it has not sampled.
+#[tactic(auto, unfolding(lists::specs::Tests::both, lists::specs::Tests::either, state::specs::Clauses::board_ok))]
 fn board_ok(s: &[u8], i: usize) -> bool
     requires { Formed s.now × (i < boards_most) }
     ensures { result ≡ board_ok s.now i }
@@ -62,28 +50,18 @@ fn board_ok(s: &[u8], i: usize) -> bool
     let mask = state::mask_of(s, i);
     let sample = state::sample_of(s, i);
     let sampled = state::sampled_of(s, i);
-    if 1 < sampled {
-        return false;
-    }
-    if sample & mask != sample {
-        return false;
-    }
-    if sampled == 1 {
-        return true;
-    }
-    sample == 0
+    sampled <= 1 && sample & mask == sample && (sampled == 1 || sample == 0)
 }
 
+#[tactic(auto, unfolding(lists::specs::Tests::both, state::specs::Clauses::each_below))]
 pub fn boards_ok(s: &[u8], b: usize) -> bool
     requires { Formed s.now × (b ≤ boards_most) }
     ensures { result ≡ each_below b (board_ok s.now) }
 {
-    let mut i: usize = 0;
-    while i < b {
+    for i in 0..b {
         if !board_ok(s, i) {
             return false;
         }
-        i += 1;
     }
     true
 }
@@ -97,42 +75,30 @@ fn slot_end(s: &[u8], c: Counts, k: usize) -> usize
 }
 
 // Slot k's record: its board, its mark, and that it lies in its stretch, which it fills where it is not stepped.
+#[tactic(auto, unfolding(lists::specs::Tests::both, lists::specs::Tests::either, state::specs::Clauses::record_ok))]
 fn record_ok(s: &[u8], c: Counts, k: usize) -> bool
     requires { Sized s.now c × (k < c.slots) }
     ensures { result ≡ record_ok s.now k }
 {
     let stepped = state::mark_of(s, c, k);
-    if c.boards <= state::board_of(s, c, k) as usize {
-        return false;
-    }
-    if 1 < stepped {
-        return false;
-    }
-    if state::length_of(s, c, k) < 1 {
-        return false;
-    }
     let end = slot_end(s, c, k);
     let stretch = state::stretch_end(s, c, k);
-    if stretch < end {
-        return false;
-    }
-    if stepped == 1 {
-        return true;
-    }
-    end == stretch
+    usize::from(state::board_of(s, c, k)) < c.boards
+        && stepped <= 1
+        && 1 <= state::length_of(s, c, k)
+        && end <= stretch
+        && (stepped == 1 || end == stretch)
 }
 
+#[tactic(auto, unfolding(lists::specs::Tests::both, state::specs::Clauses::each_below))]
 pub fn records_ok(s: &[u8], c: Counts) -> bool
     requires { Sized s.now c }
     ensures { result ≡ each_below c.slots (record_ok s.now) }
 {
-    let n = c.slots;
-    let mut k: usize = 0;
-    while k < n {
+    for k in 0..c.slots {
         if !record_ok(s, c, k) {
             return false;
         }
-        k += 1;
     }
     true
 }
@@ -147,17 +113,15 @@ fn gap_ok(s: &[u8], c: Counts, k: usize) -> bool
     zeros(&s[from..to])
 }
 
+#[tactic(auto, unfolding(lists::specs::Tests::both, state::specs::Clauses::each_below))]
 pub fn gaps_ok(s: &[u8], c: Counts) -> bool
     requires { Sized s.now c × (each_below c.slots (record_ok s.now) ≡ true) }
     ensures { result ≡ each_below c.slots (gap_ok s.now) }
 {
-    let n = c.slots;
-    let mut k: usize = 0;
-    while k < n {
+    for k in 0..c.slots {
         if !gap_ok(s, c, k) {
             return false;
         }
-        k += 1;
     }
     true
 }

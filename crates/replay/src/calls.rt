@@ -1,40 +1,27 @@
 // The calls, each over what a request gives and lends. None of them reads or writes a line.
-use answers::Outcome;
-use capturing::CaptureAnswer;
-use central::CentralAnswer;
+use answers::Refusal;
 use cursor::TextCursor;
-use mending::MendAnswer;
-use parsing::ParseAnswer;
-use printing::PrintAnswer;
-use reporting::ReportAnswer;
-use requests::header::{
-    ADD, ASK, CAPTURE, CENTRAL, CLOSE, LOAD, MEND, PARSE, PRINT, READ, REPORT, SAMPLE, STEP,
-    STRETCH, WRITE,
-};
+use parsing::ParseError;
+use recordings::Mended;
+use reporting::ReportError;
+use requests::header::Call;
 use requests::line::Answered;
 use requests::{BYTES_MOST, RUNS_BYTES_MOST, lent, payload};
-use rules::{ReadAnswer, WriteAnswer};
-use stretching::StretchAnswer;
-use telling::AskAnswer;
-
-fn done() -> Answered {
-    Answered::accepted(0, 0, 0, 0, 0)
-}
 
 // Of a call without values.
-fn outcome(outcome: Outcome) -> Answered {
+fn outcome(outcome: Result<(), Refusal>) -> Answered {
     match outcome {
-        Outcome::Refused(refusal) => Answered::refused(refusal),
-        Outcome::Done => done(),
+        Err(refusal) => Answered::refused(refusal),
+        Ok(()) => Answered::done(),
     }
 }
 
 fn read(file: &[u8], masks: &mut [u64], formula: &mut [u8]) -> Answered {
     let answer = reading::read(file, masks, formula);
     match answer {
-        ReadAnswer::Refused(refusal) => Answered::refused(refusal),
-        ReadAnswer::Rule(counts) => {
-            Answered::accepted(3, counts.boards, counts.propositions, counts.nodes, 0)
+        Err(refusal) => Answered::refused(refusal),
+        Ok(counts) => {
+            Answered::accepted(3, [counts.boards, counts.propositions, counts.nodes, 0])
         }
     }
 }
@@ -42,8 +29,8 @@ fn read(file: &[u8], masks: &mut [u64], formula: &mut [u8]) -> Answered {
 fn write(masks: &[u64], propositions: u64, formula: &[u8], file: &mut [u8]) -> Answered {
     let answer = writing::write(masks, propositions, formula, file);
     match answer {
-        WriteAnswer::Refused(refusal) => Answered::refused(refusal),
-        WriteAnswer::Written(length) => Answered::accepted(1, length as u64, 0, 0, 0),
+        Err(refusal) => Answered::refused(refusal),
+        Ok(length) => Answered::one(length as u64),
     }
 }
 
@@ -55,27 +42,30 @@ fn no_text(at: TextCursor) -> Answered {
 fn parse(text: &[u8], formula: &mut [u8]) -> Answered {
     let answer = parsing::parse(text, formula);
     match answer {
-        ParseAnswer::Refused(refusal) => Answered::refused(refusal),
-        ParseAnswer::NoText(at) => no_text(at),
-        ParseAnswer::Parsed(nodes) => Answered::accepted(1, nodes as u64, 0, 0, 0),
+        Err(ParseError::Refused(refusal)) => Answered::refused(refusal),
+        Err(ParseError::NoText(at)) => no_text(at),
+        Ok(nodes) => Answered::one(nodes as u64),
     }
 }
 
 fn print(formula: &[u8], text: &mut [u8]) -> Answered {
     let answer = printing::print(formula, text);
     match answer {
-        PrintAnswer::Refused(refusal) => Answered::refused(refusal),
-        PrintAnswer::Printed(length) => Answered::accepted(1, length as u64, 0, 0, 0),
+        Err(refusal) => Answered::refused(refusal),
+        Ok(length) => Answered::one(length as u64),
     }
 }
 
 fn central(formula: &[u8], event: u64, output: &mut [u8]) -> Answered {
     let answer = central::central(formula, event, output);
     match answer {
-        CentralAnswer::Refused(refusal) => Answered::refused(refusal),
-        CentralAnswer::Progressed(progress) => {
+        Err(refusal) => Answered::refused(refusal),
+        Ok(progress) => {
             let verdict = progress.verdict;
-            Answered::accepted(2, verdict.number() as u64, progress.length as u64, 0, 0)
+            Answered::accepted(
+                2,
+                [u64::from(u32::from(verdict)), progress.length as u64, 0, 0],
+            )
         }
     }
 }
@@ -87,7 +77,7 @@ fn load(file: &[u8], state: &mut [u8]) -> Answered {
 // The board's number is what is given, always 8 bytes; the test spares a proof of that.
 fn sample(state: &mut [u8], board: &[u8], bits: u64) -> Answered {
     if board.len() < 8 {
-        return done();
+        return Answered::done();
     }
     outcome(sampling::sample(state, le::u64_at(board, 0), bits))
 }
@@ -103,15 +93,17 @@ fn close(state: &[u8], second: &mut [u8]) -> Answered {
 fn ask(state: &[u8]) -> Answered {
     let answer = asking::ask(state);
     match answer {
-        AskAnswer::Refused(refusal) => Answered::refused(refusal),
-        AskAnswer::Told(standing) => {
+        Err(refusal) => Answered::refused(refusal),
+        Ok(standing) => {
             let verdict = standing.verdict;
             Answered::accepted(
                 4,
-                verdict.number() as u64,
-                standing.ticks as u64,
-                standing.slots as u64,
-                standing.nodes as u64,
+                [
+                    u64::from(u32::from(verdict)),
+                    standing.ticks as u64,
+                    standing.slots as u64,
+                    standing.nodes as u64,
+                ],
             )
         }
     }
@@ -120,27 +112,29 @@ fn ask(state: &[u8]) -> Answered {
 // Puts what is given over the last bytes that are lent of the kept state. There are always so many; the test spares a proof of that.
 fn poke(kept: &mut [u8], given: &[u8]) -> Answered {
     if kept.len() < given.len() {
-        return done();
+        return Answered::done();
     }
     let at = kept.len() - given.len();
     buffers::copy(&mut kept[at..], given);
-    done()
+    Answered::done()
 }
 
 // How many events were closed, how the state that is left stands, and the refusal's number, 0 where there was none.
 fn capture(state: &mut [u8], second: &mut [u8], events: &[u64]) -> Answered {
     let answer = capturing::capture(state, second, events);
     match answer {
-        CaptureAnswer::Refused(refusal) => Answered::refused(refusal),
-        CaptureAnswer::Captured(run) => {
+        Err(refusal) => Answered::refused(refusal),
+        Ok(run) => {
             let verdict = run.verdict;
             let stop = run.stop;
             Answered::accepted(
                 3,
-                run.closed as u64,
-                verdict.number() as u64,
-                outcome(stop).number,
-                0,
+                [
+                    run.closed as u64,
+                    u64::from(u32::from(verdict)),
+                    outcome(stop).number,
+                    0,
+                ],
             )
         }
     }
@@ -151,9 +145,9 @@ fn report_in(given: &[u8], times: u64, room: &mut [u8], report: &mut [u8]) -> An
     let n = payload::repeated(given, times, room);
     let answer = reporting::report(&room[0..n], report);
     match answer {
-        ReportAnswer::Refused(refusal) => Answered::refused(refusal),
-        ReportAnswer::NoRun(place) => Answered::no_run(place as u64),
-        ReportAnswer::Reported => done(),
+        Err(ReportError::Refused(refusal)) => Answered::refused(refusal),
+        Err(ReportError::NoRun(place)) => Answered::no_run(place as u64),
+        Ok(()) => Answered::done(),
     }
 }
 
@@ -167,19 +161,20 @@ fn add(total: &mut [u8], night: &[u8]) -> Answered {
     outcome(adding::add(total, night))
 }
 
-fn mended(answer: MendAnswer) -> Answered {
+fn mended(answer: Result<Mended, Refusal>) -> Answered {
     match answer {
-        MendAnswer::Refused(refusal) => Answered::refused(refusal),
-        MendAnswer::Mended(told) => {
-            Answered::accepted(2, told.kept as u64, told.first as u64, 0, 0)
-        }
+        Err(refusal) => Answered::refused(refusal),
+        Ok(told) => { Answered::accepted(2, [told.kept as u64, told.first as u64, 0, 0]) }
     }
 }
 
 fn mend_in(recording: &[u8], out: &mut [u8], marks: &mut [u8]) -> Answered {
     lent::fill_bytes(marks);
     let answer = mending::mend(recording, out, marks);
-    mended(answer).with_marks(lent::hash_bytes(marks))
+    Answered {
+        marks: lent::hash_bytes(marks),
+        ..mended(answer)
+    }
 }
 
 // The marks are lent from a room that is made here. There are never too many of them; the test spares a proof of that.
@@ -187,7 +182,7 @@ fn mend(recording: &[u8], count: u64, out: &mut [u8]) -> Answered {
     let mut room = [0u8; BYTES_MOST];
     let n = count as usize;
     if BYTES_MOST < n {
-        return done();
+        return Answered::done();
     }
     mend_in(recording, out, &mut room[0..n])
 }
@@ -195,13 +190,13 @@ fn mend(recording: &[u8], count: u64, out: &mut [u8]) -> Answered {
 fn stretch(recording: &[u8], events: &mut [u64]) -> Answered {
     let answer = stretching::stretch(recording, events);
     match answer {
-        StretchAnswer::Refused(refusal) => Answered::refused(refusal),
-        StretchAnswer::Taken(taken) => Answered::accepted(1, taken as u64, 0, 0, 0),
+        Err(refusal) => Answered::refused(refusal),
+        Ok(taken) => Answered::one(taken as u64),
     }
 }
 
 pub fn make(
-    call: u32,
+    call: Call,
     value: u64,
     given: &[u8],
     numbers: &mut [u64],
@@ -209,21 +204,21 @@ pub fn make(
     kept: &mut [u8],
 ) -> Answered {
     match call {
-        READ => read(given, numbers, fresh),
-        WRITE => write(numbers, value, given, fresh),
-        PARSE => parse(given, fresh),
-        PRINT => print(given, fresh),
-        CENTRAL => central(given, value, fresh),
-        LOAD => load(given, fresh),
-        SAMPLE => sample(kept, given, value),
-        STEP => step(kept, value),
-        CLOSE => close(kept, fresh),
-        ASK => ask(kept),
-        CAPTURE => capture(kept, fresh, numbers),
-        REPORT => report(given, value, fresh),
-        ADD => add(kept, given),
-        MEND => mend(given, value, fresh),
-        STRETCH => stretch(given, numbers),
-        _ => poke(kept, given),
+        Call::Read => read(given, numbers, fresh),
+        Call::Write => write(numbers, value, given, fresh),
+        Call::Parse => parse(given, fresh),
+        Call::Print => print(given, fresh),
+        Call::Central => central(given, value, fresh),
+        Call::Load => load(given, fresh),
+        Call::Sample => sample(kept, given, value),
+        Call::Step => step(kept, value),
+        Call::Close => close(kept, fresh),
+        Call::Ask => ask(kept),
+        Call::Capture => capture(kept, fresh, numbers),
+        Call::Report => report(given, value, fresh),
+        Call::Add => add(kept, given),
+        Call::Mend => mend(given, value, fresh),
+        Call::Stretch => stretch(given, numbers),
+        Call::Poke => poke(kept, given),
     }
 }

@@ -4,7 +4,7 @@
 
 mod calls;
 
-use requests::header::{HEADER_LENGTH, NONE, Request};
+use requests::header::{Call, HEADER_LENGTH, Request};
 use requests::{BYTES_MOST, EVENTS_MOST, header, lent, line, payload};
 use std::io;
 use std::io::{Read, Write};
@@ -19,7 +19,7 @@ struct Made {
 // Fills what is lent and takes what is given: whether that was not cut short.
 fn prepare<I: Read>(
     input: &mut I,
-    call: u32,
+    call: Call,
     given: &mut [u8],
     numbers: &mut [u64],
     fresh: &mut [u8],
@@ -33,7 +33,7 @@ fn prepare<I: Read>(
 fn answer_over<I: Read, W: Write>(
     input: &mut I,
     out: &mut W,
-    call: u32,
+    call: Call,
     value: u64,
     given: &mut [u8],
     numbers: &mut [u64],
@@ -50,23 +50,19 @@ fn answer_over<I: Read, W: Write>(
     line::write(out, call, answered, numbers, kept, fresh)?;
     Ok(Made {
         good: true,
-        keep: answered.number == 0 && header::keeps(call),
+        keep: answered.number == 0 && call.keeps(),
     })
 }
 
 // Copies the bytes that were lent afresh over the front of the kept state. There are always so many in both; the test spares a
 // proof of that.
 fn keep(kept: &mut [u8], fresh: &[u8], length: usize) {
-    if kept.len() < length {
-        return;
+    if length <= kept.len() && length <= fresh.len() {
+        buffers::copy(kept, &fresh[0..length]);
     }
-    if fresh.len() < length {
-        return;
-    }
-    buffers::copy(kept, &fresh[0..length]);
 }
 
-// Answers a request: whether it was a good one, of a call, within the buffers, which are the limits, and not cut short.
+// Answers a request: whether it was a good one, within the buffers, which are the limits, and not cut short.
 fn answer<I: Read, W: Write>(
     input: &mut I,
     out: &mut W,
@@ -76,23 +72,11 @@ fn answer<I: Read, W: Write>(
     fresh: &mut [u8],
     kept: &mut [u8],
 ) -> io::Result<bool> {
-    if request.call == NONE {
-        return Ok(false);
-    }
     let g = request.given;
     let n = request.numbers;
     let f = request.fresh;
     let k = request.kept;
-    if given.len() < g {
-        return Ok(false);
-    }
-    if numbers.len() < n {
-        return Ok(false);
-    }
-    if fresh.len() < f {
-        return Ok(false);
-    }
-    if kept.len() < k {
+    if given.len() < g || numbers.len() < n || fresh.len() < f || kept.len() < k {
         return Ok(false);
     }
     let made = answer_over(
@@ -133,7 +117,9 @@ fn turn<I: Read, W: Write>(
     if got != HEADER_LENGTH {
         return bad(out);
     }
-    let request = header::request_in(&bytes);
+    let Some(request) = header::request_in(&bytes) else {
+        return bad(out);
+    };
     if !answer(input, out, request, given, numbers, fresh, kept)? {
         return bad(out);
     }

@@ -2,71 +2,41 @@
 // is written only where all of them are known.
 #![tactic(auto)]
 
-ghost use Rattle.reporting.specs.Report.{Reports, LengthsRight, TablesLent};
+ghost use Rattle.std.specs.Prelude.{◌≡◌};
+ghost use Rattle.reporting.specs.Report.{run_lengths_ok, Reports};
 
 use answers::Refusal;
-use limits::{RULES_MOST, RUNS_MOST};
+use limits::RUNS_MOST;
 use reports::{REPORT_LENGTH, RUN_LENGTH};
-use tallying::{COUNTS_ROOM, HIGHEST_TICK, counted, tabled};
+use tallying::RunTables;
 
-// `NoRun` is of a run that is not known, with its place.
-#[derive(Clone, Copy)]
-pub enum ReportAnswer {
+// Why runs were not counted: a refusal, or a run that is not known, with its place.
+#[derive(Clone, Copy, Debug, PartialEq, Eq)]
+pub enum ReportError {
     Refused(Refusal),
     NoRun(usize),
-    Reported,
 }
 
-// Reports with tables that are lent.
-fn report_lent(
-    runs: &[u8],
-    report: &mut [u8],
-    counts: &mut [u32],
-    earliest: &mut [u32],
-    latest: &mut [u32],
-    sums: &mut [u64],
-) -> ReportAnswer
-    requires { TablesLent runs.now report.old counts.old earliest.old latest.old sums.old }
+// Whether the runs are whole ones and not too many, and a buffer of so many bytes has a report's length.
+#[tactic(auto, unfolding(crate::specs::Report::run_lengths_ok, lists::specs::Tests::both))]
+fn lengths_fit(runs: &[u8], room: usize) -> bool
+    ensures { result ≡ run_lengths_ok runs.now room }
+{
+    room == REPORT_LENGTH && runs.len() % RUN_LENGTH == 0 && runs.len() <= RUN_LENGTH * RUNS_MOST
+}
+
+#[tactic(auto, using(crate::proofs::Outcomes::length_refused, crate::proofs::Outcomes::tally_asks, crate::proofs::Outcomes::no_run, crate::proofs::Outcomes::rows_asked))]
+pub fn report(runs: &[u8], report: &mut [u8]) -> Result<(), ReportError>
     ensures { Reports runs.now report.old report.new result }
 {
-    let n = counted::tally(runs, counts, earliest, latest, sums);
+    if !lengths_fit(runs, report.len()) {
+        return Err(ReportError::Refused(Refusal::Length));
+    }
+    let mut tables = RunTables::new();
+    let n = tables.tally(runs);
     if n < runs.len() / RUN_LENGTH {
-        return ReportAnswer::NoRun(n);
+        return Err(ReportError::NoRun(n));
     }
-    tabled::put_rows(report, counts, earliest, latest, sums);
-    ReportAnswer::Reported
-}
-
-// Makes the tables.
-fn report_runs(runs: &[u8], report: &mut [u8]) -> ReportAnswer
-    requires { LengthsRight runs.now report.old }
-    ensures { Reports runs.now report.old report.new result }
-{
-    let mut counts = [0u32; COUNTS_ROOM];
-    let mut earliest = [HIGHEST_TICK; RULES_MOST];
-    let mut latest = [0u32; RULES_MOST];
-    let mut sums = [0u64; RULES_MOST];
-    report_lent(
-        runs,
-        report,
-        &mut counts,
-        &mut earliest,
-        &mut latest,
-        &mut sums,
-    )
-}
-
-pub fn report(runs: &[u8], report: &mut [u8]) -> ReportAnswer
-    ensures { Reports runs.now report.old report.new result }
-{
-    if report.len() != REPORT_LENGTH {
-        return ReportAnswer::Refused(Refusal::Length);
-    }
-    if runs.len() % RUN_LENGTH != 0 {
-        return ReportAnswer::Refused(Refusal::Length);
-    }
-    if RUN_LENGTH * RUNS_MOST < runs.len() {
-        return ReportAnswer::Refused(Refusal::Length);
-    }
-    report_runs(runs, report)
+    tables.put_rows(report);
+    Ok(())
 }

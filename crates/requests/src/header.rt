@@ -12,49 +12,110 @@ const C_AT: usize = 12;
 
 const VALUE_AT: usize = 16;
 
-// The calls by their numbers, and 0 for none.
-pub const NONE: u32 = 0;
-
-pub const READ: u32 = 1;
-
-pub const WRITE: u32 = 2;
-
-pub const CENTRAL: u32 = 3;
-
-pub const LOAD: u32 = 4;
-
-pub const SAMPLE: u32 = 5;
-
-pub const STEP: u32 = 6;
-
-pub const CLOSE: u32 = 7;
-
-pub const ASK: u32 = 8;
-
-pub const POKE: u32 = 9;
-
-pub const CAPTURE: u32 = 10;
-
-pub const PARSE: u32 = 11;
-
-pub const PRINT: u32 = 12;
-
-pub const REPORT: u32 = 13;
-
-pub const ADD: u32 = 14;
-
-pub const MEND: u32 = 15;
-
-pub const STRETCH: u32 = 16;
-
 // A board's number is the payload of sample.
 const BOARD_LENGTH: usize = 8;
 
-// The call by its number and its value; how many numbers, which are masks or events, and bytes are given or lent to it, how many
-// bytes are lent afresh, and how many of the kept state. A poke's bytes are the last of those that are lent of the kept state.
-#[derive(Clone, Copy)]
+// ---- the calls
+#[derive(Clone, Copy, Debug, PartialEq, Eq)]
+pub enum Call {
+    Read,
+    Write,
+    Central,
+    Load,
+    Sample,
+    Step,
+    Close,
+    Ask,
+    Poke,
+    Capture,
+    Parse,
+    Print,
+    Report,
+    Add,
+    Mend,
+    Stretch,
+}
+
+// A number that no call has.
+#[derive(Clone, Copy, Debug, PartialEq, Eq)]
+pub struct NoCall(pub u32);
+
+impl TryFrom<u32> for Call {
+    type Error = NoCall;
+
+    fn try_from(number: u32) -> Result<Call, NoCall> {
+        match number {
+            1 => Ok(Call::Read),
+            2 => Ok(Call::Write),
+            3 => Ok(Call::Central),
+            4 => Ok(Call::Load),
+            5 => Ok(Call::Sample),
+            6 => Ok(Call::Step),
+            7 => Ok(Call::Close),
+            8 => Ok(Call::Ask),
+            9 => Ok(Call::Poke),
+            10 => Ok(Call::Capture),
+            11 => Ok(Call::Parse),
+            12 => Ok(Call::Print),
+            13 => Ok(Call::Report),
+            14 => Ok(Call::Add),
+            15 => Ok(Call::Mend),
+            16 => Ok(Call::Stretch),
+            _ => Err(NoCall(number)),
+        }
+    }
+}
+
+// What is given and lent to a call. What is lent is hashed behind it.
+impl Call {
+    // Write is given masks, and capture events.
+    pub fn is_given_numbers(self) -> bool {
+        matches!(self, Call::Write | Call::Capture)
+    }
+
+    pub fn lends_numbers(self) -> bool {
+        matches!(self, Call::Read | Call::Stretch)
+    }
+
+    pub fn lends_kept(self) -> bool {
+        matches!(
+            self,
+            Call::Sample | Call::Step | Call::Close | Call::Ask | Call::Capture | Call::Add
+        )
+    }
+
+    pub fn lends_fresh(self) -> bool {
+        matches!(
+            self,
+            Call::Read
+                | Call::Write
+                | Call::Central
+                | Call::Load
+                | Call::Close
+                | Call::Capture
+                | Call::Parse
+                | Call::Print
+                | Call::Report
+                | Call::Mend
+        )
+    }
+
+    pub fn lends_marks(self) -> bool {
+        self == Call::Mend
+    }
+
+    // What is lent afresh becomes the kept state where the call is accepted.
+    pub fn keeps(self) -> bool {
+        matches!(self, Call::Load | Call::Close | Call::Report)
+    }
+}
+
+// ---- the request
+// The call and its value; how many numbers, which are masks or events, and bytes are given or lent to it, how many bytes are lent
+// afresh, and how many of the kept state. A poke's bytes are the last of those that are lent of the kept state.
+#[derive(Clone, Copy, Debug, PartialEq, Eq)]
 pub struct Request {
-    pub call: u32,
+    pub call: Call,
     pub value: u64,
     pub numbers: usize,
     pub given: usize,
@@ -62,153 +123,129 @@ pub struct Request {
     pub kept: usize,
 }
 
-fn asked(
-    call: u32,
-    value: u64,
-    numbers: usize,
-    given: usize,
-    fresh: usize,
-    kept: usize,
-) -> Request {
-    Request {
-        call: call,
-        value: value,
-        numbers: numbers,
-        given: given,
-        fresh: fresh,
-        kept: kept,
+impl Request {
+    // A call without a value, to which nothing is given or lent.
+    fn bare(call: Call) -> Request {
+        Request {
+            call,
+            value: 0,
+            numbers: 0,
+            given: 0,
+            fresh: 0,
+            kept: 0,
+        }
     }
 }
 
-fn none() -> Request {
-    asked(NONE, 0, 0, 0, 0, 0)
+// A number that is not above the most.
+fn within(n: usize, most: usize) -> Option<usize> {
+    if n <= most { Some(n) } else { None }
 }
 
-// A call on a file of so many bytes, with so many masks, which is none where the file is too long or the masks are too many.
-fn on_file(call: u32, file: usize, masks: usize, fresh: usize) -> Request {
-    if FILE_BYTES_MOST < file {
-        return none();
-    }
-    if MASKS_MOST < masks {
-        return none();
-    }
-    asked(call, 0, masks, file, fresh, 0)
-}
-
-// The same of a write of so many masks, propositions and bytes of formula.
-fn on_masks(masks: usize, propositions: u64, formula: usize, fresh: usize) -> Request {
-    if MASKS_MOST < masks {
-        return none();
-    }
-    asked(WRITE, propositions, masks, formula, fresh, 0)
-}
-
-// The same of a report of so many bytes of runs, repeated so often. The number of times is the call's value.
-fn on_runs(runs: usize, times: usize, fresh: usize) -> Request {
+// How often so many bytes of runs are repeated: as often as is asked for, where there are any and there is room for all.
+fn repeats(runs: usize, times: usize) -> Option<usize> {
     if runs == 0 {
-        return asked(REPORT, 0, 0, 0, fresh, 0);
+        return Some(0);
     }
-    if RUNS_BYTES_MOST / runs < times {
-        return none();
-    }
-    asked(REPORT, times as u64, 0, runs, fresh, 0)
+    within(times, RUNS_BYTES_MOST / runs)
 }
 
-// The same of a capture of so many events.
-fn on_events(events: usize, second: usize, kept: usize) -> Request {
-    if EVENTS_GIVEN_MOST < events {
-        return none();
-    }
-    asked(CAPTURE, 0, events, 0, second, kept)
+// The request of a call by the three numbers and the value behind it. There is none where a file or a list of runs is too long, or
+// masks, events or marks are too many.
+fn request_of(call: Call, a: usize, b: usize, c: usize, value: u64) -> Option<Request> {
+    let bare = Request::bare(call);
+    let request = match call {
+        Call::Read => Request {
+            numbers: within(b, MASKS_MOST)?,
+            given: within(a, FILE_BYTES_MOST)?,
+            fresh: c,
+            ..bare
+        },
+        Call::Write => Request {
+            value,
+            numbers: within(a, MASKS_MOST)?,
+            given: b,
+            fresh: c,
+            ..bare
+        },
+        Call::Central => Request {
+            value,
+            given: a,
+            fresh: c,
+            ..bare
+        },
+        Call::Load => Request {
+            given: within(a, FILE_BYTES_MOST)?,
+            fresh: c,
+            ..bare
+        },
+        Call::Sample => Request {
+            value,
+            given: BOARD_LENGTH,
+            kept: b,
+            ..bare
+        },
+        Call::Step => Request {
+            value,
+            kept: b,
+            ..bare
+        },
+        Call::Close => Request {
+            fresh: c,
+            kept: b,
+            ..bare
+        },
+        Call::Ask => Request { kept: b, ..bare },
+        Call::Poke => Request {
+            given: a,
+            kept: a.saturating_add(b),
+            ..bare
+        },
+        Call::Capture => Request {
+            numbers: within(a, EVENTS_GIVEN_MOST)?,
+            fresh: c,
+            kept: b,
+            ..bare
+        },
+        Call::Parse | Call::Print => Request {
+            given: a,
+            fresh: c,
+            ..bare
+        },
+        Call::Report => Request {
+            value: repeats(a, b)? as u64,
+            given: a,
+            fresh: c,
+            ..bare
+        },
+        Call::Add => Request {
+            given: a,
+            kept: b,
+            ..bare
+        },
+        Call::Mend => Request {
+            value: within(c, BYTES_MOST)? as u64,
+            given: a,
+            fresh: b,
+            ..bare
+        },
+        Call::Stretch => Request {
+            numbers: c,
+            given: a,
+            ..bare
+        },
+    };
+    Some(request)
 }
 
-// The same of a mend of a recording of so many bytes. The number of marks is the call's value.
-fn on_recording(recording: usize, fresh: usize, marks: usize) -> Request {
-    if BYTES_MOST < marks {
-        return none();
-    }
-    asked(MEND, marks as u64, 0, recording, fresh, 0)
-}
-
-fn request_of(call: u32, a: u32, b: u32, c: u32, v: u64) -> Request {
-    match call {
-        READ => on_file(READ, a as usize, b as usize, c as usize),
-        WRITE => on_masks(a as usize, v, b as usize, c as usize),
-        CENTRAL => asked(CENTRAL, v, 0, a as usize, c as usize, 0),
-        LOAD => on_file(LOAD, a as usize, 0, c as usize),
-        SAMPLE => asked(SAMPLE, v, 0, BOARD_LENGTH, 0, b as usize),
-        STEP => asked(STEP, v, 0, 0, 0, b as usize),
-        CLOSE => asked(CLOSE, 0, 0, 0, c as usize, b as usize),
-        ASK => asked(ASK, 0, 0, 0, 0, b as usize),
-        POKE => asked(POKE, 0, 0, a as usize, 0, a as usize + b as usize),
-        CAPTURE => on_events(a as usize, c as usize, b as usize),
-        PARSE => asked(PARSE, 0, 0, a as usize, c as usize, 0),
-        PRINT => asked(PRINT, 0, 0, a as usize, c as usize, 0),
-        REPORT => on_runs(a as usize, b as usize, c as usize),
-        ADD => asked(ADD, 0, 0, a as usize, 0, b as usize),
-        MEND => on_recording(a as usize, b as usize, c as usize),
-        STRETCH => asked(STRETCH, 0, c as usize, a as usize, 0, 0),
-        _ => none(),
-    }
-}
-
-pub fn request_in(header: &[u8; HEADER_LENGTH]) -> Request {
+// The request that a header asks for.
+pub fn request_in(header: &[u8; HEADER_LENGTH]) -> Option<Request> {
+    let call = Call::try_from(le::u32_at(header, 0)).ok()?;
     request_of(
-        le::u32_at(header, 0),
-        le::u32_at(header, A_AT),
-        le::u32_at(header, B_AT),
-        le::u32_at(header, C_AT),
+        call,
+        le::u32_at(header, A_AT) as usize,
+        le::u32_at(header, B_AT) as usize,
+        le::u32_at(header, C_AT) as usize,
         le::u64_at(header, VALUE_AT),
     )
-}
-
-// ---- what is lent to a call, and so hashed behind it
-pub fn lends_numbers(call: u32) -> bool {
-    match call {
-        READ => true,
-        STRETCH => true,
-        _ => false,
-    }
-}
-
-pub fn lends_kept(call: u32) -> bool {
-    match call {
-        SAMPLE => true,
-        STEP => true,
-        CLOSE => true,
-        ASK => true,
-        CAPTURE => true,
-        ADD => true,
-        _ => false,
-    }
-}
-
-pub fn lends_fresh(call: u32) -> bool {
-    match call {
-        READ => true,
-        WRITE => true,
-        CENTRAL => true,
-        LOAD => true,
-        CLOSE => true,
-        CAPTURE => true,
-        PARSE => true,
-        PRINT => true,
-        REPORT => true,
-        MEND => true,
-        _ => false,
-    }
-}
-
-pub fn lends_marks(call: u32) -> bool {
-    call == MEND
-}
-
-// What is lent afresh becomes the kept state where the call is accepted.
-pub fn keeps(call: u32) -> bool {
-    match call {
-        LOAD => true,
-        CLOSE => true,
-        REPORT => true,
-        _ => false,
-    }
 }

@@ -2,10 +2,6 @@
 
 const MODULUS: u64 = 4294967291;
 
-fn wide(x: u8) -> u64 {
-    x as u64
-}
-
 pub fn fill_bytes(bytes: &mut [u8]) {
     for (i, byte) in bytes.iter_mut().enumerate() {
         *byte = (i % 251 + 1) as u8;
@@ -20,33 +16,22 @@ pub fn fill_masks(masks: &mut [u64]) {
     }
 }
 
-// The hash with the lowest byte of x taken in.
-fn hashed(hash: u64, x: u64) -> u64 {
-    (hash % MODULUS * 257 + x % 256 + 1) % MODULUS
+// The hash with a byte more taken in.
+fn hashed(hash: u64, byte: u8) -> u64 {
+    (hash % MODULUS * 257 + u64::from(byte) + 1) % MODULUS
 }
 
 pub fn hash_bytes(bytes: &[u8]) -> u64 {
-    let mut hash: u64 = 1;
-    for byte in bytes {
-        hash = hashed(hash, wide(*byte));
-    }
-    hash
+    bytes.iter().fold(1, |hash, byte| hashed(hash, *byte))
 }
 
-fn hash_mask(hash: u64, mask: u64) -> u64 {
-    let mut all = hash;
-    let mut rest = mask;
-    for _ in 0..8 {
-        all = hashed(all, rest);
-        rest /= 256;
-    }
-    all
-}
-
+// A mask is hashed as its eight bytes, the lowest first.
 pub fn hash_masks(masks: &[u64]) -> u64 {
-    let mut hash: u64 = 1;
+    let mut hash = 1;
     for mask in masks {
-        hash = hash_mask(hash, *mask);
+        for byte in mask.to_le_bytes() {
+            hash = hashed(hash, byte);
+        }
     }
     hash
 }

@@ -1,7 +1,7 @@
 // A request's payload, taken from the input: whether it was not cut short.
 ghost use Rattle.std.specs.Prelude.{◌≤◌, length, IfOk};
 
-use crate::header::{CAPTURE, WRITE};
+use crate::header::Call;
 use std::io;
 use std::io::Read;
 
@@ -9,7 +9,8 @@ use std::io::Read;
 pub fn take_front<I: Read>(input: &mut I, bytes: &mut [u8]) -> io::Result<usize>
     ensures { IfOk result (λ n. n ≤ length bytes.old) }
 {
-    let mut end: usize = 0;
+    let mut end = 0;
+    // A `while`: a read brings as many bytes as there are, and none where the input has ended.
     while end < bytes.len() {
         let got = input.read(&mut bytes[end..])?;
         if got == 0 {
@@ -36,30 +37,14 @@ fn take_numbers<I: Read>(input: &mut I, numbers: &mut [u64]) -> io::Result<bool>
     Ok(true)
 }
 
-// Write is given masks, and capture events.
-fn is_given_numbers(call: u32) -> bool {
-    match call {
-        WRITE => true,
-        CAPTURE => true,
-        _ => false,
-    }
-}
-
-fn take_numbers_of<I: Read>(input: &mut I, call: u32, numbers: &mut [u64]) -> io::Result<bool> {
-    if !is_given_numbers(call) {
-        return Ok(true);
-    }
-    take_numbers(input, numbers)
-}
-
 // The numbers come first.
 pub fn take<I: Read>(
     input: &mut I,
-    call: u32,
+    call: Call,
     numbers: &mut [u64],
     given: &mut [u8],
 ) -> io::Result<bool> {
-    if !take_numbers_of(input, call, numbers)? {
+    if call.is_given_numbers() && !take_numbers(input, numbers)? {
         return Ok(false);
     }
     take_bytes(input, given)

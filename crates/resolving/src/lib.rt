@@ -20,6 +20,7 @@ pub struct Seen {
 }
 
 // Whether proposition i is true in the event n.
+#[tactic(auto, unfolding(lists::specs::Tests::bit))]
 fn bit(n: u64, i: u8) -> bool
     requires { i < propositions_most }
     ensures { result ≡ tests.bit n i }
@@ -47,6 +48,7 @@ pub fn leaf_under(a: Leaf, seen: Seen) -> u8
 }
 
 // The byte that the place holder of slot k becomes.
+#[tactic(auto, unfolding(lists::specs::Tests::pick))]
 fn held_under(k: u8, seen: Seen) -> u8
     requires { k < holder_codes }
     ensures { result ≡ leaf_code (settled_leaf seen (Hold k)) }

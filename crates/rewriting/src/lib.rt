@@ -2,8 +2,8 @@
 // bytes are local: a small formula has a small array of them.
 #![tactic(auto)]
 
+ghost use Rattle.std.specs.Prelude.{◌≤◌};
 ghost use Rattle.limits.specs.Limits.{nodes_room};
-ghost use Rattle.outlining.specs.Outlined.{small_nodes};
 ghost use Rattle.sweeping.specs.Passes.{Outlining};
 ghost use Rattle.rewriting.specs.Rewritten.{Rewritable, RewritableIn, Fronted, Rewritten};
 
@@ -31,30 +31,26 @@ fn rewrite_noted(p: &mut [u8], notes: &mut [u16], seen: Seen) -> usize
     to_front(p, notes, seen)
 }
 
-fn rewrite_small(p: &mut [u8], seen: Seen) -> usize
-    requires { Rewritable small_nodes p.old }
+// The same with notes of its own, N of them.
+fn rewrite_with<const N: usize>(p: &mut [u8], seen: Seen) -> usize
+    requires asks { Rewritable N p.old }
+    requires most { N ≤ nodes_room }
     ensures { Fronted seen p.old p.new result }
 {
-    let mut notes = [1u16; SMALL_NODES];
+    let mut notes = [1u16; N];
     rewrite_noted(p, &mut notes, seen)
 }
 
-fn rewrite_large(p: &mut [u8], seen: Seen) -> usize
-    requires { Rewritable nodes_room p.old }
-    ensures { Fronted seen p.old p.new result }
-{
-    let mut notes = [1u16; NODES_ROOM];
-    rewrite_noted(p, &mut notes, seen)
-}
-
+// With as many as are needed: each is filled at every call.
 fn rewrite_any(p: &mut [u8], seen: Seen) -> usize
     requires { Rewritable nodes_room p.old }
     ensures { Fronted seen p.old p.new result }
 {
     if p.len() <= SMALL_NODES {
-        return rewrite_small(p, seen);
+        rewrite_with::<SMALL_NODES>(p, seen)
+    } else {
+        rewrite_with::<NODES_ROOM>(p, seen)
     }
-    rewrite_large(p, seen)
 }
 
 // Rewrites the formula that p is. Answers the result's length.

@@ -1,4 +1,3 @@
--- Laws of a row's bytes and numbers.
+-- Laws of a row's bytes.
 pub mod Fields
-pub mod Agreed
 pub mod Written

@@ -2,7 +2,6 @@
 ghost use Rattle.std.specs.Prelude.{◌≡◌, ◌+◌, ◌-◌, ◌*◌, ◌<◌};
 ghost use Rattle.reports.specs.Bytes.{no_span, span_ok, row_agrees};
 
-use crate::wide;
 use reports::Row;
 
 // The sum of one tick that is b and of all others that are a, where there are so many.
@@ -10,40 +9,34 @@ fn sum_of(falses: u32, a: u32, b: u32) -> u64
     requires { 0 < falses }
     ensures { result ≡ b + (falses - 1) * a }
 {
-    wide(b) + wide(falses - 1) * wide(a)
+    u64::from(b) + u64::from(falses - 1) * u64::from(a)
 }
 
 // There are no ticks.
+#[tactic(auto, unfolding(lists::specs::Tests::both))]
 fn no_span(earliest: u32, latest: u32, sum: u64) -> bool
     ensures { result ≡ no_span earliest latest sum }
 {
-    if earliest != 0 {
-        return false;
-    }
-    if latest != 0 {
-        return false;
-    }
-    sum == 0
+    earliest == 0 && latest == 0 && sum == 0
 }
 
 // So many ticks can have this earliest and latest one and this sum.
+#[tactic(auto, unfolding(lists::specs::Tests::both))]
 fn span_ok(falses: u32, earliest: u32, latest: u32, sum: u64) -> bool
     requires { 0 < falses }
     ensures { result ≡ span_ok falses earliest latest sum }
 {
-    if latest < earliest {
-        return false;
-    }
-    if sum < sum_of(falses, earliest, latest) {
-        return false;
-    }
-    sum <= sum_of(falses, latest, earliest)
+    earliest <= latest
+        && sum_of(falses, earliest, latest) <= sum
+        && sum <= sum_of(falses, latest, earliest)
 }
 
+#[tactic(auto, unfolding(lists::specs::Tests::both, lists::specs::Tests::pick, reports::specs::Bytes::row_agrees))]
 pub fn agrees(row: Row) -> bool
     ensures { result ≡ row_agrees row }
 {
-    if wide(row.runs) != wide(row.falses) + wide(row.trues) + wide(row.pendings) {
+    let told = u64::from(row.falses) + u64::from(row.trues) + u64::from(row.pendings);
+    if u64::from(row.runs) != told {
         return false;
     }
     if row.falses == 0 {

@@ -1,7 +1,7 @@
 // A row of a report, read from its bytes, put there, and added to another; and whether its numbers agree.
 #![tactic(auto)]
 
-ghost use Rattle.std.specs.Prelude.{◌≡◌, ◌++◌, ◌+◌, ◌<◌, ◌≤◌, min, max, length, take, drop, eqb};
+ghost use Rattle.std.specs.Prelude.{◌≡◌, ◌++◌, ◌+◌, ◌≤◌, length, take, drop, eqb};
 ghost use Rattle.lists.specs.Tests.{pick};
 ghost use Rattle.reports.specs.Report.{added};
 ghost use Rattle.reports.specs.Bytes.{row_length, row_at, row_bytes};
@@ -11,14 +11,8 @@ use reports::Row;
 
 pub mod agreeing;
 
-// A number of a row among those of 64 bits.
-pub fn wide(x: u32) -> u64
-    ensures { (result ≡ x) × (result < 4294967296) }
-{
-    x as u64
-}
-
 // The row in the bytes at `at`.
+#[tactic(auto, unfolding(reports::specs::Bytes::row_at))]
 pub fn row_at(s: &[u8], at: usize) -> Row
     requires { at + row_length ≤ length s.now }
     ensures { result ≡ row_at s.now at }
@@ -49,19 +43,8 @@ pub fn put_row(s: &mut [u8], at: usize, row: Row)
 }
 
 // ---- two rows together
-pub fn lower(a: u32, b: u32) -> u32
-    ensures { result ≡ min a b }
-{
-    if a < b { a } else { b }
-}
-
-pub fn higher(a: u32, b: u32) -> u32
-    ensures { result ≡ max a b }
-{
-    if a < b { b } else { a }
-}
-
 // Of a, which stands for m ticks, and b, which stands for n, the one that is picked; where one stands for none it is the other.
+#[tactic(auto, unfolding(lists::specs::Tests::pick))]
 fn of_both(m: u32, a: u32, n: u32, b: u32, picked: u32) -> u32
     ensures { result ≡ pick (eqb m 0) b (pick (eqb n 0) a picked) }
 {
@@ -75,6 +58,7 @@ fn of_both(m: u32, a: u32, n: u32, b: u32, picked: u32) -> u32
 }
 
 // What is said of a rule in two reports, as one row.
+#[tactic(auto, unfolding(reports::specs::Report::added, reports::specs::Report::of_both))]
 pub fn plus(a: Row, b: Row) -> Row
     requires { RowsFit a b }
     ensures { result ≡ added a b }
@@ -89,14 +73,14 @@ pub fn plus(a: Row, b: Row) -> Row
             a.earliest,
             b.falses,
             b.earliest,
-            lower(a.earliest, b.earliest),
+            a.earliest.min(b.earliest),
         ),
         latest: of_both(
             a.falses,
             a.latest,
             b.falses,
             b.latest,
-            higher(a.latest, b.latest),
+            a.latest.max(b.latest),
         ),
         sum: a.sum + b.sum,
     }

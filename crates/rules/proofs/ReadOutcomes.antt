@@ -1,5 +1,6 @@
 -- What `read` answers and leaves by the check that decides, one law for each outcome, over plain lists, in the order of the checks;
 -- what an accepted call's checks told (`read-passed`), and what it leaves (`read-rule`). Assumes nothing.
+use Rattle.std.specs.Prelude.{Ok, Err}
 use mathlib.Core.Path.{◌≡◌, sym, ap, ◌∙◌}
 use mathlib.Core.Bool.{true, false}
 use mathlib.Core.List.{List, [], ◌∷◌}
@@ -17,7 +18,6 @@ use Rattle.answers.proofs.Answers.{left-refused, order-passed}
 use Rattle.ltl.specs.Decode.{is_rule}
 use Rattle.masks.specs.Masks.{masks_rule}
 use Rattle.rules.specs.declared.RuleCounts.{RuleCounts}
-use Rattle.rules.specs.declared.ReadAnswer.TheVariants.{Refused, Rule}
 use Rattle.rules.specs.RuleFile.{version, counts_ok, version_in_file, boards_in_file, propositions_in_file, nodes_in_file, masks_in_file, formula_in_file}
 use Rattle.rules.specs.Read.{read_lengths_ok, offsets_ok, read_says, Reads}
 use Rattle.rules.specs.Head.{HeadPassed}
@@ -45,18 +45,18 @@ module _ (file : List ℕ) (m f : ℕ) where
 
 -- ---- refusals
 module _ (file masks formula : List ℕ) where
-  pub read-refused : (why : Refusal) → refused (number_of why) ≡ read_says file (length masks) (length formula) → Reads file masks formula masks formula (Refused why)
+  pub read-refused : (why : Refusal) → refused (number_of why) ≡ read_says file (length masks) (length formula) → Reads file masks formula masks formula (Err why)
   read-refused why e =
       let leaves : (x y : List ℕ) → y ≡ left (read_says file (length masks) (length formula)) x y = λ x y. sym (ap (λ (s : Said). left s x y) (sym e) ∙ left-refused why x y) in
       record { says = e; leaves-masks = leaves _ masks; leaves-formula = leaves _ formula }
 
   module _ {c : RuleCounts} (h : HeadPassed file (length masks) (length formula) c) where
-    pub read-masks : masks_rule (propositions_in_file file) (masks_in_file file) ≡ false → Reads file masks formula masks formula (Refused Masks)
+    pub read-masks : masks_rule (propositions_in_file file) (masks_in_file file) ≡ false → Reads file masks formula masks formula (Err Masks)
     unfolding read_says in_order pick
     read-masks e = read-refused Masks (rw (h.lengths, h.version, h.counts, h.offsets, e))
 
     module _ (o₅ : masks_rule (propositions_in_file file) (masks_in_file file) ≡ true) where
-      pub read-formula : is_rule (propositions_in_file file) (formula_in_file file) ≡ false → Reads file masks formula masks formula (Refused Formula)
+      pub read-formula : is_rule (propositions_in_file file) (formula_in_file file) ≡ false → Reads file masks formula masks formula (Err Formula)
       unfolding read_says in_order pick
       read-formula e = read-refused Formula (rw (h.lengths, h.version, h.counts, h.offsets, o₅, e))
 
@@ -82,7 +82,7 @@ read_says-rule file m f o = rw (o.lengths, o.version, o.counts, o.offsets, o.mas
 pub read-rule : (file masks formula : List ℕ) → ReadPassed file (length masks) (length formula) → (c : RuleCounts) (masks' formula' : List ℕ)
     → c.boards ≡ boards_in_file file → c.propositions ≡ propositions_in_file file → c.nodes ≡ nodes_in_file file
     → masks' ≡ padded boards_most (masks_in_file file) → formula' ≡ padded rule_nodes_most (formula_in_file file)
-    → Reads file masks formula masks' formula' (Rule c)
+    → Reads file masks formula masks' formula' (Ok c)
 unfolding left pick
 read-rule file masks formula o c masks' formula' b p n m f =
     let e = read_says-rule file (length masks) (length formula) o in

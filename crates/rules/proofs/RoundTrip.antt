@@ -1,5 +1,7 @@
 -- Reading and writing together, as the promises `Reads` and `Writes` say it. `written_read`: a file that was written is read back as
 -- the rule that it was written from. `read-written`: a rule that was read is written back as the file's bytes. Assumes nothing.
+use Rattle.std.specs.Prelude.{Result, Ok, Err}
+use Rattle.answers.specs.declared.Refusal.{Refusal}
 use mathlib.Core.Path.{◌≡◌, refl, sym, ap, ap₂, ◌∙◌, subst}
 use mathlib.Core.Bool.{true}
 use mathlib.Core.List.{List, ◌++◌, append_assoc}
@@ -19,10 +21,6 @@ use Rattle.masks.specs.Masks.{masks_rule}
 use Rattle.le.specs.Le.{le_at}
 use Rattle.le.proofs.Laws.{Bytes}
 use Rattle.rules.specs.declared.RuleCounts.{RuleCounts}
-use Rattle.rules.specs.declared.ReadAnswer.{ReadAnswer}
-use Rattle.rules.specs.declared.ReadAnswer.TheVariants.{Rule}
-use Rattle.rules.specs.declared.WriteAnswer.{WriteAnswer}
-use Rattle.rules.specs.declared.WriteAnswer.TheVariants.{Written}
 use Rattle.rules.specs.RuleFile.{masks_at, file_formula_at, file_most, file_header, mask_bytes, file_of, counts_ok, total_of, boards_in_file, propositions_in_file, nodes_in_file, mask_in_file, masks_in_file, formula_in_file}
 use Rattle.rules.specs.Read.{read_lengths_ok, offsets_ok, said_read, Reads}
 use Rattle.rules.specs.Write.{said_write, Writes}
@@ -74,15 +72,15 @@ module _ (masks : List ℕ) (p : ℕ) (formula : List ℕ) (words : (i : ℕ) �
       }
 
 pub written_read : (masks : List ℕ) (p : ℕ) (formula file file' : List ℕ) (n : ℕ) → ((i : ℕ) → get_or masks i 0 < 2 ^ 64)
-    → Writes masks p formula file file' (Written n)
-    → (m f m' f' : List ℕ) (answer : ReadAnswer) → length m ≡ boards_most → length f ≡ rule_nodes_most → Reads (take n file') m f m' f' answer
-    → (answer ≡ Rule (record { boards = length masks; propositions = p; nodes = length formula })) × (m' ≡ padded boards_most masks) × (f' ≡ padded rule_nodes_most formula)
+    → Writes masks p formula file file' (Ok n)
+    → (m f m' f' : List ℕ) (answer : Result RuleCounts Refusal) → length m ≡ boards_most → length f ≡ rule_nodes_most → Reads (take n file') m f m' f' answer
+    → (answer ≡ Ok (record { boards = length masks; propositions = p; nodes = length formula })) × (m' ≡ padded boards_most masks) × (f' ≡ padded rule_nodes_most formula)
 written_read masks p formula file file' n words w m f m' f' answer em ef r =
     let q = write-passed masks p formula (length file) (sym (ap (λ (s : Said). s.number) w.says)) in
     let F = file_of masks p formula in
-    let d = writes-determined masks p formula file file' (padded file_most F) (Written n) _ w
+    let d = writes-determined masks p formula file file' (padded file_most F) (Ok n) _ w
     (write-written masks p formula file q (total_of (length masks) (length formula)) (padded file_most F) refl refl) in
-    let total : n ≡ total_of (length masks) (length formula) = ap (λ (a : WriteAnswer). get_or (said_write a).values 0 0) d.0 in
+    let total : n ≡ total_of (length masks) (length formula) = ap (λ (a : Result ℕ Refusal). get_or (said_write a).values 0 0) d.0 in
     let whole : take n file' ≡ F = ap₂ take total d.1 ∙ take_at F (replicate (file_most - length F) 0) _ (file_of-length masks p formula) in
     let c = counts-passed _ _ _ q.counts in
     let o = file-passed masks p formula words c q.rule q.text q.counts in
@@ -133,10 +131,10 @@ module _ (file m f : List ℕ) (bytes : Bytes file) (o : ReadPassed file (length
       let t = offsets-passed file o.offsets in
       omega (arith, listed-length (mask_in_file file) (boards_in_file file), formula-length)
 
-pub read-written : (file m f m' f' : List ℕ) (c : RuleCounts) → Bytes file → Reads file m f m' f' (Rule c)
-    → (out out' : List ℕ) (answer : WriteAnswer) → length out ≡ file_most
+pub read-written : (file m f m' f' : List ℕ) (c : RuleCounts) → Bytes file → Reads file m f m' f' (Ok c)
+    → (out out' : List ℕ) (answer : Result ℕ Refusal) → length out ≡ file_most
     → Writes (take c.boards m') c.propositions (take c.nodes f') out out' answer
-    → (answer ≡ Written (length file)) × (take (length file) out' ≡ file)
+    → (answer ≡ Ok (length file)) × (take (length file) out' ≡ file)
 read-written file m f m' f' c bytes r out out' answer room w =
     let o = read-passed file (length m) (length f) (sym (ap (λ (s : Said). s.number) r.says)) in
     let ms = masks_in_file file in
@@ -144,9 +142,9 @@ read-written file m f m' f' c bytes r out out' answer room w =
     let fs = formula_in_file file in
     let fl = formula-length file m f bytes o in
     let ml = listed-length (mask_in_file file) (boards_in_file file) in
-    let d = reads-determined file m f m' f' (padded boards_most ms) (padded rule_nodes_most fs) (Rule c) _ r
+    let d = reads-determined file m f m' f' (padded boards_most ms) (padded rule_nodes_most fs) (Ok c) _ r
     (read-rule file m f o (record { boards = boards_in_file file; propositions = p; nodes = nodes_in_file file }) (padded boards_most ms) (padded rule_nodes_most fs) refl refl refl refl refl) in
-    let v = ap (λ (a : ReadAnswer). (said_read a).values) d.0 in
+    let v = ap (λ (a : Result RuleCounts Refusal). (said_read a).values) d.0 in
     let eb : c.boards ≡ boards_in_file file = ap (λ (l : List ℕ). get_or l 0 0) v in
     let ep : c.propositions ≡ p = ap (λ (l : List ℕ). get_or l 1 0) v in
     let en : c.nodes ≡ nodes_in_file file = ap (λ (l : List ℕ). get_or l 2 0) v in
@@ -160,6 +158,6 @@ read-written file m f m' f' c bytes r out out' answer room w =
     let whole = read-file file m f bytes o in
     let e = writes-determined ms p fs out out' (padded file_most F) answer _ w₃
     (write-written ms p fs out (record { space = eq-eqb _ _ room; counts = counts; rule = o.masks; text = o.formula }) (total_of (length ms) (length fs)) (padded file_most F) refl refl) in (
-      e.0 ∙ ap Written (read-total file m f bytes o),
+      e.0 ∙ ap Ok (read-total file m f bytes o),
       ap (take (length file)) (e.1 ∙ ap (padded file_most) whole) ∙ take_at file (replicate (file_most - length file) 0) (length file) refl,
     )

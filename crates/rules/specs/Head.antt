@@ -1,9 +1,8 @@
 -- What a file's header alone decides: the first four checks of `read`. Assumes nothing: these are definitions.
-use Rattle.std.specs.Prelude.{◌≡◌, ℕ, true, List, eqb}
+use Rattle.answers.specs.declared.Refusal.{Refusal}
+use Rattle.std.specs.Prelude.{◌≡◌, ℕ, true, List, eqb, Result, Ok, Err}
 use Rattle.answers.specs.Said.{refused, number_of}
 use Rattle.rules.specs.declared.RuleCounts.{RuleCounts}
-use Rattle.rules.specs.declared.ReadAnswer.{ReadAnswer}
-use Rattle.rules.specs.declared.ReadAnswer.TheVariants.{Refused, Rule}
 use Rattle.rules.specs.RuleFile.{version, counts_ok, version_in_file, boards_in_file, propositions_in_file, nodes_in_file}
 use Rattle.rules.specs.Read.{read_lengths_ok, offsets_ok, read_says}
 
@@ -18,6 +17,6 @@ pub record HeadPassed (file : List ℕ) (masks_room formula_room : ℕ) (c : Rul
   pub nodes-are : c.nodes ≡ nodes_in_file file
 
 -- the refusal that `read` answers, or its counts
-abbrev pub HeadRead : List ℕ → ℕ → ℕ → ReadAnswer → Type 0
-HeadRead file masks_room formula_room (Refused why) = refused (number_of why) ≡ read_says file masks_room formula_room
-HeadRead file masks_room formula_room (Rule c) = HeadPassed file masks_room formula_room c
+abbrev pub HeadRead : List ℕ → ℕ → ℕ → Result RuleCounts Refusal → Type 0
+HeadRead file masks_room formula_room (Err why) = refused (number_of why) ≡ read_says file masks_room formula_room
+HeadRead file masks_room formula_room (Ok c) = HeadPassed file masks_room formula_room c

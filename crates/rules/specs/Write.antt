@@ -1,11 +1,10 @@
 -- Writing a rule file: the answer and the lent buffer. Assumes nothing: these are definitions.
-use Rattle.std.specs.Prelude.{◌≡◌, ℕ, List, [], ◌∷◌, length, eqb}
+use Rattle.answers.specs.declared.Refusal.{Refusal}
+use Rattle.std.specs.Prelude.{◌≡◌, ℕ, List, [], ◌∷◌, length, eqb, Result, Ok, Err}
 use Rattle.lists.specs.Runs.{padded}
 use Rattle.answers.specs.Said.{Said, accepted, refused, left, number_of, check, in_order}
 use Rattle.ltl.specs.Decode.{is_rule}
 use Rattle.masks.specs.Masks.{masks_rule}
-use Rattle.rules.specs.declared.WriteAnswer.{WriteAnswer}
-use Rattle.rules.specs.declared.WriteAnswer.TheVariants.{Refused, Written}
 use Rattle.rules.specs.RuleFile.{file_most, total_of, counts_ok, file_of}
 
 unfoldable pub write_says : List ℕ → ℕ → List ℕ → ℕ → Said
@@ -19,11 +18,11 @@ write_says masks p formula room =
     (accepted (total_of (length masks) (length formula) ∷ []))
 
 -- the enum's cases by number and values
-abbrev pub said_write : WriteAnswer → Said
-said_write (Refused why) = refused (number_of why)
-said_write (Written n) = accepted (n ∷ [])
+abbrev pub said_write : Result ℕ Refusal → Said
+said_write (Err why) = refused (number_of why)
+said_write (Ok n) = accepted (n ∷ [])
 
 -- the promise: the answer, and the lent output, zero past the file
-pub record Writes (masks : List ℕ) (p : ℕ) (formula file file' : List ℕ) (answer : WriteAnswer) : Type 0 where
+pub record Writes (masks : List ℕ) (p : ℕ) (formula file file' : List ℕ) (answer : Result ℕ Refusal) : Type 0 where
   pub says : said_write answer ≡ write_says masks p formula (length file)
   pub leaves : file' ≡ left (write_says masks p formula (length file)) (padded file_most (file_of masks p formula)) file

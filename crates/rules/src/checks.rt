@@ -8,7 +8,7 @@ ghost use Rattle.rules.specs.RuleFile.{masks_at, file_formula_at, counts_ok, boa
 ghost use Rattle.rules.specs.Read.{read_lengths_ok, offsets_ok};
 ghost use Rattle.rules.specs.Head.{HeadRead};
 
-use crate::{MASKS_AT, ReadAnswer, RuleCounts, TOTAL_AT, VERSION};
+use crate::{MASKS_AT, RuleCounts, TOTAL_AT, VERSION};
 use answers::Refusal;
 use limits::{BOARDS_MOST, PROPOSITIONS_MOST, RULE_NODES_MOST};
 
@@ -65,25 +65,25 @@ pub fn offsets_ok(file: &[u8], b: usize, n: usize) -> bool
 }
 
 // The header of a file: its counts, or the refusal of the first of these four checks that fails.
-pub fn head_of(file: &[u8], masks: usize, formula: usize) -> ReadAnswer
+pub fn head_of(file: &[u8], masks: usize, formula: usize) -> Result<RuleCounts, Refusal>
     ensures { HeadRead file.now masks formula result }
 {
     if !lengths_ok(file, masks, formula) {
-        return ReadAnswer::Refused(Refusal::Length);
+        return Err(Refusal::Length);
     }
     if le::u16_at(file, 0) != VERSION {
-        return ReadAnswer::Refused(Refusal::Version);
+        return Err(Refusal::Version);
     }
     let b = le::u16_at(file, 2) as usize;
     let p = le::u16_at(file, 4) as u64;
     let n = le::u16_at(file, 6) as usize;
     if !counts_ok(b, p, n) {
-        return ReadAnswer::Refused(Refusal::Range);
+        return Err(Refusal::Range);
     }
     if !offsets_ok(file, b, n) {
-        return ReadAnswer::Refused(Refusal::Offset);
+        return Err(Refusal::Offset);
     }
-    ReadAnswer::Rule(RuleCounts {
+    Ok(RuleCounts {
         boards: b as u64,
         propositions: p,
         nodes: n as u64,

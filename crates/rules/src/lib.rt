@@ -4,8 +4,6 @@
 
 pub mod checks;
 
-use answers::Refusal;
-
 pub const VERSION: u16 = 1;
 
 // The header's length: where the masks begin.
@@ -22,16 +20,4 @@ pub struct RuleCounts {
     pub boards: u64,
     pub propositions: u64,
     pub nodes: u64,
-}
-
-#[derive(Clone, Copy)]
-pub enum ReadAnswer {
-    Refused(Refusal),
-    Rule(RuleCounts),
-}
-
-#[derive(Clone, Copy)]
-pub enum WriteAnswer {
-    Refused(Refusal),
-    Written(usize),
 }

@@ -6,14 +6,13 @@
 ghost use Rattle.std.specs.Prelude.{◌≡◌, ◌≤◌, length};
 ghost use Rattle.programs.specs.Hand.{InHand};
 
-use answers::Outcome;
-use capturing::CaptureAnswer;
-use programs::input::{Came, Hand, PIECE};
-use programs::turns::{NextEvent, Turned};
+use answers::Refusal;
+use capturing::Captured;
+use programs::input::{Hand, PIECE};
+use programs::turns::Turned;
 use programs::{output, turns};
 use state::STATE_ROOM;
 use std::io::{Read, Write};
-use telling::AskAnswer;
 
 // A tick a turn. The state counts ticks in 32 bits, so the last of these ticks is refused at the latest.
 const TURNS: u64 = 4294967296;
@@ -23,11 +22,11 @@ const TURNS: u64 = 4294967296;
 fn report<W: Write>(out: &mut W, state: &[u8]) -> usize {
     let answer = asking::ask(state);
     match answer {
-        AskAnswer::Refused(refusal) => {
+        Err(refusal) => {
             output::refused(out, refusal);
             0
         }
-        AskAnswer::Told(standing) => {
+        Ok(standing) => {
             let verdict = standing.verdict;
             let written = output::standing(
                 out,
@@ -42,24 +41,28 @@ fn report<W: Write>(out: &mut W, state: &[u8]) -> usize {
 }
 
 // Reports the state that an accepted call has left; none waits after a refusal.
-fn report_after<W: Write>(out: &mut W, outcome: Outcome, state: &[u8]) -> usize {
+fn report_after<W: Write>(out: &mut W, outcome: Result<(), Refusal>, state: &[u8]) -> usize {
     match outcome {
-        Outcome::Refused(refusal) => {
+        Err(refusal) => {
             output::refused(out, refusal);
             0
         }
-        Outcome::Done => report(out, state),
+        Ok(()) => report(out, state),
     }
 }
 
 // Reports what a capture of one event has come to.
-fn report_captured<W: Write>(out: &mut W, answer: CaptureAnswer, state: &[u8]) -> usize {
+fn report_captured<W: Write>(
+    out: &mut W,
+    answer: Result<Captured, Refusal>,
+    state: &[u8],
+) -> usize {
     match answer {
-        CaptureAnswer::Refused(refusal) => {
+        Err(refusal) => {
             output::refused(out, refusal);
             0
         }
-        CaptureAnswer::Captured(captured) => {
+        Ok(captured) => {
             let stop = captured.stop;
             report_after(out, stop, state)
         }
@@ -78,8 +81,7 @@ fn turn<I: Read, W: Write>(
     requires { InHand (length piece.old) hand × (8 ≤ length piece.old) }
     ensures { InHand (length piece.old) result.hand }
 {
-    let next = turns::event(input, out, piece, hand);
-    let NextEvent::Event(taking) = next else {
+    let Some(taking) = turns::event(input, out, piece, hand) else {
         return Turned::over();
     };
     let rest = taking.rest;
@@ -124,8 +126,7 @@ fn watch<I: Read, W: Write>(
 )
     requires { length piece.old ≡ PIECE }
 {
-    let came = turns::file(input, out, piece);
-    let Came::Bytes(behind) = came else {
+    let Some(behind) = turns::file(input, out, piece) else {
         return;
     };
     let length = behind.from;

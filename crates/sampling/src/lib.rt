@@ -3,16 +3,16 @@
 
 ghost use Rattle.taking.specs.Sample.{Samples};
 
-use answers::{Outcome, Refusal};
+use answers::Refusal;
 use opening::Opening;
 
-pub fn sample(state: &mut [u8], board: u64, bits: u64) -> Outcome
+pub fn sample(state: &mut [u8], board: u64, bits: u64) -> Result<(), Refusal>
     ensures { Samples state.old board bits state.new result }
 {
     let opened = opening::open(state);
     match opened {
-        Opening::Broken => Outcome::Refused(Refusal::State),
-        Opening::Finished(_) => Outcome::Refused(Refusal::Finished),
+        Opening::Broken => Err(Refusal::State),
+        Opening::Finished(_) => Err(Refusal::Finished),
         Opening::Going(c) => taking::sample_going(state, c, board, bits),
     }
 }

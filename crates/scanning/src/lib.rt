@@ -21,7 +21,8 @@ pub struct Allowed {
     pub temporal: bool,
 }
 
-// Where the pass stands: the operands owed outside and inside, and the slots whose place holders were seen.
+// Where the pass stands: the operands owed outside and inside, and the slots whose place holders were seen. Behind a node that may not
+// stand there it stands nowhere.
 #[derive(Clone, Copy)]
 pub struct Pass {
     pub outer: usize,
@@ -29,116 +30,91 @@ pub struct Pass {
     pub seen: SlotSet,
 }
 
-// Where the pass stands behind a node, or that the node may not stand there.
-#[derive(Clone, Copy)]
-pub enum Passed {
-    On(Pass),
-    Off,
-}
-
-// The slots whose place holders were seen up to a formula's end, or that the formula fails.
-#[derive(Clone, Copy)]
-pub enum Held {
-    Slots(SlotSet),
-    Wrong,
-}
-
 // Outside, behind a node without operands.
-fn leaf_outside(a: Leaf, allowed: Allowed, others: usize, seen: SlotSet) -> Passed
+#[tactic(auto, unfolding(lists::specs::Tests::pick, lists::specs::Tests::both, lists::specs::Tests::bit))]
+fn leaf_outside(a: Leaf, allowed: Allowed, others: usize, seen: SlotSet) -> Option<Pass>
     requires { Fitted allowed }
     ensures { result ≡ leaf_outside allowed a others seen }
 {
+    let on = Pass {
+        outer: others,
+        inner: 0,
+        seen,
+    };
     match a {
-        Leaf::Const(_) => Passed::On(Pass {
-            outer: others,
-            inner: 0,
-            seen: seen,
-        }),
+        Leaf::Const(_) => Some(on),
         Leaf::Prop(i) => {
-            if allowed.propositions <= i as u64 {
-                return Passed::Off;
+            if allowed.propositions <= u64::from(i) || (allowed.own >> i) % 2 != 1 {
+                return None;
             }
-            if (allowed.own >> i) % 2 != 1 {
-                return Passed::Off;
-            }
-            Passed::On(Pass {
-                outer: others,
-                inner: 0,
-                seen: seen,
-            })
+            Some(on)
         }
         Leaf::Hold(m) => {
-            if allowed.slots <= m as u64 {
-                return Passed::Off;
+            if allowed.slots <= u64::from(m) {
+                return None;
             }
-            if m as u64 <= allowed.slot {
-                return Passed::Off;
+            if u64::from(m) <= allowed.slot {
+                return None;
             }
-            if !has_slot(allowed.holders, m) {
-                return Passed::Off;
+            if !has_slot(allowed.holders, m) || has_slot(seen, m) {
+                return None;
             }
-            if has_slot(seen, m) {
-                return Passed::Off;
-            }
-            Passed::On(Pass {
-                outer: others,
-                inner: 0,
+            Some(Pass {
                 seen: with_slot(seen, m),
+                ..on
             })
         }
     }
 }
 
 // Outside, behind a node with one operand.
-fn unary_outside(o: Unary, temporal: bool, others: usize, seen: SlotSet) -> Passed
+#[tactic(auto, unfolding(lists::specs::Tests::pick))]
+fn unary_outside(o: Unary, temporal: bool, others: usize, seen: SlotSet) -> Option<Pass>
     requires { others + 2 < 2 ^ 64 }
     ensures { result ≡ unary_outside temporal o others seen }
 {
     let within = Pass {
         outer: others,
         inner: 1,
-        seen: seen,
+        seen,
     };
     match o {
-        Unary::Not => Passed::On(Pass {
+        Unary::Not => Some(Pass {
             outer: others + 1,
             inner: 0,
-            seen: seen,
+            seen,
         }),
-        Unary::Next => Passed::On(within),
-        Unary::Ever(_) => if temporal {
-            Passed::On(within)
-        } else {
-            Passed::Off
-        },
+        Unary::Next => Some(within),
+        Unary::Ever(_) => if temporal { Some(within) } else { None },
     }
 }
 
 // Outside, behind a node with two operands.
-fn binary_outside(o: Binary, temporal: bool, others: usize, seen: SlotSet) -> Passed
+#[tactic(auto, unfolding(lists::specs::Tests::pick))]
+fn binary_outside(o: Binary, temporal: bool, others: usize, seen: SlotSet) -> Option<Pass>
     requires { others + 2 < 2 ^ 64 }
     ensures { result ≡ binary_outside temporal o others seen }
 {
     match o {
-        Binary::Joined(_) => Passed::On(Pass {
+        Binary::Joined(_) => Some(Pass {
             outer: others + 2,
             inner: 0,
-            seen: seen,
+            seen,
         }),
         Binary::Until => if temporal {
-            Passed::On(Pass {
+            Some(Pass {
                 outer: others,
                 inner: 2,
-                seen: seen,
+                seen,
             })
         } else {
-            Passed::Off
+            None
         },
     }
 }
 
 // Outside, with `others` operands owed beside this node.
-fn outside(k: Kind, allowed: Allowed, others: usize, seen: SlotSet) -> Passed
+fn outside(k: Kind, allowed: Allowed, others: usize, seen: SlotSet) -> Option<Pass>
     requires { Fitted allowed × (others + 2 < 2 ^ 64) }
     ensures { result ≡ outside_after allowed k others seen }
 {
@@ -146,33 +122,35 @@ fn outside(k: Kind, allowed: Allowed, others: usize, seen: SlotSet) -> Passed
         Kind::Zero(a) => leaf_outside(a, allowed, others, seen),
         Kind::One(o) => unary_outside(o, allowed.temporal, others, seen),
         Kind::Two(o) => binary_outside(o, allowed.temporal, others, seen),
-        Kind::NoCode => Passed::Off,
+        Kind::NoCode => None,
     }
 }
 
 // Inside, a rule's nodes may stand: no place holder.
-fn inside(k: Kind, p: u64, others: usize, outer: usize, seen: SlotSet) -> Passed
+#[tactic(auto, unfolding(lists::specs::Tests::pick))]
+fn inside(k: Kind, p: u64, others: usize, outer: usize, seen: SlotSet) -> Option<Pass>
     requires { others + 2 < 2 ^ 64 }
     ensures { result ≡ inside_after p k others outer seen }
 {
     if owing::stands(k, p, 0) {
-        return Passed::On(Pass {
-            outer: outer,
+        return Some(Pass {
+            outer,
             inner: others + Kind::operands(k),
-            seen: seen,
+            seen,
         });
     }
-    Passed::Off
+    None
 }
 
 // One node further.
-fn after(b: u8, allowed: Allowed, at: Pass) -> Passed
+#[tactic(auto, unfolding(lists::specs::Tests::pick, crate::specs::OnePass::pass_after))]
+fn after(b: u8, allowed: Allowed, at: Pass) -> Option<Pass>
     requires { Fitted allowed × (at.outer + at.inner + 2 < 2 ^ 64) }
     ensures { result ≡ pass_after allowed (kind_of b) at }
 {
     if 0 < at.inner {
         return inside(
-            Kind::of(b),
+            Kind::from(b),
             allowed.propositions,
             at.inner - 1,
             at.outer,
@@ -180,36 +158,27 @@ fn after(b: u8, allowed: Allowed, at: Pass) -> Passed
         );
     }
     if at.outer < 1 {
-        return Passed::Off;
+        return None;
     }
-    outside(Kind::of(b), allowed, at.outer - 1, at.seen)
+    outside(Kind::from(b), allowed, at.outer - 1, at.seen)
 }
 
 // The pass over a slot's bytes, with the place holders that the slots before it have.
-pub fn pass_over(s: &[u8], allowed: Allowed, seen: SlotSet) -> Held
+#[tactic(auto, using(crate::proofs::Owing::turns), unfolding(lists::specs::Tests::pick, crate::specs::OnePass::ended))]
+pub fn pass_over(s: &[u8], allowed: Allowed, seen: SlotSet) -> Option<SlotSet>
     requires { Fitted allowed }
     ensures { result ≡ pass allowed s.now (record { outer = 1; inner = 0; seen = seen }) }
 {
     let mut at = Pass {
         outer: 1,
         inner: 0,
-        seen: seen,
+        seen,
     };
-    let mut i: usize = 0;
-    while i < s.len() {
-        let next = after(s[i], allowed, at);
-        let Passed::On(x) = next else {
-            return Held::Wrong;
-        };
-        at = x;
-        i += 1;
+    for b in s {
+        at = after(*b, allowed, at)?;
     }
-    if 0 < at.outer {
-        return Held::Wrong;
+    if 0 < at.outer || 0 < at.inner {
+        return None;
     }
-    if 0 < at.inner {
-        return Held::Wrong;
-    }
-    let held = at.seen;
-    Held::Slots(held)
+    Some(at.seen)
 }

@@ -1,5 +1,5 @@
 -- The scores of one board, stored from the first board on: `alone_to own b` is what the loop has after b turns. Where `own` is no
--- board nothing is scored. And the choice by them: that board. Assumes nothing.
+-- board nothing is scored. And the choice by them: that board (`alone-board`, `alone-stays`, `picked-alone`). Assumes nothing.
 use mathlib.Core.Path.{◌≡◌, refl, sym, ap, ◌∙◌}
 use mathlib.Core.Bool.{Bool, true, false}
 use mathlib.Core.List.{List, [], ◌∷◌}
@@ -15,6 +15,7 @@ use Rattle.lists.specs.Tests.{pick}
 use Rattle.limits.specs.Limits.{boards_most}
 use Rattle.network.specs.Scores.{highest}
 use Rattle.lists.proofs.Stretches.{zeros-at}
+use Rattle.scores.specs.Choice.{code_of, picked_by}
 use Rattle.scores.specs.Scored.{none_scored, one_scored}
 use Rattle.scores.proofs.Padding.{highest-zeros}
 
@@ -72,3 +73,11 @@ alone-board own l = one-highest own 0 boards_most l ∙ ap some (omega arith)
 
 pub alone-stays : highest none 0 0 (one_scored boards_most) ≡ none
 alone-stays = highest-zeros none 0 0 boards_most
+
+-- as a number
+pub picked-alone : (own : ℕ) → own ≤ boards_most → own ≡ picked_by (one_scored own)
+picked-alone own l = go (ℕ_discrete own boards_most)
+  where
+    go : Dec (own ≡ boards_most) → own ≡ picked_by (one_scored own)
+    go (yes e) = rw e (sym (ap code_of alone-stays))
+    go (no n) = sym (ap code_of (alone-board own (omega arith)))

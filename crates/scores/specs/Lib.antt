@@ -2,3 +2,4 @@
 pub mod Scored
 pub mod Owned
 pub mod Tallies
+pub mod Choice

@@ -1,10 +1,8 @@
 -- Scores as the code holds them: a list of as many counts as there may be boards, added board by board, and the choice among them.
 -- Assumes nothing: these are definitions.
-use Rattle.std.specs.Prelude.{ℕ, ◌+◌, ◌<◌, List, [], ◌∷◌, replicate, set, get_or}
-use Rattle.std.proofs.Math.Option.{Option, none, some}
+use Rattle.std.specs.Prelude.{ℕ, ◌+◌, ◌<◌, List, [], ◌∷◌, replicate, set, get_or, Option, Some, None}
+use Rattle.std.proofs.Math.Option as math
 use Rattle.limits.specs.Limits.{boards_most}
-use Rattle.scores.specs.declared.BoardChoice.{BoardChoice}
-use Rattle.scores.specs.declared.BoardChoice.TheVariants.{Board, Stays}
 
 -- nothing is scored
 abbrev pub none_scored : List ℕ
@@ -28,6 +26,6 @@ abbrev pub Few : List ℕ → Type 0
 Few counts = (b : ℕ) → get_or counts b 0 < counts_below
 
 -- the board that a part is chosen for; none where it stays
-abbrev pub board_of : BoardChoice → Option ℕ
-board_of (Board b) = some b
-board_of Stays = none
+abbrev pub board_of : Option ℕ → math.Option ℕ
+board_of (Some b) = math.some b
+board_of None = math.none

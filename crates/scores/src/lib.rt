@@ -2,13 +2,14 @@
 // proposition's board is looked up in a table of owners, which `owners` fills from the boards' masks.
 #![tactic(auto)]
 
-ghost use Rattle.std.specs.Prelude.{◌≡◌, ℕ, ◌+◌, ◌<◌, ◌≤◌, length, get_or};
+ghost use Rattle.std.specs.Prelude.{◌≡◌, ℕ, ◌+◌, ◌<◌, ◌≤◌, length, get_or, IfSome};
 ghost use Rattle.std.proofs.Math.Option.{none};
 ghost use Rattle.lists.specs.Tests.{pick, bit};
 ghost use Rattle.kinds.specs.Kinds.{leaf_coded};
 ghost use Rattle.limits.specs.Limits.{boards_most, propositions_most, nodes_room};
 ghost use Rattle.network.specs.Scores.{highest};
 ghost use Rattle.nodes.specs.Begins.{Begins};
+ghost use Rattle.scores.specs.Choice.{picked_by, stays_on};
 ghost use Rattle.scores.specs.Scored.{one_scored, added, counts_below, Few, board_of};
 ghost use Rattle.scores.specs.Owned.{Table, Owns, owner_of};
 ghost use Rattle.scores.specs.Tallies.{Tallies};
@@ -18,6 +19,9 @@ use limits::BOARDS_MOST;
 
 // Stands for a board where there is none.
 const NO_BOARD: u8 = 16;
+
+// The same of a choice: the part stays.
+pub const STAYS: u8 = NO_BOARD;
 
 // A key has room for so many boards beside the count; the last of them.
 const KEY_BOARDS: u32 = 16;
@@ -33,13 +37,6 @@ pub struct Scores {
     pub counts: [u32; BOARDS_MOST],
 }
 
-// The board that a part is chosen for, or that it stays where it is.
-#[derive(Clone, Copy)]
-pub enum BoardChoice {
-    Board(u8),
-    Stays,
-}
-
 impl Scores {
     // One occurrence, of a proposition of this board; nothing where it is no board. Every count is stored, not the board's alone: it
     // is read again at once, and several together.
@@ -49,12 +46,10 @@ impl Scores {
     {
         let own = board as usize;
         let mut counts = [0u32; BOARDS_MOST];
-        let mut b: usize = 0;
-        while b < BOARDS_MOST {
+        for b in 0..BOARDS_MOST {
             counts[b] = if b == own { 1 } else { 0 };
-            b += 1;
         }
-        Scores { counts: counts }
+        Scores { counts }
     }
 
     pub fn plus(self, other: Scores) -> Scores
@@ -63,10 +58,8 @@ impl Scores {
     {
         let mut sums = self.counts;
         let more = other.counts;
-        let mut b: usize = 0;
-        while b < BOARDS_MOST {
-            sums[b] = sums[b] + more[b];
-            b += 1;
+        for b in 0..BOARDS_MOST {
+            sums[b] += more[b];
         }
         Scores { counts: sums }
     }
@@ -74,25 +67,40 @@ impl Scores {
     // The highest score, the lowest board on a tie; a part whose scores are all 0 stays. A board's key is its count and behind it how
     // far the board is from the last one, so that the highest key tells both. The remainder changes no count: it tells the compiler
     // that a key has no highest bit, and four of them are then compared at once.
-    pub fn choice(self) -> BoardChoice
+    pub fn choice(self) -> Option<u8>
         requires { Few self.counts }
-        ensures { board_of result ≡ highest none 0 0 self.counts }
+        ensures is { board_of result ≡ highest none 0 0 self.counts }
+        ensures there { IfSome result (λ b. b < boards_most) }
     {
         let counts = self.counts;
         let mut most: u32 = 0;
-        let mut b: usize = 0;
-        while b < BOARDS_MOST {
+        for b in 0..BOARDS_MOST {
             let key = counts[b] % COUNTS_BELOW * KEY_BOARDS + (LAST_BOARD - b as u32);
             if most < key {
                 most = key;
             }
-            b += 1;
         }
         if most < KEY_BOARDS {
-            return BoardChoice::Stays;
+            return None;
         }
-        BoardChoice::Board((LAST_BOARD - most % KEY_BOARDS) as u8)
+        Some((LAST_BOARD - most % KEY_BOARDS) as u8)
     }
+
+    // The same as a number.
+    pub fn choice_or_stays(self) -> u8
+        requires { Few self.counts }
+        ensures { (result ≡ picked_by self.counts) × (result ≤ boards_most) }
+    {
+        self.choice().unwrap_or(STAYS)
+    }
+}
+
+// Whether a part of this choice stays in a slot on the board.
+#[tactic(auto, unfolding(crate::specs::Choice::stays_on, lists::specs::Tests::either))]
+pub fn stays_on(choice: u8, board: u8) -> bool
+    ensures { result ≡ stays_on choice board }
+{
+    choice == STAYS || choice == board
 }
 
 // How many bytes of a formula were read, and its scores.
@@ -119,7 +127,7 @@ pub fn tally(s: &[u8], owner: &[u8]) -> Tallied
     requires { Begins s.now × Table owner.now × (length s.now ≤ nodes_room) }
     ensures { Tallies owner.now s.now result.read result.scores.counts }
 {
-    let k = Kind::of(s[0]);
+    let k = Kind::from(s[0]);
     match k {
         Kind::Zero(a) => Tallied {
             read: 1,
@@ -130,7 +138,7 @@ pub fn tally(s: &[u8], owner: &[u8]) -> Tallied
             let scores = a.scores;
             Tallied {
                 read: 1 + a.read,
-                scores: scores,
+                scores,
             }
         }
         Kind::Two(_) => {
@@ -158,10 +166,11 @@ fn own(mask: u64, board: u8, owner: &mut [u8])
     ensures { (i : ℕ) → get_or owner.new i 0 ≡ pick (bit mask i) board (get_or owner.old i 0) }
 {
     let mut left = mask;
+    // A `while`: no index is counted, and a turn for each bit of the mask would be more turns.
     while left != 0 {
         let p = masks::lowest(left);
         owner[p as usize] = board;
-        left = left & (left - 1);
+        left &= left - 1;
     }
 }
 
@@ -170,9 +179,7 @@ pub fn owners(masks: &[u64], owner: &mut [u8])
     requires { (length masks.now ≤ boards_most) × Table owner.old }
     ensures { Owns masks.now owner.old owner.new }
 {
-    let mut board: usize = 0;
-    while board < masks.len() {
-        own(masks[board], board as u8, owner);
-        board += 1;
+    for (board, mask) in masks.iter().enumerate() {
+        own(*mask, board as u8, owner);
     }
 }

@@ -1,13 +1,12 @@
--- The pass over a slot's bytes sees what the slot sees: a held slot by its first byte (`answer-is`), turn by turn (`Scanned` and its
--- laws), and a whole slot (`sight-unsampled`, `sight-sampled`). Assumes nothing.
+-- The pass over a slot's bytes sees what the slot sees: a held slot by its first byte (`answer-is`), and a whole slot
+-- (`sight-unsampled`, `sight-sampled`). Assumes nothing.
+use Rattle.std.specs.Prelude.{Option, Some, None}
 use mathlib.Core.Path.{◌≡◌, refl, sym, ap, ◌∙◌}
 use mathlib.Core.Bool.{Bool, true, false}
 use mathlib.Core.List.{List, [], ◌∷◌, ◌++◌, append_assoc, append-nil}
-use Prim.Native.Nat.{ℕ, suc, ◌+◌, ◌-◌, ◌<◌, ◌≤◌}
-use native.Mathlib.Numerals.{add-one}
+use Prim.Native.Nat.{ℕ, ◌+◌, ◌-◌, ◌<◌, ◌≤◌}
 use native.Mathlib.Omega.{arith}
-use lib.ListN.{length, get_or, drop, drop_of_length-le}
-use lib.Seq.{drop-cons}
+use lib.ListN.{get_or}
 use lib.Dec.{eqb}
 use borrow.Author.Tests.{lt-ltb, le-ltb, eq-eqb, ne_eqb}
 use Rattle.kinds.proofs.Codes.{unary-low, binary-low}
@@ -27,8 +26,6 @@ use Rattle.verdicts.specs.Verdicts.{verdict_byte}
 use Rattle.verdicts.proofs.Firsts.{verdict-first, first_of}
 use Rattle.resolving.specs.declared.Seen.{Seen}
 use Rattle.resolving.specs.Settles.{event_alone}
-use Rattle.seeing.specs.declared.Sight.{Sight}
-use Rattle.seeing.specs.declared.Sight.TheVariants.{Waits, Sees}
 use Rattle.seeing.specs.Seeing.{answer_in, told, told_each, seen_by, sight_in, sight_after, go_on, sight_over}
 use Rattle.seeing.proofs.Telling.{each_append}
 
@@ -48,57 +45,38 @@ module _ (s : List ℕ) where
   unfolding sight_over
   over-cons b l x = refl
 
-  -- ---- one turn of the pass
-  module _ (p : List ℕ) (i : ℕ) (x : Seen) where
-    turn : i < length p → sight_over s (drop i p) x ≡ go_on (sight_after s (get_or p i 0) x) (λ y. sight_over s (drop (i + 1) p) y)
-    turn h =
-        ap (λ (l : List ℕ). sight_over s l x) (drop-cons p i 0 h) ∙ over-cons (get_or p i 0) (drop (suc i) p) x
-        ∙ ap (λ (j : ℕ). go_on (sight_after s (get_or p i 0) x) (λ y. sight_over s (drop j p) y)) (sym (add-one i))
-
-    end : length p ≤ i → sight_over s (drop i p) x ≡ Sees x
-    unfolding sight_over
-    end h = ap (λ (l : List ℕ). sight_over s l x) (drop_of_length-le p h)
-
   -- ---- behind one node
-  pub after-low : (b : ℕ) (x : Seen) → b < hold_code → sight_after s b x ≡ Sees x
+  after-low : (b : ℕ) (x : Seen) → b < hold_code → sight_after s b x ≡ Some x
   unfolding sight_after pick
   after-low b x h = rw (lt-ltb b hold_code h)
 
-  after-held : (b : ℕ) (x : Seen) → hold_code ≤ b → sight_after s b x ≡ pick (stepped (b - hold_code)) (Sees (told x (b - hold_code) (answer_in s (b - hold_code)))) Waits
+  after-held : (b : ℕ) (x : Seen) → hold_code ≤ b → sight_after s b x ≡ pick (stepped (b - hold_code)) (Some (told x (b - hold_code) (answer_in s (b - hold_code)))) None
   unfolding sight_after pick
   after-held b x h = rw (le-ltb b hold_code h)
 
-  pub after-waits : (b : ℕ) (x : Seen) → hold_code ≤ b → (stepped_in s (b - hold_code) ≡ 1 → ⊥) → sight_after s b x ≡ Waits
-  unfolding pick
-  after-waits b x h n = after-held b x h ∙ rw (ne_eqb (stepped_in s (b - hold_code)) 1 n)
-
-  pub after-sees : (b : ℕ) (x : Seen) → hold_code ≤ b → stepped_in s (b - hold_code) ≡ 1 → sight_after s b x ≡ Sees (told x (b - hold_code) (answer_in s (b - hold_code)))
-  unfolding pick
-  after-sees b x h e = after-held b x h ∙ rw (eq-eqb (stepped_in s (b - hold_code)) 1 e)
-
   over-low : (b : ℕ) (l : List ℕ) (x : Seen) → b < hold_code → sight_over s (b ∷ l) x ≡ sight_over s l x
-  over-low b l x h = over-cons b l x ∙ ap (λ (z : Sight). go_on z (λ y. sight_over s l y)) (after-low b x h)
+  over-low b l x h = over-cons b l x ∙ ap (λ (z : Option Seen). go_on z (λ y. sight_over s l y)) (after-low b x h)
 
-  over-held : (m : ℕ) (l : List ℕ) (x : Seen) → sight_over s ((hold_code + m) ∷ l) x ≡ pick (stepped m) (sight_over s l (told x m (answer_in s m))) Waits
+  over-held : (m : ℕ) (l : List ℕ) (x : Seen) → sight_over s ((hold_code + m) ∷ l) x ≡ pick (stepped m) (sight_over s l (told x m (answer_in s m))) None
   unfolding pick
   over-held m l x =
       let e : hold_code + m - hold_code ≡ m = omega arith in
-      over-cons (hold_code + m) l x ∙ ap (λ (z : Sight). go_on z (λ y. sight_over s l y)) (after-held (hold_code + m) x (omega arith)
-      ∙ ap (λ (n : ℕ). pick (stepped n) (Sees (told x n (answer_in s n))) Waits) e)
+      over-cons (hold_code + m) l x ∙ ap (λ (z : Option Seen). go_on z (λ y. sight_over s l y)) (after-held (hold_code + m) x (omega arith)
+      ∙ ap (λ (n : ℕ). pick (stepped n) (Some (told x n (answer_in s n))) None) e)
       ∙ go (stepped m)
     where
-      go : (b : Bool) → go_on (pick b (Sees (told x m (answer_in s m))) Waits) (λ y. sight_over s l y) ≡ pick b (sight_over s l (told x m (answer_in s m))) Waits
+      go : (b : Bool) → go_on (pick b (Some (told x m (answer_in s m))) None) (λ y. sight_over s l y) ≡ pick b (sight_over s l (told x m (answer_in s m))) None
       go true = refl
       go false = refl
 
   -- ---- a formula's bytes
-  pick-both : (a b : Bool) (y z : Sight) → pick a (pick b y z) z ≡ pick (both a b) y z
+  pick-both : (a b : Bool) (y z : Option Seen) → pick a (pick b y z) z ≡ pick (both a b) y z
   unfolding pick both
   pick-both true b y z = refl
   pick-both false b y z = refl
 
   over-formula : (f : Formula) (l : List ℕ) (x : Seen) → Coded f
-      → sight_over s (encode f ++ l) x ≡ pick (holds_only stepped f) (sight_over s l (told_each (answer_in s) (held_by f) x)) Waits
+      → sight_over s (encode f ++ l) x ≡ pick (holds_only stepped f) (sight_over s l (told_each (answer_in s) (held_by f) x)) None
   unfolding holds_only held_by pick
   over-formula (leaf (Const true)) l x w = over-low 1 l x (omega arith)
   over-formula (leaf (Const false)) l x w = over-low 0 l x (omega arith)
@@ -110,13 +88,13 @@ module _ (s : List ℕ) where
       over-low (binary_code o) ((encode f ++ encode g) ++ l) x (binary-low o)
       ∙ ap (λ (k : List ℕ). sight_over s k x) (append_assoc (encode f) (encode g) l)
       ∙ over-formula f (encode g ++ l) x w.0
-      ∙ ap (λ (z : Sight). pick (holds_only stepped f) z Waits) (over-formula g l y w.1)
-      ∙ pick-both (holds_only stepped f) (holds_only stepped g) (sight_over s l (told_each (answer_in s) (held_by g) y)) Waits
-      ∙ ap (λ (z : Seen). pick (both (holds_only stepped f) (holds_only stepped g)) (sight_over s l z) Waits) (each_append (answer_in s) (held_by f) (held_by g) x)
+      ∙ ap (λ (z : Option Seen). pick (holds_only stepped f) z None) (over-formula g l y w.1)
+      ∙ pick-both (holds_only stepped f) (holds_only stepped g) (sight_over s l (told_each (answer_in s) (held_by g) y)) None
+      ∙ ap (λ (z : Seen). pick (both (holds_only stepped f) (holds_only stepped g)) (sight_over s l z) None) (each_append (answer_in s) (held_by f) (held_by g) x)
 
   -- ---- a whole slot
   module _ (k : ℕ) where
-    pub sight-unsampled : (sampled_in s (board_of_in s k) ≡ 1 → ⊥) → Waits ≡ sight_in s k
+    pub sight-unsampled : (sampled_in s (board_of_in s k) ≡ 1 → ⊥) → None ≡ sight_in s k
     unfolding sight_in ready_in pick both
     sight-unsampled h = rw (ne_eqb (sampled_in s (board_of_in s k)) 1 h)
 
@@ -127,25 +105,4 @@ module _ (s : List ℕ) where
         let x = event_alone (sample_in s (board_of_in s k)) in
         ap (λ (l : List ℕ). sight_over s l x) (q.bytes ∙ sym (append-nil (encode f)))
         ∙ over-formula f [] x q.coded
-        ∙ ap (λ (b : Bool). pick (both b (holds_only stepped f)) (Sees (seen_by s k)) Waits) (sym (eq-eqb (sampled_in s (board_of_in s k)) 1 e))
-
--- ---- the loop of the pass: from i on it sees what all of it does
-pub record Scanned (s p : List ℕ) (all : Sight) (i : ℕ) (x : Seen) : Type 0 where
-  pub inside : i ≤ length p
-  pub same : all ≡ sight_over s (drop i p) x
-
-pub scanned-begins : {s p : List ℕ} {x : Seen} → Scanned s p (sight_over s p x) 0 x
-scanned-begins = record { inside = omega arith; same = refl }
-
-module _ {s p : List ℕ} {all : Sight} {i : ℕ} {x : Seen} (g : Scanned s p all i x) where
-  scan-on : i < length p → (z : Sight) → z ≡ sight_after s (get_or p i 0) x → all ≡ go_on z (λ y. sight_over s (drop (i + 1) p) y)
-  scan-on h z e = g.same ∙ turn s p i x h ∙ ap (λ (z : Sight). go_on z (λ y. sight_over s (drop (i + 1) p) y)) (sym e)
-
-  pub scanned-more : i < length p → {z : Sight} → z ≡ sight_after s (get_or p i 0) x → {y : Seen} → z ≡ Sees y → Scanned s p all (i + 1) y
-  scanned-more h e f = record { inside = omega arith; same = scan-on h _ (sym f ∙ e) }
-
-  pub scanned-waits : i < length p → {z : Sight} → z ≡ sight_after s (get_or p i 0) x → z ≡ Waits → Waits ≡ all
-  scanned-waits h e f = sym (scan-on h _ (sym f ∙ e))
-
-  pub scanned-ends : length p ≤ i → Sees x ≡ all
-  scanned-ends h = sym (g.same ∙ end s p i x h)
+        ∙ ap (λ (b : Bool). pick (both b (holds_only stepped f)) (Some (seen_by s k)) None) (sym (eq-eqb (sampled_in s (board_of_in s k)) 1 e))

@@ -1,5 +1,6 @@
 -- What a slot sees of the slots that it holds is what they are. So a sight tells whether the slot is ready (`sight-waits`), and where it
 -- is, that it settles as the definition of a step says (`sight-sees`). Assumes nothing.
+use Rattle.std.specs.Prelude.{Option, Some, None}
 use mathlib.Core.Path.{◌≡◌, refl, sym, ap, ap₂, ◌∙◌, subst}
 use mathlib.Core.Bool.{Bool, true, false}
 use mathlib.Core.List.{List, [], ◌∷◌, ◌++◌}
@@ -28,8 +29,6 @@ use Rattle.slot_sets.proofs.SlotSets.{none_has, with-same, with-other}
 use Rattle.resolving.specs.declared.Seen.{Seen}
 use Rattle.resolving.specs.Settles.{event_alone, settled}
 use Rattle.resolving.specs.Settles as settles
-use Rattle.seeing.specs.declared.Sight.{Sight}
-use Rattle.seeing.specs.declared.Sight.TheVariants.{Waits, Sees}
 use Rattle.seeing.specs.Seeing.{answer_in, told, told_each, seen_by, sight_in}
 
 -- ---- one slot told
@@ -135,26 +134,26 @@ seen_settles s k =
 
 -- ---- what a sight tells
 -- what is seen, where a sight waits that of nothing
-abbrev seen_in : Seen → Sight → Seen
-seen_in x Waits = x
-seen_in x (Sees y) = y
+abbrev seen_in : Seen → Option Seen → Seen
+seen_in x None = x
+seen_in x (Some y) = y
 
-abbrev waiting : Sight → Bool
-waiting Waits = true
-waiting (Sees x) = false
+abbrev waiting : Option Seen → Bool
+waiting None = true
+waiting (Some x) = false
 
-pub sight-waits : (s : List ℕ) (k : ℕ) → sight_in s k ≡ Waits → ready_in s k ≡ false
+pub sight-waits : (s : List ℕ) (k : ℕ) → sight_in s k ≡ None → ready_in s k ≡ false
 unfolding sight_in pick
 sight-waits s k e = go (ready_in s k) e
   where
-    go : (b : Bool) → pick b (Sees (seen_by s k)) Waits ≡ Waits → b ≡ false
+    go : (b : Bool) → pick b (Some (seen_by s k)) None ≡ None → b ≡ false
     go true e = sym (ap waiting e)
     go false e = refl
 
-pub sight-sees : (s : List ℕ) (k : ℕ) (x : Seen) → sight_in s k ≡ Sees x → (ready_in s k ≡ true) × (settled x (formula_at s k) ≡ stepped_to s k)
+pub sight-sees : (s : List ℕ) (k : ℕ) (x : Seen) → sight_in s k ≡ Some x → (ready_in s k ≡ true) × (settled x (formula_at s k) ≡ stepped_to s k)
 unfolding sight_in pick
 sight-sees s k x e = go (ready_in s k) e
   where
-    go : (b : Bool) → pick b (Sees (seen_by s k)) Waits ≡ Sees x → (b ≡ true) × (settled x (formula_at s k) ≡ stepped_to s k)
+    go : (b : Bool) → pick b (Some (seen_by s k)) None ≡ Some x → (b ≡ true) × (settled x (formula_at s k) ≡ stepped_to s k)
     go true e = (refl, ap (λ (y : Seen). settled y (formula_at s k)) (sym (ap (seen_in x) e)) ∙ seen_settles s k)
     go false e = absurd (no_true (sym (ap waiting e)))

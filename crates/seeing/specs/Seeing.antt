@@ -1,6 +1,6 @@
 -- What a slot sees when it is stepped: its board's sample, and which of the slots that it holds are true and which are false. Assumes
 -- nothing: these are definitions.
-use Rattle.std.specs.Prelude.{List, [], ◌∷◌, ℕ, ◌-◌, ltb, eqb}
+use Rattle.std.specs.Prelude.{List, [], ◌∷◌, ℕ, ◌-◌, ltb, eqb, Option, Some, None}
 use Rattle.lists.specs.Tests.{pick}
 use Rattle.kinds.specs.Kinds.{hold_code}
 use Rattle.answers.specs.declared.Verdict.{Verdict}
@@ -13,8 +13,6 @@ use Rattle.state.specs.Calls.{ready_in}
 use Rattle.slot_sets.specs.SlotSets.{with_slot}
 use Rattle.resolving.specs.declared.Seen.{Seen}
 use Rattle.resolving.specs.Settles.{event_alone}
-use Rattle.seeing.specs.declared.Sight.{Sight}
-use Rattle.seeing.specs.declared.Sight.TheVariants.{Waits, Sees}
 
 -- slot m is true, false or neither
 abbrev pub answer_in : List ℕ → ℕ → Verdict
@@ -36,20 +34,20 @@ abbrev pub seen_by : List ℕ → ℕ → Seen
 seen_by s k = told_each (answer_in s) (held_by (formula_at s k)) (event_alone (sample_in s (board_of_in s k)))
 
 -- where it is ready
-unfoldable pub sight_in : List ℕ → ℕ → Sight
-sight_in s k = pick (ready_in s k) (Sees (seen_by s k)) Waits
+unfoldable pub sight_in : List ℕ → ℕ → Option Seen
+sight_in s k = pick (ready_in s k) (Some (seen_by s k)) None
 
 -- ---- the pass over its bytes
 -- behind a node: a place holder's slot is looked at
-unfoldable pub sight_after : List ℕ → ℕ → Seen → Sight
+unfoldable pub sight_after : List ℕ → ℕ → Seen → Option Seen
 sight_after s b x =
-    pick (ltb b hold_code) (Sees x)
-    (pick (eqb (stepped_in s (b - hold_code)) 1) (Sees (told x (b - hold_code) (answer_in s (b - hold_code)))) Waits)
+    pick (ltb b hold_code) (Some x)
+    (pick (eqb (stepped_in s (b - hold_code)) 1) (Some (told x (b - hold_code) (answer_in s (b - hold_code)))) None)
 
-abbrev pub go_on : Sight → (Seen → Sight) → Sight
-go_on (Sees x) rest = rest x
-go_on Waits rest = Waits
+abbrev pub go_on : Option Seen → (Seen → Option Seen) → Option Seen
+go_on (Some x) rest = rest x
+go_on None rest = None
 
-unfoldable pub sight_over : List ℕ → List ℕ → Seen → Sight
-sight_over s [] x = Sees x
+unfoldable pub sight_over : List ℕ → List ℕ → Seen → Option Seen
+sight_over s [] x = Some x
 sight_over s (b ∷ l) x = go_on (sight_after s b x) (λ y. sight_over s l y)

@@ -15,13 +15,6 @@ use resolving::Seen;
 use slot_sets::{no_slots, with_slot};
 use state::{Counts, Span};
 
-// A slot that is not ready waits; another sees its board's sample and what the slots are that it holds.
-#[derive(Clone, Copy)]
-pub enum Sight {
-    Waits,
-    Sees(Seen),
-}
-
 // Whether slot m is true, false or neither. No other formula's bytes begin as a constant does.
 fn answer_of(s: &[u8], c: Counts, m: usize) -> Verdict
     requires { Opened s.now c × (m < c.slots) }
@@ -36,69 +29,60 @@ fn with_answer(seen: Seen, m: u8, v: Verdict) -> Seen
     requires { m < holder_codes }
     ensures { result ≡ told seen m v }
 {
-    let yes = seen.yes;
-    let no = seen.no;
     match v {
         Verdict::True => Seen {
-            event: seen.event,
-            yes: with_slot(yes, m),
-            no: no,
+            yes: with_slot(seen.yes, m),
+            ..seen
         },
         Verdict::False => Seen {
-            event: seen.event,
-            yes: yes,
-            no: with_slot(no, m),
+            no: with_slot(seen.no, m),
+            ..seen
         },
         Verdict::Pending => seen,
     }
 }
 
 // One node further.
-fn sight_after(b: u8, s: &[u8], c: Counts, seen: Seen) -> Sight
+#[tactic(auto, unfolding(lists::specs::Tests::pick, crate::specs::Seeing::sight_after))]
+fn sight_after(b: u8, s: &[u8], c: Counts, seen: Seen) -> Option<Seen>
     requires { Opened s.now c × (b < hold_code + c.slots) }
     ensures { result ≡ sight_after s.now b seen }
 {
     if b < Kind::HOLD {
-        return Sight::Sees(seen);
+        return Some(seen);
     }
     let m = b - Kind::HOLD;
     if state::mark_of(s, c, m as usize) != 1 {
-        return Sight::Waits;
+        return None;
     }
-    Sight::Sees(with_answer(seen, m, answer_of(s, c, m as usize)))
+    Some(with_answer(seen, m, answer_of(s, c, m as usize)))
 }
 
 // The pass over a slot's bytes p in the state s.
-fn sight_over(p: &[u8], s: &[u8], c: Counts, event: u64) -> Sight
+#[tactic(auto, unfolding(crate::specs::Seeing::sight_over))]
+fn sight_over(p: &[u8], s: &[u8], c: Counts, event: u64) -> Option<Seen>
     requires { Opened s.now c × Holds c.slots p.now }
     ensures { result ≡ sight_over s.now p.now (event_alone event) }
 {
-    let none = no_slots();
     let mut seen = Seen {
-        event: event,
-        yes: none,
-        no: none,
+        event,
+        yes: no_slots(),
+        no: no_slots(),
     };
-    let mut i: usize = 0;
-    while i < p.len() {
-        let next = sight_after(p[i], s, c, seen);
-        let Sight::Sees(x) = next else {
-            return Sight::Waits;
-        };
-        seen = x;
-        i += 1;
+    for b in p {
+        seen = sight_after(*b, s, c, seen)?;
     }
-    Sight::Sees(seen)
+    Some(seen)
 }
 
 // What slot k sees.
-pub fn sight_of(s: &[u8], c: Counts, k: usize) -> Sight
+pub fn sight_of(s: &[u8], c: Counts, k: usize) -> Option<Seen>
     requires { Opened s.now c × (k < c.slots) }
     ensures { result ≡ sight_in s.now k }
 {
     let board = state::board_of(s, c, k) as usize;
     if state::sampled_of(s, board) != 1 {
-        return Sight::Waits;
+        return None;
     }
     let Span { from, to } = state::span_of(s, c, k);
     sight_over(&s[from..to], s, c, state::sample_of(s, board))

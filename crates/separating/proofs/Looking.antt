@@ -24,7 +24,7 @@ use Rattle.registers.proofs.Members.{OneOf}
 use Rattle.registers.proofs.Entering.{entry-below, entry-stands}
 use Rattle.registers.proofs.Growing.{longer-length, noted_more, looked-more, laid_more}
 use Rattle.registers.proofs.Earlier.{Earlier, earlier-entry, enter-earlier}
-use Rattle.choices.specs.Choice.{code_of, stays_on}
+use Rattle.scores.specs.Choice.{code_of, stays_on}
 
 -- ---- by its choice
 -- where the choice lets it stay it is laid on its holder's board

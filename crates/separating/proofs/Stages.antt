@@ -21,7 +21,7 @@ use Rattle.registers.proofs.Outers.{outer-some, laid-outer, entered-outer}
 use Rattle.registers.proofs.Growing.{longer-length, longer-on, longer-entered, laid_more}
 use Rattle.registers.proofs.Earlier.{Earlier, laid-earlier, enter-earlier}
 use Rattle.tokens.specs.Kept.{RegisterKept}
-use Rattle.choices.specs.Choice.{code_of, stays_on}
+use Rattle.scores.specs.Choice.{code_of, stays_on}
 use Rattle.parting.specs.declared.PartTop.{PartTop}
 use Rattle.parting.specs.Parts.{parts_room, PartsAt}
 use Rattle.parting.specs.Tops.{TopOf, top-constant, top-proposition, top-hold, top-not, top-next, top-join, HeldBy, parts_of, TopAsk, TopsAs, PutsTop}

@@ -18,7 +18,7 @@ use Rattle.network.specs.Layout.{Slot}
 use Rattle.registers.specs.Register.{Noted, laid_noted, entered}
 use Rattle.registers.proofs.Entering.{entry-below}
 use Rattle.registers.proofs.Outers.{outer-some}
-use Rattle.choices.specs.Choice.{code_of, stays_on}
+use Rattle.scores.specs.Choice.{code_of, stays_on}
 use Rattle.parting.specs.declared.PartTop.{PartTop}
 use Rattle.parting.specs.Parts.{ChosenFor}
 use Rattle.parting.specs.Tops.{parts_of, TopsPart, PutsTop}

@@ -55,13 +55,14 @@ pub fn cut_parts(
     let rest = parting::put_top(desk, 0, n, t);
     let mut x = SlotProgress {
         written: 1,
-        rest: rest,
+        rest,
         nodes: t.nodes,
-        entries: entries,
+        entries,
     };
+    // A `while`: where the parts begin that are left moves back as well as on.
     while x.rest < n {
         let next = x.rest;
-        let p = buffers::wide(desk[next]);
+        let p = usize::from(desk[next]);
         let at = p / PARTS;
         x = look(
             &bytes[at..],
@@ -108,7 +109,7 @@ fn look(
     let choice = parting::choice_of(marks, part);
     let w = x.written;
     let rest = x.rest + 1;
-    if choices::picks::stays_on(choice, board) {
+    if scores::stays_on(choice, board) {
         let t = parting::top_of(u, marks, held, part);
         let top = parting::put_top(desk, w, rest, t);
         return SlotProgress {
@@ -143,7 +144,7 @@ fn look(
     desk[w] = buffers::narrow(Kind::HOLD as usize + y.entry);
     SlotProgress {
         written: w + 1,
-        rest: rest,
+        rest,
         nodes: x.nodes + 1,
         entries: y.entries,
     }

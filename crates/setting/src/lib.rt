@@ -52,11 +52,9 @@ pub fn put_nodes(
     requires { SetAsk bytes.now marks.now numbers.now tokens.now (length out.old) }
     ensures { Sets bytes.now marks.now numbers.now tokens.now out.old out.new result }
 {
-    let mut w: usize = 0;
-    let mut i: usize = 0;
-    while i < tokens.len() {
-        w += put_token(tokens[i], bytes, marks, numbers, &mut out[w..]);
-        i += 1;
+    let mut w = 0;
+    for t in tokens {
+        w += put_token(*t, bytes, marks, numbers, &mut out[w..]);
     }
     w
 }

@@ -1,14 +1,13 @@
 -- A formula's text has ended: a bracket that waits is put (`ended-close`), then the sign behind it (`ended-sign`), or nothing waits
 -- (`ended-all`). Assumes nothing.
-use mathlib.Core.Path.{◌≡◌, refl, sym, ap, ◌∙◌}
+use mathlib.Core.Path.{◌≡◌, refl, sym, ap, ◌∙◌, subst}
 use mathlib.Core.Bool.{true, false, true≢false}
 use mathlib.Core.List.{List, [], ◌∷◌}
-use Prim.Native.Nat.{ℕ, suc, ◌+◌, ◌<◌}
+use Prim.Native.Nat.{ℕ, suc, ◌+◌, ◌<◌, ◌≤◌}
 use native.Mathlib.Omega.{arith}
 use lib.ListN.{length, get_or, set, drop, length-set}
-use lib.Seq.{drop-length, drop-cons}
-use lib.Dec.{eqb}
-use borrow.Author.Tests.{eqb-true, eqb-false}
+use lib.Seq.{drop-cons}
+use borrow.Author.Tests.{eqb-true, eqb-false, eq-eqb, ne_eqb}
 use Rattle.lists.specs.Tests.{pick}
 use Rattle.lists.proofs.Drops.{drop-long}
 use Rattle.kinds.specs.declared.Join.TheVariants.{And, Or}
@@ -29,21 +28,16 @@ sign-before Until = refl
 sign-before (Joined And) = refl
 sign-before (Joined Or) = refl
 
--- whether a bracket waits first
-pub closes-none : (dues : List ℕ) {top : ℕ} → top ≡ length dues → false ≡ closes_first (drop top dues)
-closes-none dues e = sym (ap (λ (n : ℕ). closes_first (drop n dues)) e ∙ ap closes_first (drop-length dues))
-
-pub closes-some : (dues : List ℕ) (top : ℕ) → top < length dues → eqb (get_or dues top 0) 0 ≡ closes_first (drop top dues)
-closes-some dues top h = sym (ap closes_first (drop-cons dues top 0 h))
-
 -- nothing waits
-pub ended-all : {text dues : List ℕ} {at top : ℕ} {gs : List Formula} {whole : List ℕ} → Shown text dues at top gs whole → top ≡ length dues
-    → (k : ℕ) → Showing text dues at top k gs whole
-ended-all {text} {dues} {at} {top} {gs} {whole} x e k = go x.waits x.bytes x.behind x.penned
+pub ended-all : {text dues : List ℕ} {at top : ℕ} {gs : List Formula} {whole : List ℕ} → Shown text dues at top gs whole → length dues ≤ top
+    → (k : ℕ) → Showing text dues at (length dues) k gs whole
+ended-all {text} {dues} {at} {top} {gs} {whole} x h k =
+    let w = x.penned.within in
+    let e : top ≡ length dues = omega arith in subst (λ (n : ℕ). Showing text dues at n k gs whole) e (go e x.waits x.bytes x.behind x.penned)
   where
-    go : {gs : List Formula} (ds : List Due) (bs : List ℕ) → Trailing ds gs bs → Penned text dues at top ds gs bs whole → Showing text dues at top k gs whole
-    go [] bs nothing p = record { waits = []; bytes = []; coming = done; penned = p }
-    go (d ∷ ds) bs b p = absurd (let m = penned-more p in omega arith)
+    go : top ≡ length dues → {gs : List Formula} (ds : List Due) (bs : List ℕ) → Trailing ds gs bs → Penned text dues at top ds gs bs whole → Showing text dues at top k gs whole
+    go e [] bs nothing p = record { waits = []; bytes = []; coming = done; penned = p }
+    go e (d ∷ ds) bs b p = absurd (let m = penned-more p in omega arith)
 
 -- a bracket waits first
 pub record EndedClose (text dues : List ℕ) (at top : ℕ) (gs : List Formula) (whole : List ℕ) : Type 0 where
@@ -51,10 +45,13 @@ pub record EndedClose (text dues : List ℕ) (at top : ℕ) (gs : List Formula) 
   pub more : top < length dues
   pub shown : Shown (set text at close_sign) dues (at + 1) (top + 1) gs whole
 
-pub ended-close : {text dues : List ℕ} {at top : ℕ} {gs : List Formula} {whole : List ℕ} → Shown text dues at top gs whole → closes_first (drop top dues) ≡ true
+pub ended-close : {text dues : List ℕ} {at top : ℕ} {gs : List Formula} {whole : List ℕ} → Shown text dues at top gs whole → top < length dues → get_or dues top 0 ≡ 0
     → EndedClose text dues at top gs whole
-ended-close {text} {dues} {at} {top} {gs} {whole} x e = go x.waits x.bytes x.behind x.penned
+ended-close {text} {dues} {at} {top} {gs} {whole} x h z = go x.waits x.bytes x.behind x.penned
   where
+    e : closes_first (drop top dues) ≡ true
+    e = ap closes_first (drop-cons dues top 0 h) ∙ eq-eqb (get_or dues top 0) 0 z
+
     go : {gs : List Formula} (ds : List Due) (bs : List ℕ) → Trailing ds gs bs → Penned text dues at top ds gs bs whole → EndedClose text dues at top gs whole
     go [] bs b p = absurd (true≢false (sym e ∙ ap closes_first p.stack))
     go {gs} (close ∷ ds) bs (closed {b = b} y q) p =
@@ -78,12 +75,15 @@ pub record EndedSign (text dues : List ℕ) (at top : ℕ) (gs : List Formula) (
   pub space : at < length text
   pub showing : Showing (set text at c) dues (at + 1) (top + 1) k gs whole
 
-pub ended-sign : {text dues : List ℕ} {at top : ℕ} {gs : List Formula} {whole : List ℕ} → Shown text dues at top gs whole → closes_first (drop top dues) ≡ false
-    → (top ≡ length dues → ⊥) → {c k : ℕ} → k ≡ get_or dues top 0 → c ≡ sign_before k → EndedSign text dues at top gs whole c k
-ended-sign {text} {dues} {at} {top} {gs} {whole} x e n {c} {k} i j = go x.waits x.bytes x.behind x.penned
+pub ended-sign : {text dues : List ℕ} {at top : ℕ} {gs : List Formula} {whole : List ℕ} → Shown text dues at top gs whole → top < length dues → (get_or dues top 0 ≡ 0 → ⊥)
+    → {c k : ℕ} → k ≡ get_or dues top 0 → c ≡ sign_before k → EndedSign text dues at top gs whole c k
+ended-sign {text} {dues} {at} {top} {gs} {whole} x h z {c} {k} i j = go x.waits x.bytes x.behind x.penned
   where
+    e : closes_first (drop top dues) ≡ false
+    e = ap closes_first (drop-cons dues top 0 h) ∙ ne_eqb (get_or dues top 0) 0 z
+
     go : {gs : List Formula} (ds : List Due) (bs : List ℕ) → Trailing ds gs bs → Penned text dues at top ds gs bs whole → EndedSign text dues at top gs whole c k
-    go [] bs b p = absurd (n (let l = drop-long dues [] top p.within p.stack in omega arith))
+    go [] bs b p = absurd (let l = drop-long dues [] top p.within p.stack in omega arith)
     go (close ∷ ds) bs b p = absurd (eqb-false 0 0 (ap closes_first (sym p.stack) ∙ e) refl)
     go {gs} (sign o ∷ ds) bs (infixed {g = g} {b = b} y q) p =
         let f : k ≡ suc (level o) = i ∙ penned-first p in

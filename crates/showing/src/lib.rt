@@ -26,26 +26,23 @@ fn unary_sign(o: Unary) -> u8
     ensures { result ≡ unary_sign o }
 {
     match o {
-        Unary::Not => 33,
-        Unary::Next => 88,
-        Unary::Ever(j) => match j {
-            Join::Or => 70,
-            Join::And => 71,
-        },
+        Unary::Not => b'!',
+        Unary::Next => b'X',
+        Unary::Ever(Join::Or) => b'F',
+        Unary::Ever(Join::And) => b'G',
     }
 }
 
 // U & |, by the level of text that follows.
+#[tactic(auto, unfolding(crate::specs::Dues::sign_before, lists::specs::Tests::pick))]
 fn sign_before(level: u8) -> u8
     ensures { result ≡ sign_before level }
 {
-    if level == 1 {
-        return 85;
+    match level {
+        1 => b'U',
+        2 => b'&',
+        _ => b'|',
     }
-    if level == 2 {
-        return 38;
-    }
-    124
 }
 
 // Puts a word behind the first `at` bytes: where it ends.
@@ -53,9 +50,9 @@ fn put_word(text: &mut [u8], at: usize, word: &[u8]) -> usize
     requires { at + length word.now ≤ length text.old }
     ensures { Puts word.now text.old at text.new result }
 {
-    let n = word.len();
-    buffers::put(text, at, word, 0, n);
-    at + n
+    let end = at + word.len();
+    text[at..end].copy_from_slice(word);
+    end
 }
 
 fn put_constant(text: &mut [u8], at: usize, v: bool) -> usize
@@ -63,9 +60,10 @@ fn put_constant(text: &mut [u8], at: usize, v: bool) -> usize
     ensures { Puts (constant_text v) text.old at text.new result }
 {
     if v {
-        return put_word(text, at, b"true");
+        put_word(text, at, b"true")
+    } else {
+        put_word(text, at, b"false")
     }
-    put_word(text, at, b"false")
 }
 
 // A number below a hundred, in digits.
@@ -74,11 +72,11 @@ fn put_digits(text: &mut [u8], at: usize, n: u8) -> usize
     ensures { Puts (digits n) text.old at text.new result }
 {
     if n < 10 {
-        text[at] = 48 + n;
+        text[at] = b'0' + n;
         return at + 1;
     }
-    text[at] = 48 + n / 10;
-    text[at + 1] = 48 + n % 10;
+    text[at] = b'0' + n / 10;
+    text[at + 1] = b'0' + n % 10;
     at + 2
 }
 
@@ -89,23 +87,12 @@ fn put_leaf(text: &mut [u8], at: usize, a: Leaf) -> usize
     match a {
         Leaf::Const(v) => put_constant(text, at, v),
         Leaf::Prop(n) => {
-            text[at] = 112;
+            text[at] = b'p';
             put_digits(text, at + 1, n)
         }
         // A place holder has no text.
         Leaf::Hold(_) => at,
     }
-}
-
-// Whether a closing bracket waits from `top` on.
-fn closes(dues: &[u8], top: usize) -> bool
-    requires { top ≤ length dues.now }
-    ensures { result ≡ closes_first (drop top dues.now) }
-{
-    if top == dues.len() {
-        return false;
-    }
-    dues[top] == 0
 }
 
 // A formula's text has ended: the brackets that wait are put, and the infix sign behind them.
@@ -114,25 +101,23 @@ fn put_waiting(text: &mut [u8], at: usize, dues: &[u8], top: usize) -> Pen
     ensures { EndsOn text.old dues.now at top text.new result.at result.top result.level }
 {
     let mut end = at;
-    let mut first = top;
-    while closes(dues, first) {
-        text[end] = 41;
+    for first in top..dues.len() {
+        let level = dues[first];
+        if level != 0 {
+            text[end] = sign_before(level);
+            return Pen {
+                at: end + 1,
+                top: first + 1,
+                level,
+            };
+        }
+        text[end] = b')';
         end += 1;
-        first += 1;
     }
-    if first == dues.len() {
-        return Pen {
-            at: end,
-            top: first,
-            level: 0,
-        };
-    }
-    let level = dues[first];
-    text[end] = sign_before(level);
     Pen {
-        at: end + 1,
-        top: first + 1,
-        level,
+        at: end,
+        top: dues.len(),
+        level: 0,
     }
 }
 
@@ -150,7 +135,7 @@ fn put_pair(text: &mut [u8], at: usize, dues: &mut [u8], top: usize, level: u8, 
             level: own,
         };
     }
-    text[at] = 40;
+    text[at] = b'(';
     dues[top - 1] = 0;
     dues[top - 2] = own + 1;
     Pen {
@@ -189,19 +174,15 @@ fn show_with(formula: &[u8], text: &mut [u8], dues: &mut [u8]) -> usize
     requires { ShowWithin formula.now text.old dues.old }
     ensures { Shows formula.now text.new result }
 {
-    let n = formula.len();
-    let mut i: usize = 0;
-    let mut at: usize = 0;
-    let mut top = dues.len();
-    let mut level: u8 = text::LOOSEST;
-    while i < n {
-        let p = show_node(text, at, dues, top, level, Kind::of(formula[i]));
-        at = p.at;
-        top = p.top;
-        level = p.level;
-        i += 1;
+    let mut pen = Pen {
+        at: 0,
+        top: dues.len(),
+        level: text::LOOSEST,
+    };
+    for &b in formula {
+        pen = show_node(text, pen.at, dues, pen.top, pen.level, Kind::from(b));
     }
-    at
+    pen.at
 }
 
 // Shows the formula, a rule's, at the front of the text. Answers where it ends.

@@ -1,7 +1,7 @@
 -- The two passes together: up to the first break what is kept is the first stretch (`first-reached`), where no break ends it all records are gone
 -- through (`all-reached`), and with zeros behind them the kept records are all that is put (`sifted`). Assumes nothing.
 use mathlib.Core.Path.{◌≡◌, refl, sym, ap, ◌∙◌}
-use mathlib.Core.Bool.{true, false}
+use mathlib.Core.Bool.{Bool, true, false}
 use mathlib.Core.List.{List, ◌++◌}
 use Prim.Native.Nat.{ℕ, ◌-◌, ◌*◌, ◌<◌, ◌≤◌}
 use native.Mathlib.Omega.{arith}
@@ -52,6 +52,11 @@ all-reached {s} {out} {marks} {n} {from} {r} t = go (ℕ_discrete r.place n)
     go : Dec (r.place ≡ n) → r.place ≡ n
     go (yes e) = e
     go (no e) = let few = t.few in absurd (no_true (t.stops (omega arith)).0)
+
+-- they have room where they are put
+pub room_kept : {s out out₁ marks marks₁ : List ℕ} (out₂ : List ℕ) {n from : ℕ} {stop : Bool} {r : Reached} → SiftAsk s out marks → SiftsTo s out₁ marks₁ n from stop r
+    → n ≡ length marks → length out₂ ≡ length out → record_length * r.kept ≤ length out₂
+room_kept out₂ a t e f = let k = kept-least t.sifted in let n = t.few in let o = a.out-room in omega arith
 
 -- ---- and zeros behind them
 pub sifted : {s out out₁ out₂ cleared marks : List ℕ} {n m f from : ℕ} {r : Reached} → SiftsTo s out₁ marks m from false r → m ≡ n → f ≡ length (first_stretch (listed (record_in s) n))

@@ -1,7 +1,7 @@
 -- A record put behind those that were kept (`record-put`), and the loop over the records: none yet (`sift-none`), one more (`sift-more`), and where
 -- it ends, at a break or behind the last record (`none_more`, `reach-stop`, `reach-end`). Assumes nothing.
-use mathlib.Core.Path.{◌≡◌, refl, sym, ap, ap₂, ◌∙◌}
-use mathlib.Core.Bool.{Bool, true, false, not}
+use mathlib.Core.Path.{◌≡◌, refl, sym, ap, ap₂, subst, ◌∙◌}
+use mathlib.Core.Bool.{Bool, true, false}
 use mathlib.Core.List.{List, [], ◌∷◌, ◌++◌, append_assoc, append-nil}
 use Prim.Native.Nat.{ℕ, suc, ◌+◌, ◌*◌, ◌<◌, ◌≤◌}
 use native.Mathlib.Nat.{add-zero}
@@ -11,19 +11,18 @@ use native.Mathlib.Omega.{arith}
 use lib.ListN.{length, set, take, drop, length-append}
 use lib.Seq.{take_at, take-suc-set, length-take-le}
 use lib.Dec.{eqb}
-use borrow.Author.Tests.{eqb-true, eq-eqb, ne_eqb}
+use borrow.Author.Tests.{eqb-true, eq-eqb}
 use Rattle.lists.specs.Tests.{pick, both}
 use Rattle.lists.specs.Listed.{listed}
 use Rattle.lists.proofs.Tests.{no_true, both-0, both-1, both_true, pick-ap}
 use Rattle.lists.proofs.Listed.{listed_more}
 use Rattle.le.specs.Le.{le}
 use Rattle.le.proofs.Puts.{number_put}
-use Rattle.recordings.specs.Records.{Record, kept, dropped, broken}
+use Rattle.recordings.specs.Records.{Record, dropped, broken}
 use Rattle.recordings.specs.Mending.{not_dropped, mark_by}
 use Rattle.recordings.specs.Recording.{record_length, record_in, one_record, record_bytes}
 use Rattle.recordings.proofs.Places.{kept_more, kept-few}
 use Rattle.recordings.proofs.Bytes.{record-length, records-both}
-use Rattle.neighbours.specs.Steps.{mark_of_step}
 use Rattle.sifting.specs.Sifted.{kept_to, SiftedTo, NoBreak, SiftsTo}
 
 -- ---- a record put
@@ -77,15 +76,6 @@ module _ {s out marks : List ℕ} {i kept : ℕ} (t : SiftedTo s out marks i kep
         })
 
 -- ---- breaks
--- a step that is not 0 leads to a break where it is not 1
-pub stops-later : (step : ℕ) → (step ≡ 0 → ⊥) → not (eqb step 1) ≡ eqb (mark_of_step step) broken
-unfolding mark_of_step pick
-stops-later step n = rw (ne_eqb step 0 n) (go (eqb step 1))
-  where
-    go : (b : Bool) → not b ≡ eqb (pick b kept broken) broken
-    go true = refl
-    go false = refl
-
 -- what is known on the way where a break ends it
 abbrev pub NoneYet : List ℕ → ℕ → ℕ → Bool → Type 0
 NoneYet s from i stop = stop ≡ true → NoBreak s from → NoBreak s i
@@ -103,5 +93,7 @@ module _ {s out marks : List ℕ} {n from i kept : ℕ} {stop : Bool} (t : Sifte
   pub reach-stop : i < n → {mark : ℕ} → mark ≡ mark_by (record_in s) i → both stop (eqb mark broken) ≡ true → SiftsTo s out marks n from stop (record { place = i; kept = kept })
   reach-stop h {mark} m e = record { few = omega arith; sifted = t; none = none; stops = λ l. (both-0 _ _ e, sym m ∙ eqb-true mark broken (both-1 stop _ e)) }
 
-  pub reach-end : i ≡ n → SiftsTo s out marks n from stop (record { place = i; kept = kept })
-  reach-end e = record { few = omega arith; sifted = t; none = none; stops = λ l. absurd (omega arith) }
+  pub reach-end : i ≡ n → SiftsTo s out marks n from stop (record { place = n; kept = kept })
+  reach-end e =
+      subst (λ (k : ℕ). SiftsTo s out marks n from stop (record { place = k; kept = kept })) e
+      (record { few = omega arith; sifted = t; none = none; stops = λ l. absurd (omega arith) })

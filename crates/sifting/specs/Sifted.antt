@@ -2,10 +2,10 @@
 use Rattle.std.specs.Prelude.{◌≡◌, Bool, true, List, ℕ, ◌*◌, ◌<◌, ◌≤◌, length, take}
 use Rattle.lists.specs.Runs.{padded}
 use Rattle.lists.specs.Listed.{listed}
+use Rattle.recordings.specs.declared.Mended.{Mended}
 use Rattle.recordings.specs.Records.{Record, broken}
 use Rattle.recordings.specs.Mending.{marks_of, not_dropped, kept_of, first_stretch, mark_by, NoClash}
 use Rattle.recordings.specs.Recording.{record_length, recording_length, record_in, record_bytes}
-use Rattle.sifting.specs.declared.KeptCounts.{KeptCounts}
 use Rattle.sifting.specs.declared.Reached.{Reached}
 
 -- there are as many records as marks, none of which clashes, and room for them
@@ -38,7 +38,7 @@ pub record SiftsTo (s out' marks' : List ℕ) (n from : ℕ) (stop : Bool) (r : 
 
 -- ---- in the end
 -- of n records: how many are kept and in the first stretch, the kept ones and zeros behind them, and the marks
-pub record Sifts (s out out' marks' : List ℕ) (n : ℕ) (c : KeptCounts) : Type 0 where
+pub record Sifts (s out out' marks' : List ℕ) (n : ℕ) (c : Mended) : Type 0 where
   pub kept : c.kept ≡ length (kept_of (listed (record_in s) n))
   pub first : c.first ≡ length (first_stretch (listed (record_in s) n))
   pub few : c.kept ≤ n

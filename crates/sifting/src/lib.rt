@@ -9,14 +9,7 @@ ghost use Rattle.neighbours.specs.Steps.{mark_of_step};
 ghost use Rattle.recordings.specs.Recording.{record_length, one_record};
 ghost use Rattle.sifting.specs.Sifted.{SiftAsk, SiftedTo, SiftsTo, Sifts};
 
-use recordings::RECORD_LENGTH;
-
-// How many records were kept, and how many of these are in the first stretch.
-#[derive(Clone, Copy)]
-pub struct KeptCounts {
-    pub kept: usize,
-    pub first: usize,
-}
+use recordings::{Mended, RECORD_LENGTH};
 
 // How far a pass has come, and how many records were kept by then.
 #[derive(Clone, Copy)]
@@ -25,17 +18,13 @@ struct Reached {
     kept: usize,
 }
 
-// Whether to stop before a record that this step leads to: at a break, where that is asked.
+// Whether to stop before a record that this step leads to: at a break, where that is asked. The flag says how far a pass
+// goes and chooses no step, so a closure in its place would say less.
+#[tactic(auto, unfolding(lists::specs::Tests::both, lists::specs::Tests::pick, neighbours::specs::Steps::mark_of_step))]
 fn stops_at(stop: bool, step: u32) -> bool
     ensures { result ≡ both stop (eqb (mark_of_step step) broken) }
 {
-    if !stop {
-        return false;
-    }
-    if step == 0 {
-        return false;
-    }
-    step != 1
+    stop && 1 < step
 }
 
 // Puts a record behind k records.
@@ -64,41 +53,33 @@ fn sift_from(
     let n = marks.len();
     let mut before = neighbours::before_at(recording, from, n);
     let mut kept = had;
-    let mut i = from;
-    while i < n {
+    for i in from..n {
         let counter = neighbours::counter_at(recording, i);
         let step = neighbours::step(before, counter);
         if stops_at(stop, step) {
-            return Reached {
-                place: i,
-                kept: kept,
-            };
+            return Reached { place: i, kept };
         }
         let mark = neighbours::mark_of(step);
         let event = neighbours::event_at(recording, i);
         put_record(out, kept, counter, event);
-        marks[i] = mark;
-        kept = kept + neighbours::kept_by(mark);
+        marks[i] = u8::from(mark);
+        kept += neighbours::kept_by(mark);
         before = counter;
-        i += 1;
     }
-    Reached {
-        place: i,
-        kept: kept,
-    }
+    Reached { place: n, kept }
 }
 
 // Puts the marks of all records, the kept records to the front of `out`, and zeros behind them. The first stretch is gone through on its
 // own, so that the other records need not be asked whether they belong to it.
-pub fn sift(recording: &[u8], out: &mut [u8], marks: &mut [u8]) -> KeptCounts
+pub fn sift(recording: &[u8], out: &mut [u8], marks: &mut [u8]) -> Mended
     requires { SiftAsk recording.now out.old marks.old }
     ensures { Sifts recording.now out.old out.new marks.new (length marks.old) result }
 {
     let first = sift_from(recording, 0, 0, out, marks, true);
     let all = sift_from(recording, first.place, first.kept, out, marks, false);
     let end = RECORD_LENGTH * all.kept;
-    buffers::clear(&mut out[end..]);
-    KeptCounts {
+    out[end..].fill(0);
+    Mended {
         kept: all.kept,
         first: first.kept,
     }

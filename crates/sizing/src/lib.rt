@@ -20,27 +20,18 @@ struct Tally {
 fn is_ever(k: Kind) -> bool
     ensures { result ≡ ever_kind k }
 {
-    match k {
-        Kind::Zero(_) => false,
-        Kind::One(o) => match o {
-            Unary::Not => false,
-            Unary::Next => false,
-            Unary::Ever(_) => true,
-        },
-        Kind::Two(_) => false,
-        Kind::NoCode => false,
-    }
+    matches!(k, Kind::One(Unary::Ever(_)))
 }
 
 // Eventually and always that stand one behind the other end at one place, so that it is looked for once. Each adds a join, and
-// next with itself.
+// next with itself. A `while`: it goes on as long as the node at i is one of them, and no count of turns is known before.
 fn count_ever(s: &[u8], from: usize, end: usize, start: usize) -> Tally
     requires { SumsEver s.now from end start }
     ensures { SumsOn s.now from result.i result.count }
 {
     let mut i = from;
     let mut count = start;
-    while is_ever(Kind::of(s[i])) {
+    while is_ever(Kind::from(s[i])) {
         count = count + 1 + (end - i);
         i += 1;
     }
@@ -56,13 +47,12 @@ fn count_whole(s: &[u8], i: usize, count: usize) -> Tally
     if s[i] == Kind::NEXT {
         return Tally { i: end, count };
     }
-    if is_ever(Kind::of(s[i])) {
+    if is_ever(Kind::from(s[i])) {
         return count_ever(s, i, end, count);
     }
-    let more = count + 2 + (end - i);
     Tally {
         i: i + 1,
-        count: more,
+        count: count + 2 + (end - i),
     }
 }
 
@@ -73,9 +63,10 @@ pub fn count_unfolded(s: &[u8]) -> usize
 {
     let n = s.len();
     let mut count = n;
-    let mut i: usize = 0;
+    let mut i = 0;
+    // A `while`: a node that stays whole is passed over with all that stands under it, so that i does not go on by one.
     while i < n {
-        if outlining::stays_whole(Kind::of(s[i])) {
+        if outlining::stays_whole(Kind::from(s[i])) {
             let t = count_whole(s, i, count);
             i = t.i;
             count = t.count;

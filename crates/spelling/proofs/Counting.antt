@@ -1,34 +1,34 @@
 -- The number of binary digits of a union of masks: how many propositions boards have. Where there is a number with which masks follow
 -- their rule, it is this one (`highest-rule`). Assumes nothing.
-use mathlib.Core.Path.{◌≡◌, subst}
+use mathlib.Core.Path.{◌≡◌}
 use mathlib.Core.List.{List}
 use mathlib.Core.Bool.{true}
-use Prim.Native.Nat.{ℕ, suc, ◌+◌, ◌-◌, ◌*◌, ◌/◌, ◌%◌, ◌^◌, ◌<◌, ◌≤◌}
+use Prim.Native.Nat.{ℕ, zero, suc, ◌+◌, ◌-◌, ◌*◌, ◌^◌, ◌<◌, ◌≤◌}
 use native.Mathlib.Omega.{arith}
-use native.Mathlib.Nat.{mod-lt, div-eq_of_lt, pow-suc, pow-le-pow_right}
+use native.Mathlib.Nat.{pow-suc, pow-le-pow_right}
 use native.Mathlib.Decide.{dec_lt}
-use lib.Pow.{pow_pos, split}
-use Rattle.limits.specs.Limits.{propositions_most}
+use Rattle.std.specs.Int.Count.{count_leading_zeros}
+use Rattle.std.proofs.lemmas.Nat.{leading_length}
+use native.Mathlib.Numerals.{sub-one}
+use lib.Pow.{pow_pos}
 use Rattle.masks.specs.Masks.{union_with, masks_rule}
 use Rattle.masks.proofs.Exact.{rule-union}
 use Rattle.spelling.specs.Count.{HighestSeen}
 
--- all bits are below p, where nothing is left of a number without its lowest p bits
-pub below_all : (n p : ℕ) → n / 2 ^ p ≡ 0 → n < 2 ^ p
-below_all n p e =
-    let s : 0 * 2 ^ p + n % 2 ^ p ≡ n = subst (λ (x : ℕ). x * 2 ^ p + n % 2 ^ p ≡ n) e (split n p) in
-    let l = mod-lt n (pow_pos p) in
-    omega arith
-
--- else some bit is not
-above-some : (n p : ℕ) → (n / 2 ^ p ≡ 0 → ⊥) → 2 ^ p ≤ n
-above-some n p ne = elim (dec_lt n (2 ^ p)) [ yes h ↦ absurd (ne (div-eq_of_lt h)) | no h ↦ omega arith ]
-
-pub above-behind : (n p : ℕ) → (n / 2 ^ p ≡ 0 → ⊥) → 2 ^ ((p + 1) - 1) ≤ n
-above-behind n p ne = let e : (p + 1) - 1 ≡ p = omega arith in rw e (above-some n p ne)
-
-pub highest : (masks : List ℕ) (n p : ℕ) → n ≡ union_with 0 masks → p ≤ propositions_most → n < 2 ^ p → (0 < p → 2 ^ (p - 1) ≤ n) → HighestSeen masks p
-highest masks n p e few l h = record { few = few; none_above = subst (λ (x : ℕ). x < 2 ^ p) e l; seen_below = λ k. subst (λ (x : ℕ). 2 ^ (p - 1) ≤ x) e (h k) }
+-- what is left of the width without its leading zeros
+pub highest : (masks : List ℕ) (n p : ℕ) → n ≡ union_with 0 masks → n < 2 ^ 64 → p ≡ 64 - count_leading_zeros 64 n → HighestSeen masks p
+highest masks n p e h is =
+    let l = leading_length 64 n h in
+    let same : p ≡ l.0 = omega (arith, l.1) in
+    record {
+      few = omega (arith, l.1);
+      none_above = rw (same, ← e) l.2;
+      seen_below = λ k. let twice : 2 ^ p ≡ 2 * 2 ^ (p - 1) = go p k in let most : 2 ^ p ≤ 2 * n + 1 = rw same l.3 in omega arith;
+    }
+  where
+    go : (p : ℕ) → 0 < p → 2 ^ p ≡ 2 * 2 ^ (p - 1)
+    go zero h = absurd (omega arith)
+    go (suc p) h = rw sub-one (omega (arith, pow-suc 2 p))
 
 -- no choice is lost: masks that follow their rule with some number of propositions have just that many
 pub highest-rule : (masks : List ℕ) (p q : ℕ) → masks_rule p masks ≡ true → HighestSeen masks q → p ≡ q

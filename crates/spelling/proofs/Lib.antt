@@ -3,4 +3,3 @@ pub mod Spelled
 pub mod Readings
 pub mod Counting
 pub mod Showing
-pub mod Putting

@@ -1,8 +1,9 @@
 -- A mask is shown as the text that its board is typed as (`shown_typed`): the mask of the propositions below a place is the mask's
--- part below it (`below-mask`). So it is read back (`shown-back`). And a list with one proposition more, as it is put (`below_more`).
+-- part below it (`below-mask`). So it is read back (`shown-back`). And a list with one proposition more, as it is put (`list_put`).
 -- Assumes nothing.
 use mathlib.Core.Path.{◌≡◌, refl, sym, ap, subst, ◌∙◌}
 use mathlib.Core.Bool.{Bool, true, false}
+use Rattle.std.specs.Prelude.{Option, Some, None}
 use mathlib.Core.List.{List, [], ◌∷◌, ◌++◌, map, append-nil, append_assoc}
 use Prim.Native.Nat.{ℕ, zero, suc, ◌+◌, ◌*◌, ◌/◌, ◌%◌, ◌^◌, ◌<◌, ◌≤◌}
 use native.Mathlib.Omega.{arith}
@@ -18,8 +19,6 @@ use Rattle.lists.proofs.Tests.{pick-elim}
 use Rattle.limits.specs.Limits.{propositions_most}
 use Rattle.masks.specs.Masks.{union_with}
 use Rattle.masks.proofs.Bits.{bit-less}
-use Rattle.spelling.specs.declared.BoardAnswer.{BoardAnswer}
-use Rattle.spelling.specs.declared.BoardAnswer.TheVariants.{NoBoard, Sees}
 use Rattle.spelling.specs.Typed.{name_of, more_text, list_text, Propositions, mask_of, Typed, none, some, TypedAs, seen_below, board_text}
 use Rattle.spelling.specs.Shown.{next_text}
 use Rattle.spelling.proofs.Readings.{typed_one}
@@ -86,9 +85,9 @@ shown_typed m h =
     (λ q. list-shown m (seen_below m propositions_most) (below-few m propositions_most (omega arith)) (below-mask m propositions_most ∙ mod-eq_of_lt h) (eqb-false m 0 q))
 
 -- what is shown is read back as the mask
-pub shown-back : (m : ℕ) (r : BoardAnswer) → m < 2 ^ 64 → TypedAs (board_text m) r → r ≡ Sees m
-shown-back m (Sees k) h t = ap Sees (typed_one (board_text m) k m t (shown_typed m h))
-shown-back m NoBoard h n = absurd (n m (shown_typed m h))
+pub shown-back : (m : ℕ) (r : Option ℕ) → m < 2 ^ 64 → TypedAs (board_text m) r → r ≡ Some m
+shown-back m (Some k) h t = ap Some (typed_one (board_text m) k m t (shown_typed m h))
+shown-back m None h n = absurd (n m (shown_typed m h))
 
 -- ---- a list as it is put
 more-text : (is : List ℕ) (k : ℕ) → more_text (is ++ (k ∷ [])) ≡ more_text is ++ (44 ∷ name_of k)
@@ -105,10 +104,19 @@ list-more (i ∷ is) k start at e =
     rw (ne_eqb at start (λ same. omega arith))
     (ap (λ (x : List ℕ). name_of i ++ x) (more-text is k) ∙ sym (append_assoc (name_of i) (more_text is) (44 ∷ name_of k)))
 
-pub below_more : (m i start at : ℕ) → at ≡ start + length (list_text (seen_below m i)) → list_text (seen_below m (i + 1)) ≡ list_text (seen_below m i) ++ next_text m start at i
+below_more : (m i start at : ℕ) → at ≡ start + length (list_text (seen_below m i)) → list_text (seen_below m (i + 1)) ≡ list_text (seen_below m i) ++ next_text m start at i
 unfolding next_text pick
 below_more m i start at e = ap (λ (k : ℕ). list_text (seen_below m k)) (add-one i) ∙ go (bit m i)
   where
     go : (b : Bool) → list_text (seen_below m i ++ pick b (i ∷ []) []) ≡ list_text (seen_below m i) ++ pick b (pick (eqb at start) (name_of i) (44 ∷ name_of i)) []
     go true = list-more (seen_below m i) i start at e
     go false = ap list_text (append-nil (seen_below m i)) ∙ sym (append-nil (list_text (seen_below m i)))
+
+-- the list with the next proposition put behind it
+pub list_put : (m i start : ℕ) (out reached out' : List ℕ) → start ≡ length out → reached ≡ out ++ list_text (seen_below m i)
+    → out' ≡ reached ++ next_text m start (length reached) i → out' ≡ out ++ list_text (seen_below m (i + 1))
+list_put m i start out reached out' s p q =
+    let next = next_text m start (length reached) i in
+    let long = length-append out (list_text (seen_below m i)) in
+    let more = below_more m i start (length reached) (ap length p ∙ omega arith) in
+    q ∙ ap (λ (x : List ℕ). x ++ next) p ∙ append_assoc out (list_text (seen_below m i)) next ∙ ap (λ (x : List ℕ). out ++ x) (sym more)

@@ -1,11 +1,9 @@
 -- How a list of propositions is read, byte by byte. That this reads the boards as they are typed is proved; nobody has to believe it.
 -- Assumes nothing: these are definitions.
-use Rattle.std.specs.Prelude.{Bool, List, [], ◌∷◌, ℕ, ◌+◌, ◌*◌, ◌-◌, ◌^◌, length, get_or, ltb, eqb}
+use Rattle.std.specs.Prelude.{Option, Some, None, Bool, List, [], ◌∷◌, ℕ, ◌+◌, ◌*◌, ◌-◌, ◌^◌, length, get_or, ltb, eqb}
 use Rattle.std.specs.Int.Bits.{bit_or}
 use Rattle.lists.specs.Tests.{pick, both, in_range}
 use Rattle.limits.specs.Limits.{propositions_most}
-use Rattle.spelling.specs.declared.BoardAnswer.{BoardAnswer}
-use Rattle.spelling.specs.declared.BoardAnswer.TheVariants.{NoBoard, Sees}
 use Rattle.spelling.specs.declared.typed.NameStage.{NameStage}
 use Rattle.spelling.specs.declared.typed.NameStage.TheVariants.{Name, First, Second, Full, Wrong}
 use Rattle.spelling.specs.declared.typed.ListRead.{ListRead}
@@ -15,16 +13,16 @@ unfoldable pub digit_of : ℕ → ℕ
 digit_of c = pick (ltb c 48) 10 (pick (ltb 57 c) 10 (c - 48))
 
 -- the mask with a proposition more, where there is one of this number
-unfoldable pub with_name : ℕ → ℕ → BoardAnswer
-with_name mask n = pick (ltb n propositions_most) (Sees (bit_or mask (2 ^ n))) NoBoard
+unfoldable pub with_name : ℕ → ℕ → Option ℕ
+with_name mask n = pick (ltb n propositions_most) (Some (bit_or mask (2 ^ n))) None
 
 abbrev pub list_read : NameStage → ℕ → ListRead
 list_read stage mask = record { stage = stage; mask = mask }
 
 -- behind the comma that follows a name
-abbrev pub behind : ℕ → BoardAnswer → ListRead
-behind mask (Sees more) = list_read Name more
-behind mask NoBoard = list_read Wrong mask
+abbrev pub behind : ℕ → Option ℕ → ListRead
+behind mask (Some more) = list_read Name more
+behind mask None = list_read Wrong mask
 
 -- ---- a byte more
 abbrev pub at_name : ℕ → ℕ → ListRead
@@ -51,15 +49,15 @@ turned c (Full n) mask = at_full c n mask
 turned c Wrong mask = list_read Wrong mask
 
 -- ---- the end of the text
-abbrev pub ended : NameStage → ℕ → BoardAnswer
-ended Name mask = NoBoard
-ended First mask = NoBoard
+abbrev pub ended : NameStage → ℕ → Option ℕ
+ended Name mask = None
+ended First mask = None
 ended (Second n) mask = with_name mask n
 ended (Full n) mask = with_name mask n
-ended Wrong mask = NoBoard
+ended Wrong mask = None
 
 -- ---- all bytes that are left
-abbrev pub spelled : List ℕ → ListRead → BoardAnswer
+abbrev pub spelled : List ℕ → ListRead → Option ℕ
 spelled [] s = ended s.stage s.mask
 spelled (c ∷ t) s = spelled t (turned c s.stage s.mask)
 

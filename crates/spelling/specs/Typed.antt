@@ -1,13 +1,11 @@
 -- A board as it is typed: `-`, or the names of some propositions, parted by commas. Others use `name_of`, `board_text`, `Typed` and
 -- `TypedAs`. Assumes nothing: these are definitions.
-use Rattle.std.specs.Prelude.{◌≡◌, List, [], ◌∷◌, ◌++◌, map, ℕ, zero, suc, ◌<◌, ◌^◌, eqb}
+use Rattle.std.specs.Prelude.{◌≡◌, Option, Some, None, List, [], ◌∷◌, ◌++◌, map, ℕ, zero, suc, ◌<◌, ◌^◌, eqb}
 use Rattle.lists.specs.Tests.{pick, bit}
 use Rattle.limits.specs.Limits.{propositions_most}
 use Rattle.masks.specs.Masks.{union_with}
 use Rattle.kinds.specs.declared.Leaf.TheVariants.{Prop}
 use Rattle.text.specs.Printing.{leaf_text}
-use Rattle.spelling.specs.declared.BoardAnswer.{BoardAnswer}
-use Rattle.spelling.specs.declared.BoardAnswer.TheVariants.{NoBoard, Sees}
 
 -- a proposition's name, as in a rule's text: the letter p, and its number
 unfoldable pub name_of : ℕ → List ℕ
@@ -38,9 +36,9 @@ pub data Typed (text : List ℕ) (mask : ℕ) : Type 0 where
   some : (i : ℕ) (is : List ℕ) → Propositions (i ∷ is) → text ≡ list_text (i ∷ is) → mask ≡ mask_of (i ∷ is) → Typed text mask
 
 -- a text read: the mask of the board that it is, or no board where it is none
-abbrev pub TypedAs : List ℕ → BoardAnswer → Type 0
-TypedAs text (Sees mask) = Typed text mask
-TypedAs text NoBoard = (mask : ℕ) → Typed text mask → ⊥
+abbrev pub TypedAs : List ℕ → Option ℕ → Type 0
+TypedAs text (Some mask) = Typed text mask
+TypedAs text None = (mask : ℕ) → Typed text mask → ⊥
 
 -- ---- the text that a mask is shown as
 -- the propositions of a mask below k, the lowest first

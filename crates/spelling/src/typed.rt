@@ -1,9 +1,8 @@
 // A board's text read as its mask, byte by byte.
-ghost use Rattle.std.specs.Prelude.{◌≡◌, ◌<◌, ◌≤◌};
+ghost use Rattle.std.specs.Prelude.{◌≡◌, ◌≤◌};
 ghost use Rattle.spelling.specs.Typed.{TypedAs};
 ghost use Rattle.spelling.specs.Reading.{digit_of, with_name, behind, at_name, at_first, second_digit, at_second, at_full, turned, ended, spelled, at_start, is_dash};
 
-use crate::BoardAnswer;
 use limits::PROPOSITIONS_MOST;
 
 // What must come next: a name, the first digit of a number, what may follow one digit, what may follow two. Nothing follows what is
@@ -24,122 +23,109 @@ pub struct ListRead {
     pub mask: u64,
 }
 
-fn wide(x: u8) -> u64
-    ensures { (result ≡ x) × (result < 256) }
-{
-    x as u64
-}
-
-// A digit's value, and 10 of a byte that is none.
+// A digit's value, and 10 of a byte that is none, as the definition of the same name has it.
+#[tactic(auto, unfolding(crate::specs::Reading::digit_of, lists::specs::Tests::pick))]
 fn digit(c: u8) -> u64
     ensures { (result ≡ digit_of c) × (result ≤ 10) }
 {
-    if c < 48 {
-        return 10;
+    if c.is_ascii_digit() {
+        u64::from(c - b'0')
+    } else {
+        10
     }
-    if 57 < c {
-        return 10;
-    }
-    wide(c - 48)
 }
 
 // The mask with a proposition more, where there is one of this number.
-fn with_name(mask: u64, number: u64) -> BoardAnswer
+#[tactic(auto, using(masks::proofs::Bits::one_shifted), unfolding(crate::specs::Reading::with_name, lists::specs::Tests::pick))]
+fn with_name(mask: u64, number: u64) -> Option<u64>
     ensures { result ≡ with_name mask number }
 {
     if number < PROPOSITIONS_MOST as u64 {
-        return BoardAnswer::Sees(mask | 1u64 << number);
+        Some(mask | 1 << number)
+    } else {
+        None
     }
-    BoardAnswer::NoBoard
 }
 
 // Behind the comma that follows a name.
 fn behind_comma(mask: u64, number: u64) -> ListRead
     ensures { result ≡ behind mask (with_name mask number) }
 {
-    let answer = with_name(mask, number);
-    match answer {
-        BoardAnswer::NoBoard => ListRead {
-            stage: NameStage::Wrong,
-            mask: mask,
-        },
-        BoardAnswer::Sees(more) => ListRead {
+    match with_name(mask, number) {
+        Some(mask) => ListRead {
             stage: NameStage::Name,
-            mask: more,
+            mask,
+        },
+        None => ListRead {
+            stage: NameStage::Wrong,
+            mask,
         },
     }
 }
 
+#[tactic(auto, unfolding(lists::specs::Tests::pick))]
 fn at_name(c: u8, mask: u64) -> ListRead
     ensures { result ≡ at_name c mask }
 {
-    if c == b'p' {
-        return ListRead {
-            stage: NameStage::First,
-            mask: mask,
-        };
-    }
-    ListRead {
-        stage: NameStage::Wrong,
-        mask: mask,
-    }
+    let stage = if c == b'p' {
+        NameStage::First
+    } else {
+        NameStage::Wrong
+    };
+    ListRead { stage, mask }
 }
 
+#[tactic(auto, unfolding(lists::specs::Tests::pick))]
 fn at_first(c: u8, mask: u64) -> ListRead
     ensures { result ≡ at_first c mask }
 {
     let d = digit(c);
-    if d < 10 {
-        return ListRead {
-            stage: NameStage::Second(d),
-            mask: mask,
-        };
-    }
-    ListRead {
-        stage: NameStage::Wrong,
-        mask: mask,
-    }
+    let stage = if d < 10 {
+        NameStage::Second(d)
+    } else {
+        NameStage::Wrong
+    };
+    ListRead { stage, mask }
 }
 
 // A number of two digits begins with 1 to 9.
+#[tactic(auto, unfolding(lists::specs::Tests::pick, lists::specs::Tests::both))]
 fn second_digit(c: u8, number: u64) -> NameStage
     ensures { result ≡ second_digit c number }
 {
-    if number < 1 {
-        return NameStage::Wrong;
-    }
-    if 9 < number {
-        return NameStage::Wrong;
-    }
     let d = digit(c);
-    if d < 10 {
-        return NameStage::Full(10 * number + d);
+    if 1 <= number && number <= 9 && d < 10 {
+        NameStage::Full(10 * number + d)
+    } else {
+        NameStage::Wrong
     }
-    NameStage::Wrong
 }
 
+#[tactic(auto, unfolding(lists::specs::Tests::pick))]
 fn at_second(c: u8, number: u64, mask: u64) -> ListRead
     ensures { result ≡ at_second c number mask }
 {
     if c == b',' {
-        return behind_comma(mask, number);
-    }
-    let stage = second_digit(c, number);
-    ListRead {
-        stage: stage,
-        mask: mask,
+        behind_comma(mask, number)
+    } else {
+        ListRead {
+            stage: second_digit(c, number),
+            mask,
+        }
     }
 }
 
+#[tactic(auto, unfolding(lists::specs::Tests::pick))]
 fn at_full(c: u8, number: u64, mask: u64) -> ListRead
     ensures { result ≡ at_full c number mask }
 {
     if c == b',' {
-        return behind_comma(mask, number);
-    }
-    ListRead {
-        stage: NameStage::Wrong,
-        mask: mask,
+        behind_comma(mask, number)
+    } else {
+        ListRead {
+            stage: NameStage::Wrong,
+            mask,
+        }
     }
 }
 
@@ -147,43 +133,35 @@ fn at_full(c: u8, number: u64, mask: u64) -> ListRead
 fn turn(c: u8, before: ListRead) -> ListRead
     ensures { result ≡ turned c before.stage before.mask }
 {
-    let stage = before.stage;
-    let mask = before.mask;
-    match stage {
-        NameStage::Name => at_name(c, mask),
-        NameStage::First => at_first(c, mask),
-        NameStage::Second(number) => at_second(c, number, mask),
-        NameStage::Full(number) => at_full(c, number, mask),
+    match before.stage {
+        NameStage::Name => at_name(c, before.mask),
+        NameStage::First => at_first(c, before.mask),
+        NameStage::Second(number) => at_second(c, number, before.mask),
+        NameStage::Full(number) => at_full(c, number, before.mask),
         NameStage::Wrong => before,
     }
 }
 
 // The end of the text.
-fn end(last: ListRead) -> BoardAnswer
+fn end(last: ListRead) -> Option<u64>
     ensures { result ≡ ended last.stage last.mask }
 {
-    let stage = last.stage;
-    match stage {
-        NameStage::Name => BoardAnswer::NoBoard,
-        NameStage::First => BoardAnswer::NoBoard,
-        NameStage::Second(number) => with_name(last.mask, number),
-        NameStage::Full(number) => with_name(last.mask, number),
-        NameStage::Wrong => BoardAnswer::NoBoard,
+    match last.stage {
+        NameStage::Second(number) | NameStage::Full(number) => with_name(last.mask, number),
+        NameStage::Name | NameStage::First | NameStage::Wrong => None,
     }
 }
 
 // A list of names.
-fn list(text: &[u8]) -> BoardAnswer
+fn list(text: &[u8]) -> Option<u64>
     ensures { result ≡ spelled text.now at_start }
 {
     let mut reached = ListRead {
         stage: NameStage::Name,
         mask: 0,
     };
-    let mut i: usize = 0;
-    while i < text.len() {
-        reached = turn(text[i], reached);
-        i += 1;
+    for c in text {
+        reached = turn(*c, reached);
     }
     end(reached)
 }
@@ -191,18 +169,12 @@ fn list(text: &[u8]) -> BoardAnswer
 fn is_dash(text: &[u8]) -> bool
     ensures { result ≡ is_dash text.now }
 {
-    if text.len() != 1 {
-        return false;
-    }
-    text[0] == b'-'
+    text == b"-".as_slice()
 }
 
-// The board that a text is, of any bytes.
-pub fn board(text: &[u8]) -> BoardAnswer
+// The board that a text is, of any bytes: the mask that it sees, or none where it is no board.
+pub fn board(text: &[u8]) -> Option<u64>
     ensures { TypedAs text.now result }
 {
-    if is_dash(text) {
-        return BoardAnswer::Sees(0);
-    }
-    list(text)
+    if is_dash(text) { Some(0) } else { list(text) }
 }

@@ -16,6 +16,7 @@ pub fn spread(state: &[u8], c: Counts, owner: &[u8], u: &mut [u8], tags: &mut [u
 {
     let mut end = put_slot(state, c, 0, owner, u, tags);
     let mut i: usize = 0;
+    // A `while`: the end moves on with each slot that is put, and a range would keep the one that it began with.
     while i < end {
         let b = u[i];
         if Kind::HOLD <= b {

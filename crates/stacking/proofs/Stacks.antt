@@ -7,8 +7,6 @@ use mathlib.Core.List.{List, [], ◌∷◌, ◌++◌}
 use Prim.Native.Nat.{ℕ, zero, suc, ◌+◌, ◌-◌, ◌<◌, ◌≤◌}
 use native.Mathlib.Omega.{arith}
 use lib.ListN.{length, get_or, set, drop, length-set}
-use lib.Dec.{eqb}
-use borrow.Author.Tests.{eqb-false}
 use lib.Seq.{get_or-set_same, get_or-set_other, take-set-le, get_or-drop}
 use Rattle.limits.specs.Limits.{nodes_room}
 use Rattle.lists.proofs.Drops.{put-below, behind, drop-long}
@@ -201,8 +199,3 @@ module _ {f : Formula} {fs : List Formula} {p notes : List ℕ} {w : ℕ} (s : S
       (put-below p (w - 1) w 2 k i ∙ ap (2 ∷◌) (t.front.bytes ∙ ap (encode f ++◌) (sym t.others.bytes))) (length-set p (w - 1) 2) (length-set notes (w - 1) n) (omega arith)
       (get_or-set_same notes (w - 1) n 0 (omega arith) ∙ e ∙ (omega arith)) tt
       (λ q a. get_or-set_other notes (w - 1) q n 0 (λ h. omega arith)))
-
--- ---- the bytes of a join
-pub join-byte : (b : ℕ) → (b ≡ 3 → ⊥) → eqb b 4 ≡ false → (j : Join) → b ≡ join_code j → ⊥
-join-byte b n e And h = n h
-join-byte b n e Or h = eqb-false b 4 e h

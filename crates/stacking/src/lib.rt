@@ -29,7 +29,7 @@ pub fn negate(p: &mut [u8], notes: &mut [u16], w: usize) -> usize
         p[w] = 1 - a;
         return w;
     }
-    let n = buffers::wide(notes[w]);
+    let n = usize::from(notes[w]);
     let v = w - 1;
     p[v] = Kind::NOT;
     notes[v] = buffers::narrow(n + 1);
@@ -40,8 +40,5 @@ pub fn negate(p: &mut [u8], notes: &mut [u16], w: usize) -> usize
 pub fn is_join(b: u8) -> bool
     ensures { JoinByte b result }
 {
-    if b == Kind::AND {
-        return true;
-    }
-    b == Kind::OR
+    b == Kind::AND || b == Kind::OR
 }

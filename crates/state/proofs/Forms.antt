@@ -61,9 +61,6 @@ row_first φ = omega arith
 pub row-product : (φ : Form) (i : ℕ) → board_row φ * i ≤ 64 * i
 row-product Plain i = omega arith
 
-pub rows-most : (φ : Form) (i n : ℕ) → i < n → board_row φ * i + board_row φ ≤ board_row φ * n
-rows-most Plain i n l = omega arith
-
 pub boards-begin : (φ : Form) → board_at φ 0 ≡ boards_at
 unfolding board_at
 boards-begin Plain = omega arith

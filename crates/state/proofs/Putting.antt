@@ -1,4 +1,4 @@
--- What is put into a state's records: a sample (`sample-put`), the boards' records (`board-put`, `boards-more`, `boards-all`), the
+-- What is put into a state's records: a sample (`sample-put`), the boards' records (`board-put`, `boards-more`), the
 -- header with them (`front-put`), and a slot's record (`record-put`). Assumes nothing.
 use mathlib.Core.Path.{◌≡◌, refl, sym, ap, ap₂, ◌∙◌}
 use mathlib.Core.List.{List, [], ◌∷◌, ◌++◌, append_assoc, append-nil}
@@ -6,7 +6,7 @@ use Prim.Native.Nat.{ℕ, suc, ◌+◌, ◌-◌, ◌*◌, ◌<◌, ◌≤◌}
 use native.Mathlib.Numerals.{add-one}
 use native.Mathlib.Omega.{arith}
 use lib.ListN.{length, get_or, take, drop, set, replicate, length-append, length-drop, length-replicate}
-use lib.Seq.{drop-cons, set_at, take-suc, take_all, drop-drop, length-take-le}
+use lib.Seq.{drop-cons, set_at, take-suc, drop-drop, length-take-le}
 use Rattle.lists.specs.Runs.{tail, tail_as}
 use Rattle.lists.proofs.Stretches.{put_next, put-more}
 use Rattle.le.specs.Le.{le}
@@ -66,9 +66,6 @@ records-append : (φ : Form) (ms ns : List ℕ) → board_records φ (ms ++ ns) 
 records-append φ [] ns = refl
 records-append φ (m ∷ ms) ns = ap (board_record φ m ++◌) (records-append φ ms ns) ∙ sym (append_assoc (board_record φ m) (board_records φ ms) (board_records φ ns))
 
-pub boards-none : (φ : Form) (out : List ℕ) → out ≡ drop (board_row φ * 0) out
-boards-none φ out = let e : 0 ≡ board_row φ * 0 = omega arith in ap (λ (n : ℕ). drop n out) e
-
 -- the records of the first i boards, and the next one behind them
 module _ (φ : Form) (ms out s : List ℕ) (i : ℕ) (so_far : s ≡ board_records φ (take i ms) ++ drop (board_row φ * i) out) where
   pub boards-more : i < length ms → (at : ℕ) (x : List ℕ) → at ≡ board_row φ * i → x ≡ board_record φ (get_or ms i 0) ++ drop (board_row φ) (tail at s)
@@ -82,9 +79,6 @@ module _ (φ : Form) (ms out s : List ℕ) (i : ℕ) (so_far : s ≡ board_recor
       ∙ sym (records-append φ (take i ms) (get_or ms i 0 ∷ []))
       ∙ ap (board_records φ) (sym (ap (λ (k : ℕ). take k ms) (add-one i) ∙ take-suc ms i 0 h)) in
       ap (λ (j : ℕ). tail_as j s x) p ∙ put-more out s (board_records φ (take i ms)) (board_record φ (get_or ms i 0)) x here (board_row φ) n so_far (e ∙ ap (λ (j : ℕ). board_record φ (get_or ms i 0) ++ drop (board_row φ) (tail j s)) p) ∙ ap₂ (λ (u : List ℕ) (j : ℕ). u ++ drop j out) one_more next
-
-  pub boards-all : i ≡ length ms → s ≡ board_records φ ms ++ drop (board_row φ * length ms) out
-  boards-all e = so_far ∙ ap₂ (λ (u : List ℕ) (j : ℕ). board_records φ u ++ drop (board_row φ * j) out) (take_all i ms (omega arith)) e
 
 -- ---- the header, and the boards' records behind it
 pub front-put : (φ : Form) (masks s t x : List ℕ) (slots nodes ticks : ℕ) → t ≡ state_header φ (length masks) slots nodes ticks ++ drop boards_at s

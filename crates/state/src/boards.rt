@@ -14,7 +14,7 @@ pub fn mask_of(s: &[u8], i: usize) -> u64
     requires { Formed s.now × (i < boards_most) }
     ensures { result ≡ mask_in s.now i }
 {
-    let form = Form::of(s.len());
+    let form = Form::from(s.len());
     le::u64_at(s, form.board_at(i))
 }
 
@@ -23,7 +23,7 @@ pub fn masks_of(s: &[u8], out: &mut [u64], n: usize)
     requires { Formed s.now × (n ≤ boards_most) × (n ≤ length out.old) }
     ensures { out.new ≡ listed (mask_in s.now) n ++ drop n out.old }
 {
-    let form = Form::of(s.len());
+    let form = Form::from(s.len());
     le::column(s, BOARDS_AT, form.board_row(), out, n);
 }
 
@@ -32,7 +32,7 @@ pub fn sample_of(s: &[u8], i: usize) -> u64
     requires { Formed s.now × (i < boards_most) }
     ensures { result ≡ sample_in s.now i }
 {
-    let form = Form::of(s.len());
+    let form = Form::from(s.len());
     le::u64_at(s, form.board_at(i) + 8)
 }
 
@@ -41,7 +41,7 @@ pub fn sampled_of(s: &[u8], i: usize) -> u8
     requires { Formed s.now × (i < boards_most) }
     ensures { result ≡ sampled_in s.now i }
 {
-    let form = Form::of(s.len());
+    let form = Form::from(s.len());
     s[form.board_at(i) + 16]
 }
 
@@ -50,7 +50,7 @@ pub fn put_sample(s: &mut [u8], i: usize, bits: u64)
     requires { Formed s.old × (i < boards_most) }
     ensures { s.new ≡ sample_given s.old i bits }
 {
-    let form = Form::of(s.len());
+    let form = Form::from(s.len());
     let at = form.board_at(i) + 8;
     le::put_u64(s, at, bits);
     s[at + 8] = 1;
@@ -72,10 +72,7 @@ pub fn put_boards(out: &mut [u8], form: Form, masks: &[u64])
     ensures { out.new ≡ board_records form masks.now ++ drop (board_row form * length masks.now) out.old }
 {
     let row = form.board_row();
-    let mut i: usize = 0;
-    while i < masks.len() {
-        let at = row * i;
-        put_board(&mut out[at..], form, masks[i]);
-        i += 1;
+    for (i, mask) in masks.iter().enumerate() {
+        put_board(&mut out[row * i..], form, *mask);
     }
 }

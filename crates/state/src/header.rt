@@ -18,13 +18,13 @@ pub fn counts_of(s: &[u8]) -> Counts
 {
     let boards = le::u16_at(s, 0) as usize;
     let slots = le::u16_at(s, 2) as usize;
-    let form = Form::of(s.len());
+    let form = Form::from(s.len());
     let records = form.board_at(boards);
     Counts {
-        boards: boards,
-        slots: slots,
+        boards,
+        slots,
         nodes: le::u16_at(s, 4) as usize,
-        records: records,
+        records,
         stretches: records + rows(slots),
     }
 }
@@ -57,7 +57,7 @@ pub fn put_front(s: &mut [u8], masks: &[u64], slots: usize, nodes: usize, ticks:
     ensures { (result ≡ slots_at (form_in s.old) (length masks.now)) × (s.new ≡ (state_header (form_in s.old) (length masks.now) slots nodes ticks ++ board_records (form_in s.old) masks.now) ++ drop (slots_at (form_in s.old) (length masks.now)) s.old) }
 {
     let b = masks.len();
-    let form = Form::of(s.len());
+    let form = Form::from(s.len());
     let records = form.board_at(b);
     le::put_header(
         s,

@@ -34,13 +34,16 @@ pub enum Form {
     Plain,
 }
 
-impl Form {
-    pub fn of(long: usize) -> Form
-        ensures { result ≡ form_of long }
-    {
+impl From<usize> for Form {
+    ghost from_gives = { λ length form. form ≡ form_of length };
+
+    #[tactic(auto, unfolding(crate::specs::Form::form_of))]
+    fn from(_length: usize) -> Form {
         Form::Plain
     }
+}
 
+impl Form {
     // The buffer's length.
     pub fn length(self) -> usize
         ensures { result ≡ state_length self }

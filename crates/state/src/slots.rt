@@ -75,7 +75,7 @@ pub fn span_of(s: &[u8], c: Counts, k: usize) -> Span
 {
     let from = c.stretches + start_of(s, c, k);
     Span {
-        from: from,
+        from,
         to: from + length_of(s, c, k),
     }
 }

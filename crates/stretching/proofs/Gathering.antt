@@ -14,11 +14,19 @@ use borrow.Author.Tests.{eq-eqb, ne_eqb}
 use Rattle.lists.specs.Tests.{pick}
 use Rattle.lists.specs.Listed.{listed}
 use Rattle.lists.proofs.Tests.{pick-ap, both_true}
-use Rattle.recordings.specs.Records.{Record, dropped, broken}
+use Rattle.recordings.specs.Records.{Record, mark_byte, dropped, broken}
+use Rattle.recordings.specs.declared.Mark.{Mark}
+use Rattle.recordings.specs.declared.Mark.TheVariants.{Kept, Dropped, Broken}
 use Rattle.recordings.specs.Mending.{before_break, first_stretch, mark_by}
 use Rattle.recordings.specs.Recording.{record_in}
 use Rattle.recordings.proofs.Places.{whole, whole-more, marks-listed, stretch-more, stretch-stops, stretch-few}
 use Rattle.stretching.specs.Stretch.{Gathers}
+
+-- another mark has another byte
+pub unbroken : (m : Mark) → (m ≡ Broken → ⊥) → mark_byte m ≡ broken → ⊥
+unbroken Kept n e = omega arith
+unbroken Dropped n e = omega arith
+unbroken Broken n e = n refl
 
 -- the records of the first stretch among the first i
 abbrev first_to : List ℕ → ℕ → List Record

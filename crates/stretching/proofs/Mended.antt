@@ -3,6 +3,8 @@
 -- recording itself begins with the same events (`stretch-either`). That the calls may answer so: `again-allowed`, `stretch-allowed`, `either-allowed`.
 -- What an accepted stretch has left in front: `stretch-taken` of any recording, `mended-taken` of the mended one. What an accepted call says:
 -- `mend-told`, `stretch-told`. Assumes nothing.
+use Rattle.std.specs.Prelude.{Result, Ok}
+use Rattle.answers.specs.declared.Refusal.{Refusal}
 use mathlib.Core.Path.{◌≡◌, sym, ap, ap₂, ◌∙◌, subst}
 use mathlib.Core.Bool.{true}
 use mathlib.Core.List.{List, [], ◌∷◌, ◌++◌, map, append-nil}
@@ -16,6 +18,7 @@ use Rattle.lists.proofs.Tests.{both-1, both_true}
 use Rattle.answers.specs.Said.{Said, accepted, left}
 use Rattle.answers.proofs.Answers.{left-accepted}
 use Rattle.le.proofs.Laws.{Bytes, le_at-less}
+use Rattle.recordings.specs.declared.Mended.{Mended}
 use Rattle.recordings.specs.Records.{Record}
 use Rattle.recordings.specs.Mending.{marks_of, not_dropped, kept_of, first_stretch, first_events, agree}
 use Rattle.recordings.specs.Recording.{records_at, recording_length, count_in, offset_in, total_in, fourth_in, record_in, records_in, total_ok, header_ok, recording_of}
@@ -24,14 +27,9 @@ use Rattle.recordings.proofs.Places.{kept-count}
 use Rattle.recordings.proofs.Bytes.{recording-length, header_read, records-read, records-fit, kept-fit}
 use Rattle.inspecting.proofs.Fits.{header-long}
 use Rattle.inspecting.proofs.Checks.{AllPassed, passed, says_all}
-use Rattle.mending.specs.declared.Mended.{Mended}
-use Rattle.mending.specs.declared.MendAnswer.{MendAnswer}
-use Rattle.mending.specs.declared.MendAnswer.TheVariants as mend-said
 use Rattle.mending.specs.Mend.{mend_room_ok, mend_says, mended_for, Mends}
 use Rattle.mending.proofs.Outcomes.{told_mend}
 use Rattle.mending.proofs.Determined.{mends-determined}
-use Rattle.stretching.specs.declared.StretchAnswer.{StretchAnswer}
-use Rattle.stretching.specs.declared.StretchAnswer.TheVariants.{Taken}
 use Rattle.stretching.specs.Stretch.{stretch_room_ok, stretch_says, events_for, Stretches}
 use Rattle.stretching.proofs.Outcomes.{told_stretch}
 use Rattle.stretching.proofs.Determined.{stretches-determined}
@@ -66,7 +64,7 @@ events-front : (s : List ℕ) (n k : ℕ) → n ≡ length (first_stretch (recor
 events-front s n k e =
     take_at (first_events (records_in s)) (replicate (k - length (first_events (records_in s))) 0) n (length-map (first_stretch (records_in s)) (λ (r : Record). r.event) ∙ sym e)
 
-pub stretch-taken : {s events events' : List ℕ} {n : ℕ} → Stretches s events events' (Taken n) → (n ≡ length (first_stretch (records_in s))) × (take n events' ≡ first_events (records_in s))
+pub stretch-taken : {s events events' : List ℕ} {n : ℕ} → Stretches s events events' (Ok n) → (n ≡ length (first_stretch (records_in s))) × (take n events' ≡ first_events (records_in s))
 stretch-taken {s} {events} {events'} {n} y =
     let told = stretch-told s (length events) (sym (ap (λ (a : Said). a.number) y.says)) in
     let e = ap (λ (a : Said). get_or a.values 0 0) (y.says ∙ told) in
@@ -91,7 +89,7 @@ module _ (rs : List Record) (few : recording_length (length rs) < 2 ^ 32) where
       (both_true _ _ (eq-eqb (total_in r) (recording_length (count_in r)) (h.total ∙ ap recording_length (sym h.count))) (eq-eqb (fourth_in r) 0 h.fourth))
 
 -- ---- the mended recording
-module _ {s mended marks mended' marks' : List ℕ} {m : Mended} (x : Mends s mended marks mended' marks' (mend-said.Mended m)) where
+module _ {s mended marks mended' marks' : List ℕ} {m : Mended} (x : Mends s mended marks mended' marks' (Ok m)) where
   passes : AllPassed (mend_room_ok s (length mended) (length marks)) s (told_mend s)
   passes = mend-passed s (length mended) (length marks) (sym (ap (λ (a : Said). a.number) x.says))
 
@@ -115,7 +113,7 @@ module _ {s mended marks mended' marks' : List ℕ} {m : Mended} (x : Mends s me
       ∙ take_at (recording_of ks) (replicate (length s - length (recording_of ks)) 0) (recording_length (length ks)) (recording-length ks)
 
   -- the recording itself
-  pub either-allowed : (events : List ℕ) → length events ≡ count_in s → Stretches s events (padded (count_in s) (first_events (records_in s))) (Taken m.first)
+  pub either-allowed : (events : List ℕ) → length events ≡ count_in s → Stretches s events (padded (count_in s) (first_events (records_in s))) (Ok m.first)
   either-allowed events room =
       let p = passes in
       let e = stretch-all s (length events) (record { total = p.total; lengths-ok = eq-eqb (length events) (count_in s) room; header = p.header; agrees = p.agrees }) in
@@ -124,10 +122,10 @@ module _ {s mended marks mended' marks' : List ℕ} {m : Mended} (x : Mends s me
         leaves = sym (ap (λ (a : Said). left a (events_for s) events) e ∙ left-accepted _ (events_for s) events);
       }
 
-  pub stretch-either : {events events' : List ℕ} {answer : StretchAnswer} → length events ≡ count_in s → Stretches s events events' answer
-      → (answer ≡ Taken m.first) × (take m.first events' ≡ first_events (records_in s))
+  pub stretch-either : {events events' : List ℕ} {answer : Result ℕ Refusal} → length events ≡ count_in s → Stretches s events events' answer
+      → (answer ≡ Ok m.first) × (take m.first events' ≡ first_events (records_in s))
   stretch-either {events} {answer = answer} room y =
-      let d = stretches-determined answer (Taken m.first) y (either-allowed events room) in
+      let d = stretches-determined answer (Ok m.first) y (either-allowed events room) in
       (d.0, ap (take m.first) d.1 ∙ events-front s m.first (count_in s) first-is)
 
   module _ (b : Bytes s) where
@@ -154,7 +152,7 @@ module _ {s mended marks mended' marks' : List ℕ} {m : Mended} (x : Mends s me
 
     -- mended again
     pub again-allowed : (out list : List ℕ) → length out ≡ recording_length m.kept → length list ≡ m.kept
-        → Mends (take (recording_length m.kept) mended') out list (take (recording_length m.kept) mended') (not_dropped marks' marks') (mend-said.Mended m)
+        → Mends (take (recording_length m.kept) mended') out list (take (recording_length m.kept) mended') (not_dropped marks' marks') (Ok m)
     again-allowed out list room count =
         let rs = records_in s in
         let r = recording_of (kept_of rs) in
@@ -165,7 +163,7 @@ module _ {s mended marks mended' marks' : List ℕ} {m : Mended} (x : Mends s me
         let none : length r - length r ≡ 0 = omega arith in
         let bytes : mended_for r ≡ r =
         ap (λ (ks : List Record). padded (length r) (recording_of ks)) same ∙ ap (λ (k : ℕ). r ++ replicate {A = ℕ} k 0) none ∙ append-nil r in
-        subst (λ (t : List ℕ). Mends t out list t (not_dropped marks' marks') (mend-said.Mended m)) (sym cut-is)
+        subst (λ (t : List ℕ). Mends t out list t (not_dropped marks' marks') (Ok m)) (sym cut-is)
         (record {
           says = ap₂ (λ (k f : ℕ). accepted (k ∷ f ∷ [])) (kept-is ∙ ap length (sym same)) (first-is ∙ ap length (sym stretch-back)) ∙ sym e;
           leaves = sym (ap (λ (a : Said). left a (mended_for r) out) e ∙ left-accepted _ (mended_for r) out ∙ bytes);
@@ -173,30 +171,30 @@ module _ {s mended marks mended' marks' : List ℕ} {m : Mended} (x : Mends s me
               ∙ sym (ap (λ (a : Said). left a (marks_of (records_in r)) list) e ∙ left-accepted _ (marks_of (records_in r)) list);
         })
 
-    pub mended-again : {out list out' list' : List ℕ} {answer : MendAnswer} → length out ≡ recording_length m.kept → length list ≡ m.kept
+    pub mended-again : {out list out' list' : List ℕ} {answer : Result Mended Refusal} → length out ≡ recording_length m.kept → length list ≡ m.kept
         → Mends (take (recording_length m.kept) mended') out list out' list' answer
-        → (answer ≡ mend-said.Mended m) × (out' ≡ take (recording_length m.kept) mended') × (list' ≡ not_dropped marks' marks')
-    mended-again {out} {list} {answer = answer} room count y = mends-determined answer (mend-said.Mended m) y (again-allowed out list room count)
+        → (answer ≡ Ok m) × (out' ≡ take (recording_length m.kept) mended') × (list' ≡ not_dropped marks' marks')
+    mended-again {out} {list} {answer = answer} room count y = mends-determined answer (Ok m) y (again-allowed out list room count)
 
     -- its stretch
     pub stretch-allowed : (events : List ℕ) → length events ≡ m.kept
-        → Stretches (take (recording_length m.kept) mended') events (padded m.kept (first_events (records_in s))) (Taken m.first)
+        → Stretches (take (recording_length m.kept) mended') events (padded m.kept (first_events (records_in s))) (Ok m.first)
     stretch-allowed events room =
         let rs = records_in s in
         let r = recording_of (kept_of rs) in
         let e = stretch-all r (length events)
         (record { total = written-total (kept_of rs) few; lengths-ok = eq-eqb (length events) (count_in r) (room ∙ sym count-back); header = written-header (kept_of rs) few; agrees = agrees_back }) in
-        subst (λ (t : List ℕ). Stretches t events (padded m.kept (first_events rs)) (Taken m.first)) (sym cut-is)
+        subst (λ (t : List ℕ). Stretches t events (padded m.kept (first_events rs)) (Ok m.first)) (sym cut-is)
         (record {
           says = ap (λ (n : ℕ). accepted (n ∷ [])) (first-is ∙ ap length (sym stretch-back)) ∙ sym e;
           leaves = sym (ap (λ (a : Said). left a (events_for r) events) e ∙ left-accepted _ (events_for r) events ∙ ap₂ padded count-back (ap events_of stretch-back));
         })
 
-    pub mended-stretch : {events events' : List ℕ} {answer : StretchAnswer} → length events ≡ m.kept → Stretches (take (recording_length m.kept) mended') events events' answer
-        → (answer ≡ Taken m.first) × (events' ≡ padded m.kept (first_events (records_in s))) × (take m.first events' ≡ first_events (records_in s))
+    pub mended-stretch : {events events' : List ℕ} {answer : Result ℕ Refusal} → length events ≡ m.kept → Stretches (take (recording_length m.kept) mended') events events' answer
+        → (answer ≡ Ok m.first) × (events' ≡ padded m.kept (first_events (records_in s))) × (take m.first events' ≡ first_events (records_in s))
     mended-stretch {events} {answer = answer} room y =
-        let d = stretches-determined answer (Taken m.first) y (stretch-allowed events room) in
+        let d = stretches-determined answer (Ok m.first) y (stretch-allowed events room) in
         (d.0, d.1, ap (take m.first) d.1 ∙ events-front s m.first m.kept first-is)
 
-    pub mended-taken : {events events' : List ℕ} {n : ℕ} → Stretches (take (recording_length m.kept) mended') events events' (Taken n) → take n events' ≡ first_events (records_in s)
+    pub mended-taken : {events events' : List ℕ} {n : ℕ} → Stretches (take (recording_length m.kept) mended') events events' (Ok n) → take n events' ≡ first_events (records_in s)
     mended-taken y = (stretch-taken y).1 ∙ ap (λ (t : List ℕ). first_events (records_in t)) cut-is ∙ ap first_events read_back ∙ ap events_of (stretch-mended (records_in s))

@@ -34,14 +34,13 @@ fn settle_node(c: u8, seen: Seen, p: &mut [u8], notes: &mut [u16], w: usize) -> 
     requires { NodeAsk c seen p.old notes.old w }
     ensures { NodeSettles c seen p.old notes.old w p.new notes.new result }
 {
-    let k = Kind::of(c);
+    let k = Kind::from(c);
     match k {
         Kind::Zero(a) => stacking::push(resolving::leaf_under(a, seen), p, notes, w),
         Kind::One(o) => match o {
             Unary::Not => stacking::negate(p, notes, w),
             // Next and the temporal operators stay whole.
-            Unary::Next => w,
-            Unary::Ever(_) => w,
+            Unary::Next | Unary::Ever(_) => w,
         },
         Kind::Two(o) => match o {
             Binary::Joined(j) => joining::join(p, notes, w, c, deciding(j)),
@@ -57,10 +56,7 @@ fn kept_from(b: u8, a: usize) -> usize
     requires { a < 65536 }
     ensures { KeptFrom b a result }
 {
-    if b == Kind::NEXT {
-        return a + 1;
-    }
-    a
+    if b == Kind::NEXT { a + 1 } else { a }
 }
 
 // Nothing is known of the left operands of a formula of m bytes at v.
@@ -70,7 +66,6 @@ fn forget(p: &[u8], notes: &mut [u16], v: usize, m: usize)
 {
     if stacking::is_join(p[v]) {
         buffers::clear_notes(notes, v, m);
-        return;
     }
 }
 
@@ -95,13 +90,17 @@ fn turn(p: &mut [u8], notes: &mut [u16], seen: Seen, i: usize, w: usize) -> Spot
     ensures { Turns seen p.old notes.old i w p.new notes.new result }
 {
     let j = i - 1;
-    let n = buffers::wide(notes[j]);
+    let n = usize::from(notes[j]);
     if n == 0 {
-        let v = settle_node(p[j], seen, p, notes, w);
-        return Spot { i: j, w: v };
+        return Spot {
+            i: j,
+            w: settle_node(p[j], seen, p, notes, w),
+        };
     }
-    let v = keep_whole(p, notes, i, n, w);
-    Spot { i: i - n, w: v }
+    Spot {
+        i: i - n,
+        w: keep_whole(p, notes, i, n, w),
+    }
 }
 
 // Resolves the formula that p is, with its outline beside it. What it becomes stands at the end of p, from the answer on.
@@ -109,12 +108,13 @@ pub fn sweep(p: &mut [u8], notes: &mut [u16], seen: Seen) -> usize
     requires { Outlining p.old notes.old }
     ensures { SettlesAll seen p.old p.new result }
 {
-    let mut i = p.len();
-    let mut w = p.len();
-    while 0 < i {
-        let t = turn(p, notes, seen, i, w);
-        i = t.i;
-        w = t.w;
+    let mut at = Spot {
+        i: p.len(),
+        w: p.len(),
+    };
+    // A `while`, since a part that stays whole is gone over in one turn.
+    while 0 < at.i {
+        at = turn(p, notes, seen, at.i, at.w);
     }
-    w
+    at.w
 }

@@ -1,13 +1,11 @@
 -- The average of some ticks. The tenths of a sum are ten times its whole ticks and those of the rest (`tenths-split`). So the code's whole
 -- ticks and tenths are those of the definition (`whole_is`, `tenths-is`). They fit 64 bits (`whole-fits`): of one tick there is no rest,
 -- and of more the whole ticks are at most half of the sum, and the rest at most one. Assumes nothing.
-use mathlib.Core.Path.{◌≡◌, sym, ap, subst, ◌∙◌}
-use mathlib.Core.List.{List}
+use mathlib.Core.Path.{◌≡◌, sym, ap, ◌∙◌}
 use Prim.Native.Nat.{ℕ, ◌+◌, ◌*◌, ◌/◌, ◌%◌, ◌^◌, ◌<◌}
 use native.Mathlib.Nat.{mod-lt, div-add-mod, mul-add-div, mul-add-mod_self_left, div-lt_iff_lt-mul, div-le_self, mod-one, mul-le-mul_right}
 use native.Mathlib.Decide.{dec_lt}
 use native.Mathlib.Omega.{arith}
-use Rattle.lines.specs.Lines.{Adds, decimal_of}
 use Rattle.tables.specs.Average.{tenths_of}
 
 module _ (sum n : ℕ) (some : 0 < n) where
@@ -41,7 +39,3 @@ module _ (sum n : ℕ) (some : 0 < n) where
           | yes l ↦ let half = mul-le-mul_right {m = 2} {n = n} (sum / n) (omega arith) in omega arith
           | no l ↦ let none = rest-one (omega arith) in let least = div-le_self sum n in omega arith
         ]
-
--- ---- as it is put
-pub decimal-as : (m n : ℕ) (line line' : List ℕ) (at r : ℕ) → m ≡ n → Adds (decimal_of m) line at line' r → Adds (decimal_of n) line at line' r
-decimal-as m n line line' at r is a = subst (λ (k : ℕ). Adds (decimal_of k) line at line' r) is a

@@ -1,6 +1,5 @@
 -- Laws of the cells, lines and pages of a report.
 pub mod Averages
-pub mod Putting
 pub mod Rows
 pub mod Columns
 pub mod Worked

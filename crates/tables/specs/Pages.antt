@@ -1,5 +1,5 @@
 -- The lines of a report, and its page. Assumes nothing: these are definitions.
-use Rattle.std.specs.Prelude.{List, [], ◌∷◌, ◌++◌, ℕ, zero, suc, ◌+◌, eqb}
+use Rattle.std.specs.Prelude.{List, [], ◌∷◌, ◌++◌, ℕ, zero, suc, eqb}
 use Rattle.lists.specs.Tests.{pick}
 use Rattle.limits.specs.Limits.{rules_most}
 use Rattle.lines.specs.Lines.{decimal_of, feed}

@@ -1,7 +1,11 @@
 // The average tick of the runs that were false, with one decimal.
 ghost use Rattle.std.specs.Prelude.{◌≡◌, ◌/◌, ◌%◌, ◌^◌, ◌<◌, ◌≤◌, length};
-ghost use Rattle.lines.specs.Lines.{Line};
 ghost use Rattle.tables.specs.Average.{tenths_of, average_text, average_most};
+
+use lines::TextBuffer;
+
+// Room for two numbers and a point.
+pub const AVERAGE_ROOM: usize = 41;
 
 // Whole ticks, and tenths behind them.
 #[derive(Clone, Copy)]
@@ -11,6 +15,7 @@ pub struct AverageTick {
 }
 
 // What a rest of the sum, less than a tick for each run, adds to the average: in tenths of a tick, to the nearest one.
+#[tactic(auto, unfolding(crate::specs::Average::tenths_of))]
 fn tenths(rest: u64, falses: u64) -> u64
     requires { (rest < falses) × (falses < 2 ^ 32) }
     ensures { result ≡ tenths_of rest falses }
@@ -30,13 +35,15 @@ fn average(sum: u64, falses: u64) -> AverageTick
     }
 }
 
-// Puts it at the front of a text: where it ends.
-pub fn put(text: &mut [u8], sum: u64, falses: u64) -> usize
-    requires { (average_most ≤ length text.old) × (0 < falses) × (falses < 2 ^ 32) }
-    ensures { Line (average_text sum falses) text.new result × (result ≤ average_most) }
+// The average as a text.
+pub fn text(sum: u64, falses: u64) -> TextBuffer<AVERAGE_ROOM>
+    requires { (0 < falses) × (falses < 2 ^ 32) }
+    ensures { (result ≡ average_text sum falses) × (length result ≤ average_most) }
 {
     let average = average(sum, falses);
-    let a = lines::number(text, 0, average.whole);
-    let b = lines::text(text, a, b".");
-    lines::number(text, b, average.tenths)
+    let mut text = TextBuffer::new();
+    text.number(average.whole);
+    text.put(b".");
+    text.number(average.tenths);
+    text
 }

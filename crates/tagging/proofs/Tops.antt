@@ -25,7 +25,8 @@ use Rattle.scores.specs.Owned.{Owned, owner_of}
 use Rattle.scores.specs.Scored.{one_scored, added}
 use Rattle.scores.specs.Tallies.{ScoredAs}
 use Rattle.scores.proofs.Counting.{scored-leaf, scored-one, scored-two, scored-chosen}
-use Rattle.cutting.specs.Cuts.{looked_as, code_of, choice_of, place_of, stays_on, Lies}
+use Rattle.scores.specs.Choice.{code_of, picked_by, stays_on}
+use Rattle.cutting.specs.Cuts.{looked_as, place_of, Lies}
 use Rattle.cutting.proofs.Choices.{chosen-below, chosen-one, chosen-left, chosen-right}
 use Rattle.cutting.proofs.Looking.{looked-by, place_is, place-own}
 use Rattle.tagging.specs.declared.TaggedPart.{TaggedPart}
@@ -87,7 +88,7 @@ leaf-over {on = on} (is_zero w e) o v = (
 module _ {owner tags : List ℕ} {f : Formula} {a : TaggedPart} (h : TaggedAs owner f boards_most tags a) where
   module _ (p q : ℕ) (masks : List ℕ) (o : Owned p masks owner) (w : Within p q f) where
     choice-is : a.board ≡ code_of (chosen masks f)
-    choice-is = h.board-is ∙ place-own boards_most (choice_of a.scores.counts) refl ∙ ap code_of (scored-chosen p q masks h.scored o w)
+    choice-is = h.board-is ∙ place-own boards_most (picked_by a.scores.counts) refl ∙ ap code_of (scored-chosen p q masks h.scored o w)
 
     -- its length in a slot
     shown-is : (g : Formula) (on b : ℕ) (counts : List ℕ) → highest none 0 0 counts ≡ chosen masks g → (chosen masks g ≡ none → chosen masks f ≡ none)
@@ -118,7 +119,7 @@ module _ {owner tags : List ℕ} {f : Formula} {a : TaggedPart} (h : TaggedAs ow
   showable = let r = h.reads in let n = h.few in let s = size-some f in record { some = omega arith; few = omega arith }
 
   pub not-asks : size f < nodes_room → NotAsk a
-  not-asks l = let r = h.reads in record { board-is = h.board-is ∙ place-own boards_most (choice_of a.scores.counts) refl; part = showable; reads = omega arith }
+  not-asks l = let r = h.reads in record { board-is = h.board-is ∙ place-own boards_most (picked_by a.scores.counts) refl; part = showable; reads = omega arith }
 
 -- ---- the tag on top
 -- the first tag is the new one, and the others stay

@@ -12,7 +12,8 @@ use Rattle.scores.specs.declared.Scores.{Scores}
 use Rattle.scores.specs.Scored.{added, counts_below}
 use Rattle.scores.specs.Owned.{Owned}
 use Rattle.scores.specs.Tallies.{ScoredAs}
-use Rattle.cutting.specs.Cuts.{looked_as, code_of, choice_of, place_of, stays_on, Lies}
+use Rattle.scores.specs.Choice.{code_of, picked_by, stays_on}
+use Rattle.cutting.specs.Cuts.{looked_as, place_of, Lies}
 use Rattle.tagging.specs.declared.TaggedPart.{TaggedPart}
 use Rattle.tagging.specs.Packed.{length_room, board_in, here_in, tag_of}
 
@@ -72,7 +73,7 @@ pub record Showable (a : TaggedPart) : Type 0 where
 
 -- a part that was tagged on its own choice, with room for a node in front of it
 pub record NotAsk (a : TaggedPart) : Type 0 where
-  pub board-is : a.board ≡ choice_of a.scores.counts
+  pub board-is : a.board ≡ picked_by a.scores.counts
   pub part : Showable a
   pub reads : a.read < nodes_room
 

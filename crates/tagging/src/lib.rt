@@ -12,9 +12,8 @@ ghost use Rattle.scores.specs.Scored.{one_scored};
 ghost use Rattle.tagging.specs.Packed.{length_room};
 ghost use Rattle.tagging.specs.Tags.{shown_as, Seals, NotAsk, PairAsk, TagOver, OverNot, OverPair, Whole, Tagging};
 
-use cutting::STAYS;
 use kinds::{Binary, Kind, Unary};
-use scores::Scores;
+use scores::{STAYS, Scores};
 
 // A part that was tagged: its length, its scores, the board that it is laid on, and its length in a slot there.
 #[derive(Clone, Copy)]
@@ -29,7 +28,7 @@ pub struct TaggedPart {
 fn shown(a: TaggedPart, board: u8) -> usize
     ensures { result ≡ shown_as a.board a.here board }
 {
-    if cutting::stays_on(a.board, board) {
+    if scores::stays_on(a.board, board) {
         a.here
     } else {
         1
@@ -43,10 +42,10 @@ fn seal(tags: &mut [u32], read: usize, scores: Scores, board: u8, here: usize) -
 {
     tags[0] = packed::tag_of(here, board);
     TaggedPart {
-        read: read,
-        scores: scores,
-        board: board,
-        here: here,
+        read,
+        scores,
+        board,
+        here,
     }
 }
 
@@ -55,9 +54,8 @@ fn over_not(tags: &mut [u32], a: TaggedPart, on: u8) -> TaggedPart
     requires { (0 < length tags.old) × NotAsk a }
     ensures { OverNot a on tags.old tags.new result }
 {
-    let scores = a.scores;
     let board = cutting::place_of(a.board, on);
-    seal(tags, 1 + a.read, scores, board, 1 + shown(a, board))
+    seal(tags, 1 + a.read, a.scores, board, 1 + shown(a, board))
 }
 
 // Two parts that were tagged, under a join.
@@ -65,10 +63,8 @@ fn over_pair(tags: &mut [u32], a: TaggedPart, c: TaggedPart, on: u8) -> TaggedPa
     requires { (0 < length tags.old) × PairAsk a c }
     ensures { OverPair a c on tags.old tags.new result }
 {
-    let left = a.scores;
-    let right = c.scores;
-    let scores = left.plus(right);
-    let board = cutting::place_of(cutting::choice_of(scores), on);
+    let scores = a.scores.plus(c.scores);
+    let board = cutting::place_of(scores.choice_or_stays(), on);
     let here = 1 + shown(a, board) + shown(c, board);
     seal(tags, 1 + a.read + c.read, scores, board, here)
 }
@@ -89,7 +85,7 @@ fn tag_whole(u: &[u8], tags: &mut [u32], owner: &[u8], on: u8) -> TaggedPart
 {
     let t = scores::tally(u, owner);
     let scores = t.scores;
-    let board = cutting::place_of(cutting::choice_of(scores), on);
+    let board = cutting::place_of(scores.choice_or_stays(), on);
     seal(tags, t.read, scores, board, t.read)
 }
 
@@ -98,7 +94,7 @@ pub fn tag(u: &[u8], tags: &mut [u32], owner: &[u8], on: u8) -> TaggedPart
     requires { Begins u.now × Table owner.now × (length u.now ≤ length tags.old) × (length u.now ≤ nodes_room) }
     ensures { Tagging owner.now u.now on tags.new result }
 {
-    let k = Kind::of(u[0]);
+    let k = Kind::from(u[0]);
     match k {
         Kind::Zero(a) => tag_leaf(tags, scores::owner_of(a, owner), on),
         Kind::One(o) => match o {

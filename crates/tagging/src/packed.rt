@@ -13,13 +13,15 @@ const LENGTH_ROOM: u32 = 8192;
 const NEAR_ROOM: u32 = 262144;
 
 // A board, and a length there. There is no distance.
+#[tactic(auto, unfolding(crate::specs::Packed::tag_of))]
 pub fn tag_of(here: usize, board: u8) -> u32
     requires { here < length_room }
     ensures { result ≡ tag_of here board }
 {
-    here as u32 * BOARD_ROOM + board as u32
+    here as u32 * BOARD_ROOM + u32::from(board)
 }
 
+#[tactic(auto, unfolding(crate::specs::Packed::board_in))]
 pub fn board_of(tag: u32) -> u8
     ensures { result ≡ board_in tag }
 {
@@ -27,6 +29,7 @@ pub fn board_of(tag: u32) -> u8
 }
 
 // The length in a slot on that board.
+#[tactic(auto, unfolding(crate::specs::Packed::here_in))]
 pub fn length_of(tag: u32) -> usize
     ensures { result ≡ here_in tag }
 {
@@ -34,6 +37,7 @@ pub fn length_of(tag: u32) -> usize
 }
 
 // How far on the held slot stands.
+#[tactic(auto, unfolding(crate::specs::Packed::ahead_in))]
 pub fn ahead_of(tag: u32) -> usize
     ensures { result ≡ ahead_in tag }
 {
@@ -41,6 +45,7 @@ pub fn ahead_of(tag: u32) -> usize
 }
 
 // The same board and length, and the held slot so far on.
+#[tactic(auto, unfolding(crate::specs::Packed::with_ahead))]
 pub fn with_ahead(tag: u32, ahead: usize) -> u32
     requires { ahead < ahead_room }
     ensures { result ≡ with_ahead tag ahead }

@@ -6,23 +6,23 @@ ghost use Rattle.state.specs.Calls.{finished_in};
 ghost use Rattle.state.specs.Opened.{Opened};
 ghost use Rattle.taking.specs.Sample.{Samples};
 
-use answers::{Outcome, Refusal};
+use answers::Refusal;
 use state::Counts;
 
-pub fn sample_going(state: &mut [u8], c: Counts, board: u64, bits: u64) -> Outcome
+pub fn sample_going(state: &mut [u8], c: Counts, board: u64, bits: u64) -> Result<(), Refusal>
     requires { Opened state.old c × (finished_in state.old ≡ false) }
     ensures { Samples state.old board bits state.new result }
 {
     if c.boards as u64 <= board {
-        return Outcome::Refused(Refusal::Nowhere);
+        return Err(Refusal::Nowhere);
     }
     let i = board as usize;
     if bits & state::mask_of(state, i) != bits {
-        return Outcome::Refused(Refusal::Outside);
+        return Err(Refusal::Outside);
     }
     if state::sampled_of(state, i) != 0 {
-        return Outcome::Refused(Refusal::Already);
+        return Err(Refusal::Already);
     }
     state::put_sample(state, i, bits);
-    Outcome::Done
+    Ok(())
 }

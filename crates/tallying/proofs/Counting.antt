@@ -19,7 +19,8 @@ use Rattle.reports.specs.Runs.{Run}
 use Rattle.reports.specs.Report.{those, came_to, ticks_of, chosen, summed}
 use Rattle.reports.proofs.Those.{those-hit, those-miss}
 use Rattle.reports.proofs.Figures.{Assoc, min_assoc, max_assoc, chosen-both, summed-both, of-first, of_some}
-use Rattle.tallying.specs.Tables.{highest_tick, count_at, chosen_from, TablesLong, TalliedRuns}
+use Rattle.tallying.specs.declared.RunTables.{RunTables}
+use Rattle.tallying.specs.Tables.{highest_tick, count_at, chosen_from, TalliedRuns}
 use Rattle.tallying.proofs.Runs.{came-hit, came-miss, ticks-hit, ticks-miss}
 
 -- a table with another number at k: what holds of the new one where j is k, and else of what stood at j, holds of what stands at j
@@ -47,7 +48,14 @@ chosen_more op assoc u (x ∷ ts) t e =
     rw (ne_eqb (length (x ∷ ts ++ (t ∷ []))) 0 (λ z. omega arith), ne_eqb (length (x ∷ ts)) 0 (λ z. omega arith))
     (chosen-both op assoc (x ∷ ts) (t ∷ []) ∙ of_some op (length ts) (chosen op (x ∷ ts)) 0 (chosen op (t ∷ [])) ∙ ap (op (chosen op (x ∷ ts))) (of-first op 0 t 0))
 
-module _ {xs : List Run} {counts earliest latest sums : List ℕ} (long : TablesLong counts earliest latest sums) (held : TalliedRuns xs counts earliest latest sums)
+-- the lengths of the tables, which their type has
+pub record Long (t : RunTables) : Type 0 where
+  pub counts : length t.counts ≡ rules_most * 3
+  pub earliest : length t.earliest ≡ rules_most
+  pub latest : length t.latest ≡ rules_most
+  pub sums : length t.sums ≡ rules_most
+
+module _ {xs : List Run} {t : RunTables} (long : Long t) (held : TalliedRuns xs t)
     {rule verdict : ℕ} (tick : ℕ) (rule-few : rule < rules_most) (verdict-few : verdict < 3) where
   abbrev x : Run
   x = record { rule = rule; verdict = verdict; tick = tick }
@@ -56,12 +64,12 @@ module _ {xs : List Run} {counts earliest latest sums : List ℕ} (long : Tables
   at = count_at verdict rule
 
   counts-more : (v : Verdict) (r : ℕ) → r < rules_most
-      → get_or (set counts at (get_or counts at 0 + 1)) (count_at (verdict_number v) r) 0 ≡ length (those (came_to r v) (xs ++ (x ∷ [])))
+      → get_or (set t.counts at (get_or t.counts at 0 + 1)) (count_at (verdict_number v) r) 0 ≡ length (those (came_to r v) (xs ++ (x ∷ [])))
   counts-more v r h =
-      let b = long.counts-long in
-      moved-elim (λ (n : ℕ). n ≡ length (those (came_to r v) (xs ++ (x ∷ [])))) counts at (count_at (verdict_number v) r) (get_or counts at 0 + 1) (omega arith)
+      let b = long.counts in
+      moved-elim (λ (n : ℕ). n ≡ length (those (came_to r v) (xs ++ (x ∷ [])))) t.counts at (count_at (verdict_number v) r) (get_or t.counts at 0 + 1) (omega arith)
       (λ e. let f : verdict ≡ verdict_number v = omega arith in let g : rule ≡ r = omega arith in
-      ap (λ (i : ℕ). get_or counts i 0 + 1) (sym e) ∙ ap (λ (n : ℕ). n + 1) (held.counted v r h) ∙ sym (count-hit xs x v r g f))
+      ap (λ (i : ℕ). get_or t.counts i 0 + 1) (sym e) ∙ ap (λ (n : ℕ). n + 1) (held.counted v r h) ∙ sym (count-hit xs x v r g f))
       (λ n. held.counted v r h ∙ sym (count-miss xs x v r (λ e f. n (omega arith))))
 
   -- a table with a figure of each rule's ticks: it goes on by f, which a tick of false changes and nothing else
@@ -83,39 +91,45 @@ module _ {xs : List Run} {counts earliest latest sums : List ℕ} (long : Tables
 
   -- the new number of each table, with the tick of a run that was false, and else with one that changes nothing
   abbrev lows : List ℕ
-  lows = set earliest rule (min (get_or earliest rule 0) (pick (eqb verdict 0) tick highest_tick))
+  lows = set t.earliest rule (min (get_or t.earliest rule 0) (pick (eqb verdict 0) tick highest_tick))
 
   abbrev highs : List ℕ
-  highs = set latest rule (max (get_or latest rule 0) (pick (eqb verdict 0) tick 0))
+  highs = set t.latest rule (max (get_or t.latest rule 0) (pick (eqb verdict 0) tick 0))
 
   abbrev totals : List ℕ
-  totals = set sums rule (get_or sums rule 0 + pick (eqb verdict 0) tick 0)
+  totals = set t.sums rule (get_or t.sums rule 0 + pick (eqb verdict 0) tick 0)
 
-  run-counted : get_or earliest rule 0 ≤ highest_tick → tick ≤ highest_tick → TalliedRuns (xs ++ (x ∷ [])) (set counts at (get_or counts at 0 + 1)) lows highs totals
+  run-counted : get_or t.earliest rule 0 ≤ highest_tick → tick ≤ highest_tick
+      → TalliedRuns (xs ++ (x ∷ [])) (record { counts = set t.counts at (get_or t.counts at 0 + 1); earliest = lows; latest = highs; sums = totals })
   unfolding summed
   run-counted low small =
       let more = length-append xs (x ∷ []) in
       let added : pick (eqb verdict 0) tick 0 ≤ highest_tick = pick-elim (λ (n : ℕ). n ≤ highest_tick) (eqb verdict 0) tick 0 (λ e. small) (λ e. omega arith) in
       record {
         counted = counts-more;
-        first = figure-more (chosen_from min highest_tick) min highest_tick (λ ts. chosen_more min min_assoc highest_tick ts tick (omega arith)) earliest long.earliest-long held.first (omega arith);
-        last = figure-more (chosen_from max 0) max 0 (λ ts. chosen_more max max_assoc 0 ts tick (omega arith)) latest long.latest-long held.last (omega arith);
-        total = figure-more summed ◌+◌ 0 (λ ts. let s = summed-both ts (tick ∷ []) in omega arith) sums long.sums-long held.total (omega arith);
+        first = figure-more (chosen_from min highest_tick) min highest_tick (λ ts. chosen_more min min_assoc highest_tick ts tick (omega arith)) t.earliest long.earliest held.first (omega arith);
+        last = figure-more (chosen_from max 0) max 0 (λ ts. chosen_more max max_assoc 0 ts tick (omega arith)) t.latest long.latest held.last (omega arith);
+        total = figure-more summed ◌+◌ 0 (λ ts. let s = summed-both ts (tick ∷ []) in omega arith) t.sums long.sums held.total (omega arith);
         small = λ r h.
-            moved-elim (λ (n : ℕ). n ≤ highest_tick * length (xs ++ (x ∷ []))) sums rule r (get_or sums rule 0 + pick (eqb verdict 0) tick 0) (let l = long.sums-long in omega arith)
+            moved-elim (λ (n : ℕ). n ≤ highest_tick * length (xs ++ (x ∷ []))) t.sums rule r (get_or t.sums rule 0 + pick (eqb verdict 0) tick 0) (let l = long.sums in omega arith)
             (λ q. let k = held.small rule rule-few in omega arith) (λ n. let k = held.small r h in omega arith);
       }
 
   -- with the numbers that the code has worked out
-  pub counted-as : {place : ℕ} → place ≡ at → get_or earliest rule 0 ≤ highest_tick → tick ≤ highest_tick → {low high a b c : ℕ} → low ≡ pick (eqb verdict 0) tick highest_tick → high ≡ pick (eqb verdict 0) tick 0
-      → a ≡ min (get_or earliest rule 0) low → b ≡ max (get_or latest rule 0) high → c ≡ high
-      → TalliedRuns (xs ++ (x ∷ [])) (set counts place (get_or counts place 0 + 1)) (set earliest rule a) (set latest rule b) (set sums rule (get_or sums rule 0 + c))
+  pub counted-as : {place : ℕ} → place ≡ at → get_or t.earliest rule 0 ≤ highest_tick → tick ≤ highest_tick → {low high a b c : ℕ} → low ≡ pick (eqb verdict 0) tick highest_tick → high ≡ pick (eqb verdict 0) tick 0
+      → a ≡ min (get_or t.earliest rule 0) low → b ≡ max (get_or t.latest rule 0) high → c ≡ high
+      → TalliedRuns (xs ++ (x ∷ []))
+      (record { counts = set t.counts place (get_or t.counts place 0 + 1); earliest = set t.earliest rule a; latest = set t.latest rule b; sums = set t.sums rule (get_or t.sums rule 0 + c) })
   counted-as {place} here l small {low} {high} {a} {b} {c} lo hi e f g =
-      let p : a ≡ min (get_or earliest rule 0) (pick (eqb verdict 0) tick highest_tick) = e ∙ ap (min (get_or earliest rule 0)) lo in
-      let q : b ≡ max (get_or latest rule 0) (pick (eqb verdict 0) tick 0) = f ∙ ap (max (get_or latest rule 0)) hi in
+      let p : a ≡ min (get_or t.earliest rule 0) (pick (eqb verdict 0) tick highest_tick) = e ∙ ap (min (get_or t.earliest rule 0)) lo in
+      let q : b ≡ max (get_or t.latest rule 0) (pick (eqb verdict 0) tick 0) = f ∙ ap (max (get_or t.latest rule 0)) hi in
       let r : c ≡ pick (eqb verdict 0) tick 0 = g ∙ hi in
-      let counts' = set counts at (get_or counts at 0 + 1) in
-      subst (λ (k : ℕ). TalliedRuns (xs ++ (x ∷ [])) (set counts k (get_or counts k 0 + 1)) (set earliest rule a) (set latest rule b) (set sums rule (get_or sums rule 0 + c))) (sym here)
-      (subst (λ (k : ℕ). TalliedRuns (xs ++ (x ∷ [])) counts' (set earliest rule k) (set latest rule b) (set sums rule (get_or sums rule 0 + c))) (sym p)
-      (subst (λ (k : ℕ). TalliedRuns (xs ++ (x ∷ [])) counts' lows (set latest rule k) (set sums rule (get_or sums rule 0 + c))) (sym q)
-      (subst (λ (k : ℕ). TalliedRuns (xs ++ (x ∷ [])) counts' lows highs (set sums rule (get_or sums rule 0 + k))) (sym r) (run-counted l small))))
+      let same : ◌≡◌ {A = RunTables} (record { counts = set t.counts at (get_or t.counts at 0 + 1); earliest = lows; latest = highs; sums = totals })
+      (record { counts = set t.counts place (get_or t.counts place 0 + 1); earliest = set t.earliest rule a; latest = set t.latest rule b; sums = set t.sums rule (get_or t.sums rule 0 + c) }) =
+      λ i. record {
+        counts = set t.counts (sym here i) (get_or t.counts (sym here i) 0 + 1);
+        earliest = set t.earliest rule (sym p i);
+        latest = set t.latest rule (sym q i);
+        sums = set t.sums rule (get_or t.sums rule 0 + sym r i);
+      } in
+      subst (TalliedRuns (xs ++ (x ∷ []))) same (run-counted l small)

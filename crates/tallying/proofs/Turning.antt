@@ -19,14 +19,14 @@ use Rattle.answers.specs.Said.{verdict_number}
 use Rattle.reports.specs.Runs.{Run, run_at, run_count, runs_in, is_known, known_front}
 use Rattle.reports.specs.Report.{came_to}
 use Rattle.reports.proofs.Those.{those-few}
-use Rattle.tallying.specs.Tables.{count_at, TablesLong, TalliedRuns, CountAsk, RunCounted, TallyAsk, Tallies}
+use Rattle.tallying.specs.declared.RunTables.{RunTables}
+use Rattle.tallying.specs.Tables.{count_at, TalliedRuns, CountAsk, RunCounted, Tallies}
 
 -- the first i runs are known, and counted
-pub record TalliedTo (s counts earliest latest sums : List ℕ) (i : ℕ) : Type 0 where
+pub record TalliedTo (s : List ℕ) (ts : RunTables) (i : ℕ) : Type 0 where
   pub short : i ≤ run_count s
   pub front : known_front (runs_in s) ≡ i + known_front (drop i (runs_in s))
-  pub long : TablesLong counts earliest latest sums
-  pub tables : TalliedRuns (take i (runs_in s)) counts earliest latest sums
+  pub tables : TalliedRuns (take i (runs_in s)) ts
 
 -- a verdict's number is that of a verdict
 verdict-of : (v : ℕ) → v < 3 → (w : Verdict) × (verdict_number w ≡ v)
@@ -45,15 +45,7 @@ not_known x n = go (ltb x.rule rules_most) refl (ltb x.verdict 3) refl
     go true e false f = refl
     go true e true f = absurd (n (ltb-true x.rule rules_most e) (ltb-true x.verdict 3 f))
 
--- tables that keep their lengths
-pub long-more : {c e l s c' e' l' s' : List ℕ} → TablesLong c e l s → length c' ≡ length c → length e' ≡ length e → length l' ≡ length l → length s' ≡ length s
-    → TablesLong c' e' l' s'
-long-more t p q r u = record { counts-long = p ∙ t.counts-long; earliest-long = q ∙ t.earliest-long; latest-long = r ∙ t.latest-long; sums-long = u ∙ t.sums-long }
-
-pub tallied-none : {s counts earliest latest sums : List ℕ} → TallyAsk s counts earliest latest sums → TalliedTo s counts earliest latest sums 0
-tallied-none a = record { short = omega arith; front = omega arith; long = a.long; tables = a.none }
-
-module _ {s counts earliest latest sums : List ℕ} {i : ℕ} (t : TalliedTo s counts earliest latest sums i) where
+module _ {s : List ℕ} {ts : RunTables} {i : ℕ} (t : TalliedTo s ts i) where
   -- ---- the next run
   module _ (inside : i < run_count s) where
     within : i < length (runs_in s)
@@ -72,7 +64,7 @@ module _ {s counts earliest latest sums : List ℕ} {i : ℕ} (t : TalliedTo s c
     long-taken = let w = within in length-take-le i (runs_in s) (omega arith)
 
     -- it is not known
-    stops : is_known (run_at s i) ≡ false → Tallies s counts earliest latest sums i
+    stops : is_known (run_at s i) ≡ false → Tallies s ts i
     unfolding known_front pick
     stops e =
         let z : known_front (drop i (runs_in s)) ≡ 0 = ap known_front ahead ∙ ap (λ (b : Bool). pick b (suc (known_front (drop (suc i) (runs_in s)))) 0) e in
@@ -81,48 +73,52 @@ module _ {s counts earliest latest sums : List ℕ} {i : ℕ} (t : TalliedTo s c
 
     module _ {rule verdict : ℕ} (rule-is : rule ≡ (run_at s i).rule) (verdict-is : verdict ≡ (run_at s i).verdict) where
       -- its count has no place in the table, or one among those of another verdict
-      pub place-stops : rules_most * 3 ≤ count_at verdict rule → Tallies s counts earliest latest sums i
+      pub place-stops : rules_most * 3 ≤ count_at verdict rule → Tallies s ts i
       place-stops h = stops (not_known (run_at s i) (λ few known. omega arith))
 
-      pub part-stops : (count_at verdict rule / rules_most ≡ verdict → ⊥) → Tallies s counts earliest latest sums i
+      pub part-stops : (count_at verdict rule / rules_most ≡ verdict → ⊥) → Tallies s ts i
       part-stops n = stops (not_known (run_at s i) (λ few known. n (omega arith)))
 
       -- it is known
       module _ (rule-few : rule < rules_most) (verdict-few : verdict < 3) where
-        pub run-asks : run_count s ≤ runs_most → CountAsk rule verdict (count_at verdict rule) counts earliest latest sums
+        pub run-asks : run_count s ≤ runs_most → CountAsk rule verdict (count_at verdict rule) ts
         run-asks few =
             let (v, e) = verdict-of verdict verdict-few in
             let n = long-taken in
             let c = t.tables.counted v rule rule-few in
             let h = those-few (came_to rule v) (take i (runs_in s)) in
-            let same : get_or counts (count_at verdict rule) 0 ≡ get_or counts (count_at (verdict_number v) rule) 0 = ap (λ (k : ℕ). get_or counts (count_at k rule) 0) (sym e) in
+            let same : get_or ts.counts (count_at verdict rule) 0 ≡ get_or ts.counts (count_at (verdict_number v) rule) 0 = ap (λ (k : ℕ). get_or ts.counts (count_at k rule) 0) (sym e) in
             let m = t.tables.small rule rule-few in
-            record { rule-few = rule-few; verdict-few = verdict-few; place_is = refl; long = t.long; few = omega arith; room = omega arith }
+            record { rule-few = rule-few; verdict-few = verdict-few; place_is = refl; few = omega arith; room = omega arith }
 
         known : is_known (run_at s i) ≡ true
         unfolding is_known both
         known = rw (lt-ltb (run_at s i).rule rules_most (omega arith), lt-ltb (run_at s i).verdict 3 (omega arith))
 
-        pub turn_more : {tick : ℕ} → tick ≡ (run_at s i).tick → {counts' earliest' latest' sums' : List ℕ} → TablesLong counts' earliest' latest' sums'
-            → RunCounted rule verdict tick counts earliest latest sums counts' earliest' latest' sums' → TalliedTo s counts' earliest' latest' sums' (i + 1)
+        pub turn_more : {tick : ℕ} → tick ≡ (run_at s i).tick → {ts' : RunTables} → RunCounted rule verdict tick ts ts' → TalliedTo s ts' (i + 1)
         unfolding known_front pick
-        turn_more {tick} tick_is {counts'} {earliest'} {latest'} {sums'} long more =
+        turn_more {tick} tick_is {ts'} more =
             let f = t.front in
             let z : known_front (drop i (runs_in s)) ≡ suc (known_front (drop (suc i) (runs_in s))) = ap known_front ahead ∙ ap (λ (b : Bool). pick b (suc (known_front (drop (suc i) (runs_in s)))) 0) known in
             let same : ◌≡◌ {A = Run} (record { rule = rule; verdict = verdict; tick = tick }) (run_at s i) = λ j. record { rule = rule-is j; verdict = verdict-is j; tick = tick_is j } in
-            let held = subst (λ (x : Run). TalliedRuns (take i (runs_in s) ++ (x ∷ [])) counts' earliest' latest' sums') same (more (take i (runs_in s)) t.tables) in
+            let held = subst (λ (x : Run). TalliedRuns (take i (runs_in s) ++ (x ∷ [])) ts') same (more (take i (runs_in s)) t.tables) in
             rw add-one (record {
               short = omega arith;
               front = omega arith;
-              long = long;
-              tables = subst (λ (l : List Run). TalliedRuns l counts' earliest' latest' sums') (sym taken) held;
+              tables = subst (λ (l : List Run). TalliedRuns l ts') (sym taken) held;
             })
 
   -- ---- behind the last
-  pub all_done : run_count s ≤ i → Tallies s counts earliest latest sums i
+  pub all_done : {n : ℕ} → n ≡ run_count s → n ≤ i → Tallies s ts n
   unfolding known_front
-  all_done h =
+  all_done {n} e h =
+      let short = t.short in
+      let same : i ≡ n = omega arith in
       let l = listed-length (run_at s) (run_count s) in
       let f = t.front in
       let z : known_front (drop i (runs_in s)) ≡ 0 = ap known_front (drop_of_length-le (runs_in s) {i = i} (omega arith)) in
-      record { front = omega arith; short = t.short; tables = t.tables }
+      record {
+        front = omega arith;
+        short = omega arith;
+        tables = subst (λ (k : ℕ). TalliedRuns (take k (runs_in s)) ts) same t.tables;
+      }

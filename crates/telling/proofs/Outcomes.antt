@@ -1,4 +1,5 @@
 -- What `ask` answers, one law for each outcome, and the verdict by the first node, over plain lists. Assumes nothing.
+use Rattle.std.specs.Prelude.{Ok, Err}
 use mathlib.Core.Path.{◌≡◌, sym, ◌∙◌}
 use mathlib.Core.Bool.{true, false}
 use mathlib.Core.List.{List}
@@ -21,7 +22,6 @@ use Rattle.records.proofs.Stretched.{some-length}
 use Rattle.records.proofs.Opened.{byte_at, opened-first}
 use Rattle.records.proofs.Passed.{passed-records}
 use Rattle.state.specs.Opened.{Opened}
-use Rattle.telling.specs.declared.AskAnswer.TheVariants.{Refused, Told}
 use Rattle.telling.specs.Ask.{Asks}
 
 -- ---- the verdict
@@ -50,11 +50,11 @@ module _ (s : List ℕ) (c : Counts) (o : Opened s c) where
     verdict-false q = rw (e, ← first_byte x, ne_eqb (get_or s from 0) 1 q)
 
 -- ---- the answer
-pub refused-state : (s : List ℕ) → state_ok s ≡ false → Asks s (Refused State)
+pub refused-state : (s : List ℕ) → state_ok s ≡ false → Asks s (Err State)
 unfolding ask_says
 refused-state s e = record { says = sym (order-refused 9 _ _ _ e) }
 
 pub told-so : (s : List ℕ) (v : Verdict) (ticks : ℕ) (c : Counts) → Opened s c → v ≡ verdict_in s → ticks ≡ ticks_in s
-    → Asks s (Told (record { verdict = v; ticks = ticks; slots = c.slots; nodes = c.nodes }))
+    → Asks s (Ok (record { verdict = v; ticks = ticks; slots = c.slots; nodes = c.nodes }))
 unfolding ask_says
 told-so s v ticks c o ev et = let h = o.header in record { says = rw (ev, et, h.slots-are, h.nodes-are) (sym (order-ok 9 _ _ _ o.passes ∙ order-done _)) }

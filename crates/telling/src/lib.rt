@@ -17,12 +17,6 @@ pub struct Standing {
     pub nodes: usize,
 }
 
-#[derive(Clone, Copy)]
-pub enum AskAnswer {
-    Refused(Refusal),
-    Told(Standing),
-}
-
 // The verdict of a watch that is finished: its one slot's one node.
 pub fn verdict(s: &[u8], c: Counts) -> Verdict
     requires { Opened s.now c × (finished_in s.now ≡ true) }
@@ -36,11 +30,11 @@ pub fn verdict(s: &[u8], c: Counts) -> Verdict
 }
 
 // The answer with this verdict.
-pub fn told(s: &[u8], c: Counts, verdict: Verdict) -> AskAnswer
+pub fn told(s: &[u8], c: Counts, verdict: Verdict) -> Result<Standing, Refusal>
     requires { Opened s.now c × (verdict ≡ verdict_in s.now) }
     ensures { Asks s.now result }
 {
-    AskAnswer::Told(Standing {
+    Ok(Standing {
         verdict: verdict,
         ticks: state::ticks_of(s),
         slots: c.slots,

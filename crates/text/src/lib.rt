@@ -25,7 +25,7 @@ pub fn level_of(o: Binary) -> u8
 
 // A blank, a sign in front of its operand, one between its operands, a bracket, the first letter of a constant, of a proposition, a
 // digit, or none of these.
-#[derive(Clone, Copy)]
+#[derive(Clone, Copy, Debug, PartialEq, Eq)]
 pub enum Sign {
     Blank,
     Prefix(Unary),
@@ -38,31 +38,31 @@ pub enum Sign {
     Other,
 }
 
-impl Sign {
-    pub fn of(b: u8) -> Sign
-        ensures { result ≡ sign_of b }
-    {
+impl From<u8> for Sign {
+    ghost from_gives = { λ b sign. sign ≡ sign_of b };
+
+    #[tactic(auto, unfolding(crate::specs::Signs::sign_of, lists::specs::Tests::pick))]
+    fn from(b: u8) -> Sign {
         match b {
-            32 => Sign::Blank,
-            9 => Sign::Blank,
-            10 => Sign::Blank,
-            13 => Sign::Blank,
-            33 => Sign::Prefix(Unary::Not),
-            88 => Sign::Prefix(Unary::Next),
-            70 => Sign::Prefix(Unary::Ever(Join::Or)),
-            71 => Sign::Prefix(Unary::Ever(Join::And)),
-            85 => Sign::Infix(Binary::Until),
-            38 => Sign::Infix(Binary::Joined(Join::And)),
-            124 => Sign::Infix(Binary::Joined(Join::Or)),
-            40 => Sign::Open,
-            41 => Sign::Close,
-            116 => Sign::Word(true),
-            102 => Sign::Word(false),
-            112 => Sign::Letter,
+            b' ' | b'\t' | b'\n' | b'\r' => Sign::Blank,
+            b'!' => Sign::Prefix(Unary::Not),
+            b'X' => Sign::Prefix(Unary::Next),
+            b'F' => Sign::Prefix(Unary::Ever(Join::Or)),
+            b'G' => Sign::Prefix(Unary::Ever(Join::And)),
+            b'U' => Sign::Infix(Binary::Until),
+            b'&' => Sign::Infix(Binary::Joined(Join::And)),
+            b'|' => Sign::Infix(Binary::Joined(Join::Or)),
+            b'(' => Sign::Open,
+            b')' => Sign::Close,
+            b't' => Sign::Word(true),
+            b'f' => Sign::Word(false),
+            b'p' => Sign::Letter,
             _ => Sign::digit_of(b),
         }
     }
+}
 
+impl Sign {
     // A byte that is none of the signs by name.
     fn digit_of(b: u8) -> Sign
         ensures { result ≡ digit_of b }

@@ -1,4 +1,5 @@
 -- The ways out of a tick: giving refuses (`tick-refused`), or it is accepted and the close answers (`tick-closed`). Assumes nothing.
+use Rattle.std.specs.Prelude.{Result, Ok, Err, ⊤}
 use mathlib.Core.Path.{◌≡◌, refl, sym, ap, ◌∙◌}
 use mathlib.Core.Bool.{Bool, true, false}
 use mathlib.Core.List.{List, [], ◌∷◌}
@@ -8,8 +9,6 @@ use lib.ListN.{length}
 use lib.Dec.{eqb}
 use borrow.Author.Tests.{eqb-true, eqb-false, eq-eqb}
 use Rattle.lists.specs.Tests.{pick}
-use Rattle.answers.specs.declared.Outcome.{Outcome}
-use Rattle.answers.specs.declared.Outcome.TheVariants.{Refused, Done}
 use Rattle.answers.specs.declared.Refusal.{Refusal}
 use Rattle.answers.specs.Said.{Said, accepted, left, number_of, said_outcome, check, in_order}
 use Rattle.answers.proofs.Answers.{number-some, order-ok, order-refused, order-done}
@@ -34,7 +33,7 @@ left-twice a x y = go (eqb a.number 0)
     go true = refl
     go false = refl
 
-module _ (s : List ℕ) (event : ℕ) (t : List ℕ) (x : Outcome) (c : Comes (given_passing s event) t x) where
+module _ (s : List ℕ) (event : ℕ) (t : List ℕ) (x : Result ⊤ Refusal) (c : Comes (given_passing s event) t x) where
   -- the calls were all accepted, or one was refused
   abbrev all : Bool
   all = eqb (given_under s event).says.number 0
@@ -58,7 +57,7 @@ module _ (s : List ℕ) (event : ℕ) (t : List ℕ) (x : Outcome) (c : Comes (g
   closes_as e = rw e
 
   -- where giving refuses so does the tick
-  module _ (why : Refusal) (is : x ≡ Refused why) (long : length s ≡ state_length (form_in t)) where
+  module _ (why : Refusal) (is : x ≡ Err why) (long : length s ≡ state_length (form_in t)) where
     -- all calls were accepted, so that the state fails which they have left: close says so
     broken : all ≡ true → (b : Bool) → state_ok (tick_leaves s event) ≡ b → said_outcome x ≡ tick_says s event
     unfolding close_says
@@ -81,7 +80,7 @@ module _ (s : List ℕ) (event : ℕ) (t : List ℕ) (x : Outcome) (c : Comes (g
     tick-refused z = record { says = refuses; leaves = sym (refused-leaves why (tick_says s event) _ s (sym (ap said_outcome is) ∙ refuses)); zeros = z }
 
   -- where it does not, the close follows
-  module _ (is : x ≡ Done) where
+  module _ (is : x ≡ Ok tt) where
     all-accepted : all ≡ true
     all-accepted = go all refl
       where
@@ -97,7 +96,7 @@ module _ (s : List ℕ) (event : ℕ) (t : List ℕ) (x : Outcome) (c : Comes (g
     pub given-leaves : t ≡ tick_leaves s event
     given-leaves = (came all-accepted).1
 
-    pub tick-closed : {k : Counts} {s' : List ℕ} {answer : Outcome} → ZeroFrom (end_of k) t → Closes t s s' answer → TicksOnce s k event s' t answer
+    pub tick-closed : {k : Counts} {s' : List ℕ} {answer : Result ⊤ Refusal} → ZeroFrom (end_of k) t → Closes t s s' answer → TicksOnce s k event s' t answer
     tick-closed {k} {s'} {answer} z h =
         let says : close_says t (length s) ≡ tick_says s event = ap (λ (u : List ℕ). close_says u (length s)) given-leaves ∙ sym (closes_as all-accepted) in
         record {

@@ -4,7 +4,7 @@
 
 ghost use Rattle.ticking.specs.Tick.{TickAsk, TicksOnce};
 
-use answers::Outcome;
+use answers::Refusal;
 use state::Counts;
 
 pub fn tick(
@@ -16,14 +16,11 @@ pub fn tick(
     owner: &[u8],
     u: &mut [u8],
     tags: &mut [u32],
-) -> Outcome
+) -> Result<(), Refusal>
     requires { TickAsk state.old c second.old masks.now owner.now u.old tags.old }
     ensures { TicksOnce state.old c event state.new second.new result }
 {
-    let given = giving::give(second, c, event);
-    let Outcome::Done = given else {
-        return given;
-    };
+    giving::give(second, c, event)?;
     closing::close_lent(
         second,
         c,

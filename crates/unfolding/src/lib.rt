@@ -5,7 +5,8 @@
 ghost use Rattle.std.specs.Prelude.{◌≡◌, ◌∷◌, ◌++◌, ◌+◌, ◌-◌, ◌<◌, ◌≤◌, length, set, take, drop};
 ghost use Rattle.kinds.specs.declared.Unary.TheVariants.{Next};
 ghost use Rattle.kinds.specs.Kinds.{unary_code};
-ghost use Rattle.outlining.specs.Outlined.{small_nodes, Outlined};
+ghost use Rattle.limits.specs.Limits.{nodes_room};
+ghost use Rattle.outlining.specs.Outlined.{Outlined};
 ghost use Rattle.unfolding.specs.Stages.{Busy, BusyHere, Turns, TurnsHere};
 ghost use Rattle.unfolding.specs.Unfolds.{Unfoldable, UnfoldWithin, UnfoldAsk, Unfolds};
 
@@ -33,6 +34,7 @@ pub fn unfold_outlined(out: &mut [u8], s: &[u8], notes: &mut [u16]) -> usize
     notes[k] = 0;
     let mut r: usize = 0;
     let mut w: usize = 0;
+    // A `while`: k goes up and down with what is still to be done, and the end is where nothing is.
     while k < n {
         let t = unfold_turn(out, s, r, w, notes, k);
         r = t.read;
@@ -48,24 +50,19 @@ pub fn unfold_into(out: &mut [u8], s: &[u8]) -> usize
     ensures { Unfolds out.old s.now out.new result }
 {
     if sizing::count_unfolded(s) <= SMALL_NODES {
-        return unfold_small(out, s);
+        unfold_with::<SMALL_NODES>(out, s)
+    } else {
+        unfold_with::<NODES_ROOM>(out, s)
     }
-    unfold_large(out, s)
 }
 
-fn unfold_small(out: &mut [u8], s: &[u8]) -> usize
-    requires { UnfoldWithin small_nodes out.old s.now }
+// With N of them. Each is filled at every call, so a small formula has few.
+fn unfold_with<const N: usize>(out: &mut [u8], s: &[u8]) -> usize
+    requires asks { UnfoldWithin N out.old s.now }
+    requires most { N ≤ nodes_room }
     ensures { Unfolds out.old s.now out.new result }
 {
-    let mut notes = [1u16; SMALL_NODES];
-    unfold_outlined(out, s, &mut notes)
-}
-
-fn unfold_large(out: &mut [u8], s: &[u8]) -> usize
-    requires { UnfoldAsk out.old s.now }
-    ensures { Unfolds out.old s.now out.new result }
-{
-    let mut notes = [1u16; NODES_ROOM];
+    let mut notes = [1u16; N];
     unfold_outlined(out, s, &mut notes)
 }
 
@@ -74,7 +71,7 @@ fn unfold_turn(out: &mut [u8], s: &[u8], r: usize, w: usize, notes: &mut [u16], 
     requires { Busy s.now out.old notes.old r w k }
     ensures { Turns s.now out.old notes.old r w k out.new notes.new result.read result.written result.top }
 {
-    let x = buffers::wide(notes[k]);
+    let x = usize::from(notes[k]);
     if x == 0 {
         return unfold_node(out, s, r, w, notes, k);
     }
@@ -116,7 +113,7 @@ fn unfold_node(out: &mut [u8], s: &[u8], r: usize, w: usize, notes: &mut [u16], 
     ensures { TurnsHere s.now out.old notes.old r w k out.new notes.new result.read result.written result.top }
 {
     let b = s[r];
-    let kind = Kind::of(b);
+    let kind = Kind::from(b);
     match kind {
         Kind::Zero(_) => {
             put_plain(out, notes, w, b);
@@ -146,7 +143,7 @@ fn unfold_node(out: &mut [u8], s: &[u8], r: usize, w: usize, notes: &mut [u16], 
                 }
             }
             Unary::Ever(j) => {
-                put_join(out, notes, w, Join::code(j), k, NODES_ROOM + r);
+                put_join(out, notes, w, u8::from(j), k, NODES_ROOM + r);
                 Cursor {
                     read: r + 1,
                     written: w + 1,

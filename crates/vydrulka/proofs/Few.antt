@@ -1,4 +1,6 @@
 -- What a call answers stays within the buffer that it is about. Assumes nothing.
+use Rattle.std.specs.Prelude.{Result, Ok, Err, ⊤}
+use Rattle.answers.specs.declared.Refusal.{Refusal}
 use mathlib.Core.Path.{◌≡◌, refl, sym, ap, subst, ◌∙◌}
 use mathlib.Core.List.{List, [], ◌∷◌}
 use Prim.Native.Nat.{ℕ, suc, ◌+◌, ◌*◌, ◌/◌, ◌≤◌, ◌<◌}
@@ -12,21 +14,14 @@ use Rattle.lists.proofs.Listed.{listed-length}
 use Rattle.limits.specs.Limits.{boards_most, rule_nodes_most, text_length}
 use Rattle.answers.specs.Said.{Said, accepted, refused, refused_with, in_order}
 use Rattle.rules.specs.declared.RuleCounts.{RuleCounts}
-use Rattle.rules.specs.declared.ReadAnswer.{ReadAnswer}
-use Rattle.rules.specs.declared.ReadAnswer.TheVariants.{Rule}
-use Rattle.rules.specs.declared.WriteAnswer.{WriteAnswer}
-use Rattle.rules.specs.declared.WriteAnswer.TheVariants.{Written}
 use Rattle.rules.specs.RuleFile.{file_most, total_of, boards_in_file, propositions_in_file, nodes_in_file}
 use Rattle.rules.specs.Read.{read_says, Reads}
 use Rattle.rules.specs.Write.{write_says, Writes}
 use Rattle.rules.proofs.Passed.{counts-passed}
 use Rattle.rules.proofs.ReadOutcomes.{read-passed}
 use Rattle.rules.proofs.WriteOutcomes.{write-passed}
-use Rattle.parsing.specs.declared.ParseAnswer.{ParseAnswer}
-use Rattle.parsing.specs.declared.ParseAnswer.TheVariants.{Parsed}
+use Rattle.parsing.specs.declared.ParseError.{ParseError}
 use Rattle.parsing.specs.Parse.{ParseSays, length-refused, text-refused, range-refused, parsed, Parses}
-use Rattle.printing.specs.declared.PrintAnswer.{PrintAnswer}
-use Rattle.printing.specs.declared.PrintAnswer.TheVariants.{Printed}
 use Rattle.printing.specs.Print.{print_says, Prints}
 use Rattle.nodes.proofs.Wholes.{whole}
 use Rattle.printing.proofs.Outcomes.{print-passed, printable, says-printed}
@@ -35,8 +30,8 @@ use Rattle.nodes.proofs.Fronts.{front_length}
 use Rattle.text.specs.Printing.{printed}
 use Rattle.text.proofs.Prints.{printed-few}
 use Rattle.reports.specs.Runs.{Run, run_length, run_at, run_count, runs_in, is_known, known_front}
-use Rattle.reporting.specs.declared.ReportAnswer.{ReportAnswer}
-use Rattle.reporting.specs.declared.ReportAnswer.TheVariants.{NoRun}
+use Rattle.reporting.specs.declared.ReportError.{ReportError}
+use Rattle.reporting.specs.declared.ReportError.TheVariants.{NoRun}
 use Rattle.reporting.specs.Report.{run_lengths_ok, report_says, Reports}
 
 -- ---- numbers and values of an answer
@@ -49,7 +44,7 @@ says-written : (masks : List ℕ) (p : ℕ) (formula : List ℕ) (room : ℕ) �
 unfolding write_says in_order pick
 says-written masks p formula room z = let o = write-passed masks p formula room z in rw (o.space, o.counts, o.rule, o.text)
 
-pub written-few : (masks : List ℕ) (p : ℕ) (formula file file' : List ℕ) (a : WriteAnswer) (n : ℕ) → a ≡ Written n → Writes masks p formula file file' a → n ≤ file_most
+pub written-few : (masks : List ℕ) (p : ℕ) (formula file file' : List ℕ) (a : Result ℕ Refusal) (n : ℕ) → a ≡ Ok n → Writes masks p formula file file' a → n ≤ file_most
 unfolding first
 written-few masks p formula file file' a n is x =
     let w = subst (Writes masks p formula file file') is x in
@@ -63,7 +58,7 @@ says-rule : (file : List ℕ) (m f : ℕ) → (read_says file m f).number ≡ 0 
 unfolding read_says in_order pick
 says-rule file m f z = let o = read-passed file m f z in rw (o.lengths, o.version, o.counts, o.offsets, o.masks, o.formula)
 
-pub read-few : (file masks formula masks' formula' : List ℕ) (a : ReadAnswer) (c : RuleCounts) → a ≡ Rule c → Reads file masks formula masks' formula' a
+pub read-few : (file masks formula masks' formula' : List ℕ) (a : Result RuleCounts Refusal) (c : RuleCounts) → a ≡ Ok c → Reads file masks formula masks' formula' a
     → (c.boards ≤ boards_most) × (c.nodes ≤ rule_nodes_most)
 read-few file masks formula masks' formula' a c is x =
     let r = subst (Reads file masks formula masks' formula') is x in
@@ -82,12 +77,12 @@ parsed-said (text-refused l x) z = absurd (omega arith)
 parsed-said (range-refused l x h) z = absurd (omega arith)
 parsed-said (parsed l x h) z = h
 
-pub parsed-few : (t d e : List ℕ) (a : ParseAnswer) (n : ℕ) → a ≡ Parsed n → Parses t d e a → n ≤ rule_nodes_most
+pub parsed-few : (t d e : List ℕ) (a : Result ℕ ParseError) (n : ℕ) → a ≡ Ok n → Parses t d e a → n ≤ rule_nodes_most
 unfolding first
 parsed-few t d e a n is x = parsed-said (subst (Parses t d e) is x) refl
 
 -- ---- print
-pub printed-within : (s text text' : List ℕ) (a : PrintAnswer) (n : ℕ) → a ≡ Printed n → Prints s text text' a → n ≤ text_length
+pub printed-within : (s text text' : List ℕ) (a : Result ℕ Refusal) (n : ℕ) → a ≡ Ok n → Prints s text text' a → n ≤ text_length
 unfolding first
 printed-within s text text' a n is x =
     let p = subst (Prints s text text') is x in
@@ -120,7 +115,7 @@ place-said s room =
     (λ e z. let few = front-few (runs_in s) in let less = eqb-false (known_front (runs_in s)) (length (runs_in s)) e in omega arith))
     (λ q z. absurd (omega arith))
 
-pub no-run-within : (runs report report' : List ℕ) (a : ReportAnswer) (k : ℕ) → a ≡ NoRun k → Reports runs report report' a → run_length * k + run_length ≤ length runs
+pub no-run-within : (runs report report' : List ℕ) (a : Result ⊤ ReportError) (k : ℕ) → a ≡ Err (NoRun k) → Reports runs report report' a → run_length * k + run_length ≤ length runs
 unfolding first
 no-run-within runs report report' a k is x =
     let r = subst (Reports runs report report') is x in

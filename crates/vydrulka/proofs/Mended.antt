@@ -1,6 +1,7 @@
 -- What `mend` and `stretch` answer of a recording: how many records a mended one has (`kept-within`), where a clash can be looked for
 -- (`clash-within`), and how many events the first stretch has (`taken-within`). Of the counts that are told: those of some of the marks
 -- (`counted-part`), and what they leave room for (`MendedFits`, `mended-fits`). Assumes nothing.
+use Rattle.std.specs.Prelude.{Result, Ok, Err, Option, Some, None}
 use mathlib.Core.Path.{◌≡◌, refl, sym, ap, subst, ◌∙◌}
 use mathlib.Core.Bool.{Bool, true, false}
 use mathlib.Core.List.{List}
@@ -18,17 +19,11 @@ use Rattle.recordings.specs.Recording.{recording_length, count_in, record_in, re
 use Rattle.recordings.proofs.Places.{kept-count, first_count}
 use Rattle.inspecting.proofs.Fits.{header-long}
 use Rattle.inspecting.proofs.Checks.{says-1, says-4, says_all, passed}
-use Rattle.mending.specs.declared.Mended.{Mended}
-use Rattle.mending.specs.declared.MendAnswer.{MendAnswer}
-use Rattle.mending.specs.declared.MendAnswer.TheVariants as mend
+use Rattle.recordings.specs.declared.Mended.{Mended}
 use Rattle.mending.specs.Mend.{mend_room_ok, mend_says, Mends}
 use Rattle.mending.proofs.Outcomes.{told_mend}
-use Rattle.stretching.specs.declared.StretchAnswer.{StretchAnswer}
-use Rattle.stretching.specs.declared.StretchAnswer.TheVariants.{Taken}
 use Rattle.stretching.specs.Stretch.{stretch_room_ok, stretch_says, Stretches}
 use Rattle.stretching.proofs.Outcomes.{told_stretch}
-use Rattle.vydrulka.specs.declared.recording.RecordingAnswer.{RecordingAnswer}
-use Rattle.vydrulka.specs.declared.recording.RecordingAnswer.TheVariants as told
 use Rattle.vydrulka.specs.declared.recording.RecordCounts.{RecordCounts}
 use Rattle.vydrulka.specs.Rooms.{records_most, RecordingRooms, CountedTo}
 
@@ -47,7 +42,7 @@ module _ (s mended marks mended' marks' : List ℕ) where
   marks-are : rooms ≡ true → length marks ≡ count_in s
   marks-are e = eqb-true (length marks) (count_in s) (both-1 _ _ e)
 
-  pub kept-within : (a : MendAnswer) (m : Mended) → a ≡ mend.Mended m → Mends s mended marks mended' marks' a → m.kept ≤ length marks
+  pub kept-within : (a : Result Mended Refusal) (m : Mended) → a ≡ Ok m → Mends s mended marks mended' marks' a → m.kept ≤ length marks
   unfolding mend_says number first
   kept-within a m is x =
       let w = subst (Mends s mended marks mended' marks') is x in
@@ -59,13 +54,13 @@ module _ (s mended marks mended' marks' : List ℕ) where
       omega arith
 
   -- header and length agree before a clash is looked for
-  pub clash-within : (a : MendAnswer) (r : Refusal) → a ≡ mend.Refused r → r ≡ Clash → Mends s mended marks mended' marks' a
+  pub clash-within : (a : Result Mended Refusal) (r : Refusal) → a ≡ Err r → r ≡ Clash → Mends s mended marks mended' marks' a
       → recording_length (length marks) ≤ length s
   unfolding mend_says number
   clash-within a r is why x = go (both (total_ok s) rooms) refl (header_ok s) refl
     where
       clash : number (mend_says s (length mended) (length marks)) ≡ 20
-      clash = sym (ap number (subst (Mends s mended marks mended' marks') (is ∙ ap mend.Refused why) x).says)
+      clash = sym (ap number (subst (Mends s mended marks mended' marks') (is ∙ ap Err why) x).says)
 
       go : (b : Bool) → both (total_ok s) rooms ≡ b → (h : Bool) → header_ok s ≡ h → recording_length (length marks) ≤ length s
       go true d true e = let long = header-long s (both-0 _ _ d) e in let m = marks-are (both-1 _ _ d) in omega arith
@@ -74,7 +69,7 @@ module _ (s mended marks mended' marks' : List ℕ) where
 
 -- ---- stretch
 module _ (s events events' : List ℕ) where
-  pub taken-within : (a : StretchAnswer) (n : ℕ) → a ≡ Taken n → Stretches s events events' a → n ≤ length events
+  pub taken-within : (a : Result ℕ Refusal) (n : ℕ) → a ≡ Ok n → Stretches s events events' a → n ≤ length events
   unfolding stretch_says number first
   taken-within a n is x =
       let w = subst (Stretches s events events') is x in
@@ -88,9 +83,9 @@ module _ (s events events' : List ℕ) where
 
 -- ---- counts
 -- of some of the marks, and so of all
-pub counted-part : (a : RecordingAnswer) (k : ℕ) (marks : List ℕ) {most : ℕ} → length marks ≡ most → CountedTo (length (take k marks)) a → CountedTo most a
-counted-part told.NotMended k marks e c = c
-counted-part (told.Mended n) k marks e c = let few = c.1 in let part = length-take k marks in (c.0, omega arith)
+pub counted-part : (a : Option RecordCounts) (k : ℕ) (marks : List ℕ) {most : ℕ} → length marks ≡ most → CountedTo (length (take k marks)) a → CountedTo most a
+counted-part None k marks e c = c
+counted-part (Some n) k marks e c = let few = c.1 in let part = length-take k marks in (c.0, omega arith)
 
 -- what was read, the mended recording and the marks stand within their rooms
 pub record MendedFits (c : RecordCounts) (room mended marks : List ℕ) : Type 0 where
@@ -100,7 +95,7 @@ pub record MendedFits (c : RecordCounts) (room mended marks : List ℕ) : Type 0
   pub marked : c.records ≤ length marks
   pub few : c.records ≤ records_most
 
-pub mended-fits : (a : RecordingAnswer) {c : RecordCounts} → a ≡ told.Mended c → CountedTo records_most a
+pub mended-fits : (a : Option RecordCounts) {c : RecordCounts} → a ≡ Some c → CountedTo records_most a
     → {room mended marks : List ℕ} → RecordingRooms room mended marks
     → {room' mended' marks' : List ℕ} → length room' ≡ length room → length mended' ≡ length mended → length marks' ≡ length marks
     → MendedFits c room' mended' marks'

@@ -1,8 +1,7 @@
 -- What is lent for a recording, and how many records it has once it is mended there. Assumes nothing: these are definitions.
-use Rattle.std.specs.Prelude.{◌≡◌, List, ℕ, ◌+◌, ◌≤◌, length}
+use Rattle.std.specs.Prelude.{◌≡◌, List, ℕ, ◌+◌, ◌≤◌, length, Option, Some, None}
 use Rattle.recordings.specs.Recording.{recording_length}
-use Rattle.vydrulka.specs.declared.recording.RecordingAnswer.{RecordingAnswer}
-use Rattle.vydrulka.specs.declared.recording.RecordingAnswer.TheVariants.{NotMended, Mended}
+use Rattle.vydrulka.specs.declared.recording.RecordCounts.{RecordCounts}
 
 -- how many records there is room for
 abbrev pub records_most : ℕ
@@ -15,6 +14,6 @@ pub record RecordingRooms (room mended marks : List ℕ) : Type 0 where
   pub marks-all : length marks ≡ records_most
 
 -- no more are kept than there are, and no more are there than `most`
-abbrev pub CountedTo : ℕ → RecordingAnswer → Type 0
-CountedTo most NotMended = Unit {0}
-CountedTo most (Mended c) = (c.kept ≤ c.records) × (c.records ≤ most)
+abbrev pub CountedTo : ℕ → Option RecordCounts → Type 0
+CountedTo most None = Unit {0}
+CountedTo most (Some c) = (c.kept ≤ c.records) × (c.records ≤ most)

@@ -4,7 +4,7 @@ ghost use Rattle.files.specs.Within.{Within};
 
 use crate::output;
 use answers::Refusal;
-use files::FileAnswer;
+use files::FileError;
 use std::env::FillError;
 use std::rt::Env;
 
@@ -33,18 +33,18 @@ pub fn argument_count(rt: HostRuntime) -> usize {
 }
 
 // Reads the file that argument i names to the front of the room. Where it cannot, that is told here.
-pub fn take(rt: HostRuntime, i: usize, room: &mut [u8]) -> FileAnswer
+pub fn take(rt: HostRuntime, i: usize, room: &mut [u8]) -> Result<usize, FileError>
     ensures { Within 0 (length room.old) result }
 {
     let mut name = [0u8; NAME_ROOM];
     let n = argument(rt, i, &mut name);
-    let answer = files::read(&rt, &name[0..n], room);
-    match answer {
-        FileAnswer::NotOpened(error) => output::failed(rt, b"failed open ", &name[0..n], error),
-        FileAnswer::NotRead(error) => output::failed(rt, b"failed read ", &name[0..n], error),
-        FileAnswer::Bytes(_) => {}
+    let read = files::read(&rt, &name[0..n], room);
+    match read {
+        Err(FileError::NotOpened(error)) => output::failed(rt, b"failed open ", &name[0..n], error),
+        Err(FileError::NotRead(error)) => output::failed(rt, b"failed read ", &name[0..n], error),
+        Ok(_) => {}
     }
-    answer
+    read
 }
 
 // The file that argument i names is refused. Its name is asked for again.

@@ -4,11 +4,7 @@ ghost use Rattle.std.specs.Prelude.{◌≤◌, length};
 
 use answers::{Refusal, Verdict};
 use cursor::TextCursor;
-use lines::LINE;
-use pointing::POINT_ROOM;
 use std::io;
-use wording::accepted::ACCEPTED_ROOM;
-use wording::recorded::RECORDED_ROOM;
 use wording::refusals::REFUSAL_ROOM;
 use wording::{accepted, recorded, refusals};
 
@@ -62,45 +58,39 @@ pub fn result(rt: HostRuntime, bytes: &[u8]) -> bool {
 
 // What was written is a rule file.
 pub fn rule(rt: HostRuntime, nodes: u64, propositions: u64, boards: u64, length: u64) {
-    let mut line = [0u8; ACCEPTED_ROOM];
-    let end = accepted::rule(&mut line, nodes, propositions, boards, length);
-    tell(rt, &line[0..end]);
+    tell(
+        rt,
+        accepted::rule(nodes, propositions, boards, length).bytes(),
+    );
 }
 
 // What was written is the page of a report.
 pub fn report(rt: HostRuntime, runs: u64, rules: u64, nights: u64) {
-    let mut line = [0u8; ACCEPTED_ROOM];
-    let end = accepted::report(&mut line, runs, rules, nights);
-    tell(rt, &line[0..end]);
+    tell(rt, accepted::report(runs, rules, nights).bytes());
 }
 
 // The result is the line of a watch: whether it was written.
 pub fn standing(rt: HostRuntime, ticks: u64, verdict: Verdict, slots: u64, nodes: u64) -> bool {
-    let mut line = [0u8; LINE];
-    let end = lines::standing(&mut line, ticks, verdict, slots, nodes);
-    result(rt, &line[0..end])
+    result(rt, lines::standing(ticks, verdict, slots, nodes).bytes())
 }
 
 // ---- recordings
 // A break, by the record behind it.
-pub fn put_break(rt: HostRuntime, place: u64, before: u64, counter: u64) {
-    let mut line = [0u8; RECORDED_ROOM];
-    let end = recorded::put_break(&mut line, place, before, counter);
-    tell(rt, &line[0..end]);
+pub fn broken(rt: HostRuntime, place: u64, before: u64, counter: u64) {
+    tell(rt, recorded::broken(place, before, counter).bytes());
 }
 
 // A recording was mended.
 pub fn recording(rt: HostRuntime, records: u64, kept: u64, dropped: u64, breaks: u64, first: u64) {
-    let mut line = [0u8; RECORDED_ROOM];
-    let end = recorded::recording(&mut line, records, kept, dropped, breaks, first);
-    tell(rt, &line[0..end]);
+    tell(
+        rt,
+        recorded::recording(records, kept, dropped, breaks, first).bytes(),
+    );
 }
 
 // Its first stretch was watched.
 pub fn watched(rt: HostRuntime, closed: u64, ticks: u64, verdict: Verdict) {
-    let mut line = [0u8; RECORDED_ROOM];
-    let end = recorded::watched(&mut line, closed, ticks, verdict);
-    tell(rt, &line[0..end]);
+    tell(rt, recorded::watched(closed, ticks, verdict).bytes());
 }
 
 // ---- refusals
@@ -108,58 +98,54 @@ pub fn watched(rt: HostRuntime, closed: u64, ticks: u64, verdict: Verdict) {
 pub fn refused(rt: HostRuntime, refusal: Refusal, words: &[u8])
     requires { length words.now ≤ 100 }
 {
-    let mut line = [0u8; REFUSAL_ROOM];
-    let end = refusals::refused(&mut line, refusal, words);
-    tell(rt, &line[0..end]);
+    tell(
+        rt,
+        refusals::refused::<REFUSAL_ROOM>(refusal, words).bytes(),
+    );
 }
 
 // The same of a file.
 pub fn refused_file(rt: HostRuntime, refusal: Refusal, name: &[u8], words: &[u8])
     requires { length words.now ≤ 80 }
 {
-    let mut line = [0u8; REFUSAL_ROOM];
-    let end = refusals::refused_file(&mut line, refusal, name, words);
-    tell(rt, &line[0..end]);
+    tell(
+        rt,
+        refusals::refused_file::<REFUSAL_ROOM>(refusal, name, words).bytes(),
+    );
 }
 
 // A run that cannot be counted.
 pub fn no_run(rt: HostRuntime, name: &[u8], place: u64, rule: u64, verdict: u64) {
-    let mut line = [0u8; REFUSAL_ROOM];
-    let end = refusals::no_run(&mut line, name, place, rule, verdict);
-    tell(rt, &line[0..end]);
+    tell(rt, refusals::no_run(name, place, rule, verdict).bytes());
 }
 
 // Two records of a recording that clash.
 pub fn clash(rt: HostRuntime, name: &[u8], place: u64) {
-    let mut line = [0u8; REFUSAL_ROOM];
-    let end = refusals::clash(&mut line, name, place);
-    tell(rt, &line[0..end]);
+    tell(rt, refusals::clash(name, place).bytes());
 }
 
 // An event of the first stretch that is refused.
 pub fn refused_event(rt: HostRuntime, refusal: Refusal, place: u64, words: &[u8])
     requires { length words.now ≤ 100 }
 {
-    let mut line = [0u8; REFUSAL_ROOM];
-    let end = refusals::refused_event(&mut line, refusal, place, words);
-    tell(rt, &line[0..end]);
+    tell(
+        rt,
+        refusals::refused_event::<REFUSAL_ROOM>(refusal, place, words).bytes(),
+    );
 }
 
 // A text that is no rule: the line in which the place is, the mark below it, and the refusal.
 pub fn no_rule(rt: HostRuntime, text: &[u8], place: TextCursor) {
-    let mut lines = [0u8; POINT_ROOM];
-    let shown = pointing::put(&mut lines, text, place.byte);
-    tell(rt, &lines[0..shown]);
-    let mut line = [0u8; REFUSAL_ROOM];
-    let end = refusals::no_rule(&mut line, place.line as u64, place.byte as u64);
-    tell(rt, &line[0..end]);
+    tell(rt, pointing::put(text, place.byte).bytes());
+    tell(
+        rt,
+        refusals::no_rule(place.line as u64, place.byte as u64).bytes(),
+    );
 }
 
 // An argument that is no board.
 pub fn no_board(rt: HostRuntime, board: u64, arg: &[u8]) {
-    let mut line = [0u8; REFUSAL_ROOM];
-    let end = refusals::no_board(&mut line, board, arg);
-    tell(rt, &line[0..end]);
+    tell(rt, refusals::no_board(board, arg).bytes());
 }
 
 // ---- failures
@@ -181,9 +167,11 @@ fn fail(rt: HostRuntime, what: &[u8], error: io::Error) {
 pub fn failed(rt: HostRuntime, doing: &[u8], name: &[u8], error: io::Error)
     requires { length doing.now ≤ 100 }
 {
-    let mut line = [0u8; REFUSAL_ROOM];
-    let end = refusals::failed(&mut line, doing, name);
-    fail(rt, &line[0..end], error);
+    fail(
+        rt,
+        refusals::failed::<REFUSAL_ROOM>(doing, name).bytes(),
+        error,
+    );
 }
 
 // A text that there is no room for.

@@ -7,8 +7,6 @@ ghost use Rattle.vydrulka.specs.Rooms.{records_most, RecordingRooms, CountedTo};
 use crate::input::NAME_ROOM;
 use crate::{input, output};
 use answers::Refusal;
-use files::FileAnswer;
-use mending::MendAnswer;
 use recordings::{BROKEN, RECORD_LENGTH, RECORDS_AT};
 
 // A recording may have any number of records, but the program has room for so many, and for their bytes.
@@ -19,19 +17,13 @@ pub const RECORDING_MOST: usize = RECORDS_AT + RECORD_LENGTH * RECORDS_MOST;
 // It reads one byte more, so that a longer one is never cut.
 pub const RECORDING_ROOM: usize = RECORDING_MOST + 1;
 
-// How many records a recording has, how many of them were kept, and how many of these are in the first stretch.
+// How many records a recording has, how many of them were kept, and how many of these are in the first stretch. Where there are no such
+// counts the recording was not mended, and why has been told.
 #[derive(Clone, Copy)]
 pub struct RecordCounts {
     pub records: usize,
     pub kept: usize,
     pub first: usize,
-}
-
-// What became of a recording. Where it was not mended, why has been told.
-#[derive(Clone, Copy)]
-pub enum RecordingAnswer {
-    NotMended,
-    Mended(RecordCounts),
 }
 
 // ---- a recording that is refused
@@ -69,16 +61,16 @@ fn mend(
     recording: &[u8],
     mended: &mut [u8],
     marks: &mut [u8],
-) -> RecordingAnswer
+) -> Option<RecordCounts>
     ensures { CountedTo (length marks.old) result }
 {
     let answer = mending::mend(recording, mended, marks);
     match answer {
-        MendAnswer::Refused(why) => {
+        Err(why) => {
             refused(rt, i, recording, marks.len(), why);
-            RecordingAnswer::NotMended
+            None
         }
-        MendAnswer::Mended(m) => RecordingAnswer::Mended(RecordCounts {
+        Ok(m) => Some(RecordCounts {
             records: marks.len(),
             kept: m.kept,
             first: m.first,
@@ -103,14 +95,14 @@ fn mend_read(
     recording: &[u8],
     mended: &mut [u8],
     marks: &mut [u8],
-) -> RecordingAnswer
+) -> Option<RecordCounts>
     requires { length marks.old ≡ records_most }
     ensures { CountedTo records_most result }
 {
     let records = count_of(recording);
     if RECORDS_MOST < records {
         no_header(rt, i);
-        return RecordingAnswer::NotMended;
+        return None;
     }
     mend(rt, i, recording, mended, &mut marks[0..records])
 }
@@ -122,17 +114,16 @@ pub fn take(
     room: &mut [u8],
     mended: &mut [u8],
     marks: &mut [u8],
-) -> RecordingAnswer
+) -> Option<RecordCounts>
     requires { RecordingRooms room.old mended.old marks.old }
     ensures { CountedTo records_most result }
 {
-    let answer = input::take(rt, i, room);
-    let FileAnswer::Bytes(n) = answer else {
-        return RecordingAnswer::NotMended;
+    let Ok(n) = input::take(rt, i, room) else {
+        return None;
     };
     if RECORDING_MOST < n {
         output::too_many_records(rt);
-        return RecordingAnswer::NotMended;
+        return None;
     }
     mend_read(rt, i, &room[0..n], &mut mended[0..n], marks)
 }
@@ -149,7 +140,7 @@ fn tell_break(rt: HostRuntime, recording: &[u8], i: usize, mark: u8) -> u64
     let at = RECORDS_AT + RECORD_LENGTH * i;
     let before = le::u32_at(recording, at - RECORD_LENGTH);
     let counter = le::u32_at(recording, at);
-    output::put_break(rt, i as u64, before as u64, counter as u64);
+    output::broken(rt, i as u64, before as u64, counter as u64);
     1
 }
 

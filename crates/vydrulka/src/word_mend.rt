@@ -2,7 +2,7 @@
 ghost use Rattle.vydrulka.specs.Rooms.{RecordingRooms};
 
 use crate::input::FILE_AT;
-use crate::recording::{RECORDING_MOST, RECORDING_ROOM, RECORDS_MOST, RecordingAnswer};
+use crate::recording::{RECORDING_MOST, RECORDING_ROOM, RECORDS_MOST};
 use crate::{output, recording};
 use recordings::{RECORD_LENGTH, RECORDS_AT};
 
@@ -14,7 +14,7 @@ fn mend_in(rt: HostRuntime, room: &mut [u8], mended: &mut [u8], marks: &mut [u8]
     requires { RecordingRooms room.old mended.old marks.old }
 {
     let answer = recording::take(rt, FILE_AT, room, mended, marks);
-    let RecordingAnswer::Mended(counts) = answer else {
+    let Some(counts) = answer else {
         return;
     };
     let length = RECORDS_AT + RECORD_LENGTH * counts.kept;

@@ -6,11 +6,9 @@ ghost use Rattle.reports.specs.Bytes.{report_length};
 
 use crate::input::NAME_ROOM;
 use crate::{input, output};
-use answers::Outcome;
-use files::FileAnswer;
-use reporting::ReportAnswer;
+use reporting::ReportError;
 use reports::{REPORT_LENGTH, RUN_LENGTH};
-use tables::{PAGE_ROOM, Sheet};
+use tables::{Page, Sheet};
 
 // Where the nights begin among the arguments.
 const NIGHTS_AT: usize = 2;
@@ -35,11 +33,11 @@ fn no_run(rt: HostRuntime, night: usize, runs: &[u8], place: usize)
 fn add_report(rt: HostRuntime, night: usize, total: &mut [u8], report: &[u8]) -> bool {
     let outcome = adding::add(total, report);
     match outcome {
-        Outcome::Refused(refusal) => {
+        Err(refusal) => {
             input::refused(rt, night, refusal, b"more than 65,536 runs together");
             false
         }
-        Outcome::Done => true,
+        Ok(()) => true,
     }
 }
 
@@ -48,22 +46,21 @@ fn add_runs(rt: HostRuntime, night: usize, total: &mut [u8], runs: &[u8]) -> boo
     let mut report = [0u8; REPORT_LENGTH];
     let answer = reporting::report(runs, &mut report);
     match answer {
-        ReportAnswer::Refused(refusal) => {
+        Err(ReportError::Refused(refusal)) => {
             input::refused(rt, night, refusal, b"not whole runs, or more than 65,536");
             false
         }
-        ReportAnswer::NoRun(place) => {
+        Err(ReportError::NoRun(place)) => {
             no_run(rt, night, runs, place);
             false
         }
-        ReportAnswer::Reported => add_report(rt, night, total, &report),
+        Ok(()) => add_report(rt, night, total, &report),
     }
 }
 
 // Reads a night into the room, and adds it.
 fn add_night(rt: HostRuntime, night: usize, total: &mut [u8], room: &mut [u8]) -> bool {
-    let answer = input::take(rt, night, room);
-    let FileAnswer::Bytes(n) = answer else {
+    let Ok(n) = input::take(rt, night, room) else {
         return false;
     };
     add_runs(rt, night, total, &room[0..n])
@@ -87,23 +84,15 @@ fn add_up(rt: HostRuntime, count: usize, total: &mut [u8]) -> bool {
 
 // ---- the page
 // Writes the page of the total, and tells what it has.
-fn print_into(rt: HostRuntime, page: &mut [u8], total: &[u8], sheet: Sheet, nights: u64)
-    requires { (length page.old ≡ PAGE_ROOM) × (length total.now ≡ report_length) }
-{
-    let end = tables::put(page, total, sheet);
-    let written = output::result(rt, &page[0..end]);
-    if written {
-        let totals = tables::totals(total);
-        output::report(rt, totals.runs, totals.rules, nights);
-    }
-}
-
-// Makes the page.
 fn print(rt: HostRuntime, total: &[u8], sheet: Sheet, nights: u64)
     requires { length total.now ≡ report_length }
 {
-    let mut page = [0u8; PAGE_ROOM];
-    print_into(rt, &mut page, total, sheet, nights);
+    let mut page = Page::new();
+    sheet.put(&mut page, total);
+    if output::result(rt, page.bytes()) {
+        let totals = tables::totals(total);
+        output::report(rt, totals.runs, totals.rules, nights);
+    }
 }
 
 // Runs the word, with so many arguments, the program's name and the word among them. The total begins as the report of no runs.

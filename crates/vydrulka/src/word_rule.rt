@@ -5,11 +5,10 @@ ghost use Rattle.limits.specs.Limits.{boards_most};
 use crate::input::{FILE_AT, NAME_ROOM};
 use crate::{input, output};
 use answers::Refusal;
-use files::FileAnswer;
 use limits::{BOARDS_MOST, RULE_NODES_MOST};
-use parsing::ParseAnswer;
-use rules::{FILE_MOST, WriteAnswer};
-use spelling::{BoardAnswer, typed};
+use parsing::ParseError;
+use rules::FILE_MOST;
+use spelling::typed;
 
 // Where the boards begin among the arguments.
 const BOARDS_AT: usize = 3;
@@ -20,29 +19,27 @@ const TEXT_MOST: usize = 1048576;
 const TEXT_ROOM: usize = 1048577;
 
 // Board i. Where the argument is none that is told here.
-fn take_board(rt: HostRuntime, i: usize) -> BoardAnswer
+fn take_board(rt: HostRuntime, i: usize) -> Option<u64>
     requires { i < boards_most }
 {
     let mut arg = [0u8; NAME_ROOM];
     let n = input::argument(rt, BOARDS_AT + i, &mut arg);
-    let answer = typed::board(&arg[0..n]);
-    match answer {
-        BoardAnswer::NoBoard => output::no_board(rt, i as u64, &arg[0..n]),
-        BoardAnswer::Sees(_) => {}
+    let board = typed::board(&arg[0..n]);
+    if board.is_none() {
+        output::no_board(rt, i as u64, &arg[0..n]);
     }
-    answer
+    board
 }
 
 // The masks of all boards: whether each argument is a board.
 fn take_boards(rt: HostRuntime, masks: &mut [u64]) -> bool
     requires { length masks.old ≤ boards_most }
 {
-    for i in 0..masks.len() {
-        let answer = take_board(rt, i);
-        let BoardAnswer::Sees(mask) = answer else {
+    for (i, mask) in masks.iter_mut().enumerate() {
+        let Some(board) = take_board(rt, i) else {
             return false;
         };
-        masks[i] = mask;
+        *mask = board;
     }
     true
 }
@@ -67,8 +64,8 @@ fn write(rt: HostRuntime, masks: &[u64], formula: &[u8]) {
     let mut file = [0u8; FILE_MOST];
     let answer = writing::write(masks, propositions, formula, &mut file);
     match answer {
-        WriteAnswer::Refused(refusal) => refused(rt, refusal),
-        WriteAnswer::Written(length) => {
+        Err(refusal) => refused(rt, refusal),
+        Ok(length) => {
             if output::result(rt, &file[0..length]) {
                 output::rule(
                     rt,
@@ -87,16 +84,15 @@ fn parse(rt: HostRuntime, masks: &[u64], text: &[u8]) {
     let mut formula = [0u8; RULE_NODES_MOST];
     let answer = parsing::parse(text, &mut formula);
     match answer {
-        ParseAnswer::Refused(refusal) => output::refused(rt, refusal, b"more than 1,024 nodes"),
-        ParseAnswer::NoText(place) => output::no_rule(rt, text, place),
-        ParseAnswer::Parsed(nodes) => write(rt, masks, &formula[0..nodes]),
+        Err(ParseError::Refused(refusal)) => output::refused(rt, refusal, b"more than 1,024 nodes"),
+        Err(ParseError::NoText(place)) => output::no_rule(rt, text, place),
+        Ok(nodes) => write(rt, masks, &formula[0..nodes]),
     }
 }
 
 // Reads the file with the text into the room.
 fn read_into(rt: HostRuntime, masks: &[u64], room: &mut [u8]) {
-    let answer = input::take(rt, FILE_AT, room);
-    let FileAnswer::Bytes(n) = answer else {
+    let Ok(n) = input::take(rt, FILE_AT, room) else {
         return;
     };
     if TEXT_MOST < n {

@@ -4,16 +4,12 @@ ghost use Rattle.std.specs.Prelude.{◌≡◌, length};
 ghost use Rattle.vydrulka.specs.Rooms.{records_most, RecordingRooms};
 
 use crate::input::{FILE_AT, NAME_ROOM};
-use crate::recording::{RECORDING_MOST, RECORDING_ROOM, RECORDS_MOST, RecordingAnswer};
+use crate::recording::{RECORDING_MOST, RECORDING_ROOM, RECORDS_MOST};
 use crate::rule_file::FILE_ROOM;
 use crate::{input, output, recording, rule_file};
-use answers::{Outcome, Refusal, Verdict};
-use capturing::CaptureAnswer;
-use files::FileAnswer;
+use answers::{Refusal, Verdict};
 use recordings::{RECORD_LENGTH, RECORDS_AT};
 use state::STATE_ROOM;
-use stretching::StretchAnswer;
-use telling::AskAnswer;
 
 // How many arguments there are: the program's name, the word, the rule and the recording.
 const ARGUMENTS: usize = 4;
@@ -27,8 +23,8 @@ const RECORDING_AT: usize = 3;
 fn report(rt: HostRuntime, state: &[u8], closed: usize, ticks: usize) {
     let answer = asking::ask(state);
     match answer {
-        AskAnswer::Refused(refusal) => output::refused(rt, refusal, b"the state that is left"),
-        AskAnswer::Told(standing) => {
+        Err(refusal) => output::refused(rt, refusal, b"the state that is left"),
+        Ok(standing) => {
             let verdict = standing.verdict;
             let written = output::standing(
                 rt,
@@ -66,16 +62,12 @@ fn refused_event(rt: HostRuntime, refusal: Refusal, place: usize) {
 fn capture(rt: HostRuntime, state: &mut [u8], second: &mut [u8], events: &[u64]) {
     let answer = capturing::capture(state, second, events);
     match answer {
-        CaptureAnswer::Refused(refusal) => output::refused(
-            rt,
-            refusal,
-            b"the state that was loaded",
-        ),
-        CaptureAnswer::Captured(captured) => {
+        Err(refusal) => output::refused(rt, refusal, b"the state that was loaded"),
+        Ok(captured) => {
             let stop = captured.stop;
             match stop {
-                Outcome::Refused(refusal) => refused_event(rt, refusal, captured.closed),
-                Outcome::Done => report(rt, state, captured.closed, events.len()),
+                Err(refusal) => refused_event(rt, refusal, captured.closed),
+                Ok(()) => report(rt, state, captured.closed, events.len()),
             }
         }
     }
@@ -84,7 +76,7 @@ fn capture(rt: HostRuntime, state: &mut [u8], second: &mut [u8], events: &[u64])
 // Whether the watch is over before its first tick, as that of the rule `true`.
 fn decided(state: &[u8]) -> bool {
     let answer = asking::ask(state);
-    let AskAnswer::Told(standing) = answer else {
+    let Ok(standing) = answer else {
         return false;
     };
     let verdict = standing.verdict;
@@ -114,8 +106,8 @@ fn take_events(
 ) {
     let answer = stretching::stretch(mended, events);
     match answer {
-        StretchAnswer::Refused(refusal) => output::refused(rt, refusal, b"the mended recording"),
-        StretchAnswer::Taken(n) => watch(rt, state, second, &events[0..n]),
+        Err(refusal) => output::refused(rt, refusal, b"the mended recording"),
+        Ok(n) => watch(rt, state, second, &events[0..n]),
     }
 }
 
@@ -132,7 +124,7 @@ fn mend_in(
     requires { RecordingRooms room.old mended.old marks.old × (length events.old ≡ records_most) }
 {
     let answer = recording::take(rt, RECORDING_AT, room, mended, marks);
-    let RecordingAnswer::Mended(counts) = answer else {
+    let Some(counts) = answer else {
         return;
     };
     let records = counts.records;
@@ -164,8 +156,8 @@ fn load(
     let mut state = [0u8; STATE_ROOM];
     let outcome = loading::load(file, &mut state);
     match outcome {
-        Outcome::Refused(refusal) => refused_rule(rt, refusal),
-        Outcome::Done => {
+        Err(refusal) => refused_rule(rt, refusal),
+        Ok(()) => {
             let mut second = [0u8; STATE_ROOM];
             mend_in(rt, &mut state, &mut second, room, mended, marks, events);
         }
@@ -183,8 +175,7 @@ fn read_in(
     requires { RecordingRooms room.old mended.old marks.old × (length events.old ≡ records_most) }
 {
     let mut file = [0u8; FILE_ROOM];
-    let answer = input::take(rt, FILE_AT, &mut file);
-    let FileAnswer::Bytes(n) = answer else {
+    let Ok(n) = input::take(rt, FILE_AT, &mut file) else {
         return;
     };
     load(rt, &file[0..n], room, mended, marks, events);

@@ -1,4 +1,2 @@
 -- Laws of the lines for people.
-pub mod Names
-pub mod Counted
 pub mod Boards

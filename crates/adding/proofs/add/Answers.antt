@@ -11,14 +11,14 @@ returns-then-night-ne-REPORT_LENGTH c = night-wrong _ _ c.if-total-ne-REPORT_LEN
 pub returns-then-a-b : goal.returns-then-a-b
 returns-then-a-b c = too_many _ _ c.if-total-ne-REPORT_LENGTH.false c.if-night-ne-REPORT_LENGTH.false c.look_over-a.ensures c.look_over-b.ensures c.if-a-b.true
 
-pub returns-then-not-both_hold : goal.returns-then-not-both_hold
-returns-then-not-both_hold c = disagree _ _ c.if-total-ne-REPORT_LENGTH.false c.if-night-ne-REPORT_LENGTH.false c.look_over-a.ensures c.look_over-b.ensures c.if-a-b.false c.both_hold.ensures c.if-not-both_hold.true
+pub returns-then-not-agree : goal.returns-then-not-agree
+returns-then-not-agree c = disagree _ _ c.if-total-ne-REPORT_LENGTH.false c.if-night-ne-REPORT_LENGTH.false c.look_over-a.ensures c.look_over-b.ensures c.if-a-b.false c.if-not-agree.true
 
 pub add_rows-requires : goal.add_rows-requires
 add_rows-requires c =
-    add-asked _ _ c.if-total-ne-REPORT_LENGTH.false c.if-night-ne-REPORT_LENGTH.false c.look_over-a.ensures c.look_over-b.ensures c.if-a-b.false c.both_hold.ensures c.if-not-both_hold.false
+    add-asked _ _ c.if-total-ne-REPORT_LENGTH.false c.if-night-ne-REPORT_LENGTH.false c.look_over-a.ensures c.look_over-b.ensures c.if-a-b.false c.if-not-agree.false
 
 pub returns : goal.returns
 returns c =
-    added-up _ _ c.if-total-ne-REPORT_LENGTH.false c.if-night-ne-REPORT_LENGTH.false c.look_over-a.ensures c.look_over-b.ensures c.if-a-b.false c.both_hold.ensures c.if-not-both_hold.false
+    added-up _ _ c.if-total-ne-REPORT_LENGTH.false c.if-night-ne-REPORT_LENGTH.false c.look_over-a.ensures c.look_over-b.ensures c.if-a-b.false c.if-not-agree.false
     c.add_rows.ensures

@@ -25,15 +25,15 @@ returns-then-slots_most-slots c =
     λ rule r.
     let cut : Cut r c.owners.new.owner c.count_cuts.result.part =
     record { owned = c.owners.ensures.owned r.propositions r.few-propositions r.follow; parted = (c.count_cuts.ensures rule [] r.front).parted } in
-    begun-slots _ cut (let l = c.if-slots_most-slots.true in let m = c.slots_most.ensures ∙ ap slots_most c.of-form.ensures in omega arith)
+    begun-slots _ cut (let l = c.if-slots_most-slots.true in let m = c.slots_most.ensures ∙ ap slots_most c.from-form.ensures in omega arith)
 
 pub returns-then-nodes_most-nodes : goal.returns-then-nodes_most-nodes
 returns-then-nodes_most-nodes c =
     λ rule r.
     let cut : Cut r c.owners.new.owner c.count_cuts.result.part =
     record { owned = c.owners.ensures.owned r.propositions r.few-propositions r.follow; parted = (c.count_cuts.ensures rule [] r.front).parted } in
-    begun-nodes _ cut (let l = c.if-slots_most-slots.false in let m = c.slots_most.ensures ∙ ap slots_most c.of-form.ensures in omega arith) (c.count_unfolded.ensures rule r.front)
-    (let l = c.if-nodes_most-nodes.true in let m = c.nodes_most.ensures ∙ ap nodes_most c.of-form.ensures in omega arith)
+    begun-nodes _ cut (let l = c.if-slots_most-slots.false in let m = c.slots_most.ensures ∙ ap slots_most c.from-form.ensures in omega arith) (c.count_unfolded.ensures rule r.front)
+    (let l = c.if-nodes_most-nodes.true in let m = c.nodes_most.ensures ∙ ap nodes_most c.from-form.ensures in omega arith)
 
 pub put_first-requires : goal.put_first-requires
 put_first-requires c =
@@ -43,9 +43,9 @@ put_first-requires c =
     let fits : LayoutFits (form_in c.args.state.now) r c.owners.new.owner c.count_cuts.result.part c.count_unfolded.result =
     record {
       cut = cut;
-      few-slots = let l = c.if-slots_most-slots.false in let m = c.slots_most.ensures ∙ ap slots_most c.of-form.ensures in omega arith;
+      few-slots = let l = c.if-slots_most-slots.false in let m = c.slots_most.ensures ∙ ap slots_most c.from-form.ensures in omega arith;
       count-is = c.count_unfolded.ensures c.requires.rule r.front;
-      few-nodes = let l = c.if-nodes_most-nodes.false in let m = c.nodes_most.ensures ∙ ap nodes_most c.of-form.ensures in omega arith;
+      few-nodes = let l = c.if-nodes_most-nodes.false in let m = c.nodes_most.ensures ∙ ap nodes_most c.from-form.ensures in omega arith;
     } in
     first-ask c.requires c.owners.ensures.table fits c.first_board-board.ensures refl refl
 
@@ -57,8 +57,8 @@ returns c =
     let fits : LayoutFits (form_in c.args.state.now) r c.owners.new.owner c.count_cuts.result.part c.count_unfolded.result =
     record {
       cut = cut;
-      few-slots = let l = c.if-slots_most-slots.false in let m = c.slots_most.ensures ∙ ap slots_most c.of-form.ensures in omega arith;
+      few-slots = let l = c.if-slots_most-slots.false in let m = c.slots_most.ensures ∙ ap slots_most c.from-form.ensures in omega arith;
       count-is = c.count_unfolded.ensures rule r.front;
-      few-nodes = let l = c.if-nodes_most-nodes.false in let m = c.nodes_most.ensures ∙ ap nodes_most c.of-form.ensures in omega arith;
+      few-nodes = let l = c.if-nodes_most-nodes.false in let m = c.nodes_most.ensures ∙ ap nodes_most c.from-form.ensures in omega arith;
     } in
     begun-done c.args.state.now fits (c.put_first.ensures rule r)

@@ -1,10 +1,6 @@
--- The loop writes zeros from `from` on, a note a turn; what is left of n falls. Assumes nothing.
-use Prim.Native.Nat.{◌-◌}
-use Rattle.buffers.proofs.Moves.{Zeroed}
+-- The notes that the loop has gone over are 0. Assumes nothing.
+use Rattle.std.proofs.Common.{◌≡◌, take, replicate}
 use Rattle.buffers.proofs.clear_notes.Given as goal
 
-abbrev pub invariant-loop-i : goal.invariant-loop-i
-invariant-loop-i l = Zeroed l.initial.notes l.from l.n l.notes l.i
-
-abbrev pub decreases-loop-i : goal.decreases-loop-i
-decreases-loop-i l = l.n - l.i
+abbrev pub invariant-loop-note : goal.invariant-loop-note
+invariant-loop-note l = take l.note-index l.note-items ≡ replicate l.note-index 0

@@ -10,20 +10,20 @@ use Rattle.capturing.proofs.capture.Goals as goal
 
 pub returns-then-second-length : goal.returns-then-second-length
 returns-then-second-length c =
-    let long-is : c.length.result ≡ state_length (form_in c.args.state.now) = c.length.ensures ∙ ap state_length c.of-form.ensures in
+    let long-is : c.length.result ≡ state_length (form_in c.args.state.now) = c.length.ensures ∙ ap state_length c.from-form.ensures in
     capture-length _ _ _ (λ e. c.if-second-length.true (e ∙ sym (long-is)))
 
 pub capture_going-requires : goal.capture_going-requires
 capture_going-requires c =
     let opens : (o : Opening) → c.open-opened.result ≡ o → Opens c.args.state.now o = λ o. λ e. subst (Opens c.args.state.now) e c.open-opened.ensures in
-    let long-is : c.length.result ≡ state_length (form_in c.args.state.now) = c.length.ensures ∙ ap state_length c.of-form.ensures in
+    let long-is : c.length.result ≡ state_length (form_in c.args.state.now) = c.length.ensures ∙ ap state_length c.from-form.ensures in
     let long : length c.args.second.now ≡ state_length (form_in c.args.state.now) = c.if-second-length.false ∙ long-is in
     let o = opens _ c.in-Going.is in
     record { going = record { opened = o.0; unfinished = o.1 }; long = long }
 
 pub returns-in-Broken : goal.returns-in-Broken
 returns-in-Broken c =
-    let long-is : c.length.result ≡ state_length (form_in c.args.state.now) = c.length.ensures ∙ ap state_length c.of-form.ensures in
+    let long-is : c.length.result ≡ state_length (form_in c.args.state.now) = c.length.ensures ∙ ap state_length c.from-form.ensures in
     let long : length c.args.second.now ≡ state_length (form_in c.args.state.now) = c.if-second-length.false ∙ long-is in
     let opens : (o : Opening) → c.open-opened.result ≡ o → Opens c.args.state.now o = λ o. λ e. subst (Opens c.args.state.now) e c.open-opened.ensures in
     capture-state _ _ _ (long) (opens _ c.in-Broken.is)
@@ -31,7 +31,7 @@ returns-in-Broken c =
 pub returns-in-Finished : goal.returns-in-Finished
 returns-in-Finished c =
     let opens : (o : Opening) → c.open-opened.result ≡ o → Opens c.args.state.now o = λ o. λ e. subst (Opens c.args.state.now) e c.open-opened.ensures in
-    let long-is : c.length.result ≡ state_length (form_in c.args.state.now) = c.length.ensures ∙ ap state_length c.of-form.ensures in
+    let long-is : c.length.result ≡ state_length (form_in c.args.state.now) = c.length.ensures ∙ ap state_length c.from-form.ensures in
     let long : length c.args.second.now ≡ state_length (form_in c.args.state.now) = c.if-second-length.false ∙ long-is in
     let o = opens _ c.in-Finished.is in
     capture-finished _ _ _ (long) o.0.passes o.1
@@ -39,7 +39,7 @@ returns-in-Finished c =
 pub returns-in-Going : goal.returns-in-Going
 returns-in-Going c =
     let opens : (o : Opening) → c.open-opened.result ≡ o → Opens c.args.state.now o = λ o. λ e. subst (Opens c.args.state.now) e c.open-opened.ensures in
-    let long-is : c.length.result ≡ state_length (form_in c.args.state.now) = c.length.ensures ∙ ap state_length c.of-form.ensures in
+    let long-is : c.length.result ≡ state_length (form_in c.args.state.now) = c.length.ensures ∙ ap state_length c.from-form.ensures in
     let long : length c.args.second.now ≡ state_length (form_in c.args.state.now) = c.if-second-length.false ∙ long-is in
     let o = opens _ c.in-Going.is in
     capture-ran _ _ _ (long) o.0.passes o.1 c.capture_going.ensures

@@ -9,22 +9,13 @@ use Rattle.chaining.proofs.raise.Goals as goal
 pub loop-left-init : goal.loop-left-init
 loop-left-init c = (refl, λ m. refl)
 
-pub bounds-chain-p : goal.bounds-chain-p
-bounds-chain-p c = let l = c.lowest-p.ensures.0 in let i = c.loop-left.invariant.0 in let p = c.requires in omega arith
-
-pub bounds-chain-p-in-loop-left : goal.bounds-chain-p-in-loop-left
-bounds-chain-p-in-loop-left c = let l = c.lowest-p.ensures.0 in let i = c.loop-left.invariant.0 in let p = c.requires in omega arith
-
-pub overflow_sub-left : goal.overflow_sub-left
-overflow_sub-left c = omega arith
-
 pub loop-left-smaller : goal.loop-left-smaller
 loop-left-smaller c = let l = and_le_r c.loop-left.left (c.loop-left.left - 1) in omega arith
 
 pub loop-left-preserved : goal.loop-left-preserved
 loop-left-preserved c =
     let i = c.loop-left.invariant.0 in let p = c.requires in let l = c.lowest-p.ensures in
-    (length-set c.loop-left.chain c.lowest-p.result c.larger.result ∙ i, λ m. raise-more c.loop-left.chain c.loop-left.left c.lowest-p.result _ _ (omega arith) l.0 (omega arith) (l.1, l.2) c.larger.ensures m ∙ c.loop-left.invariant.1 m)
+    (length-set c.loop-left.chain c.lowest-p.result _ ∙ i, λ m. raise-more c.loop-left.chain c.loop-left.left c.lowest-p.result _ _ (omega arith) l.0 (omega arith) (l.1, l.2) (omega arith) m ∙ c.loop-left.invariant.1 m)
 
 pub returns : goal.returns
 returns c = λ m. sym (raise-done _ c.loop-left.chain m) ∙ rw c.loop-left-test.false at (c.loop-left.invariant.1 m)

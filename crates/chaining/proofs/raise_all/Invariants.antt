@@ -4,6 +4,3 @@ use Rattle.chaining.proofs.raise_all.Given as goal
 
 abbrev pub invariant-loop-j : goal.invariant-loop-j
 invariant-loop-j l = Raising l.sets l.n l.initial.chain l.chain l.j
-
-abbrev pub decreases-loop-j : goal.decreases-loop-j
-decreases-loop-j l = l.j

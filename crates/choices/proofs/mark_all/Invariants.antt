@@ -1,12 +1,7 @@
 -- From the last node to the first: at each place the formulas behind it are marked (`MarkedTo`). Assumes nothing.
-use mathlib.Core.Path.{◌≡◌}
-use lib.ListN.{length}
 use Rattle.ltl.specs.Formula.{Formula}
 use Rattle.choices.specs.Waiting.{MarkedTo}
 use Rattle.choices.proofs.mark_all.Given as goal
 
 abbrev pub invariant-loop-i : goal.invariant-loop-i
-invariant-loop-i l = ((f : Formula) × MarkedTo f l.s l.owner l.marks l.raw l.opened l.i l.t) × (length l.marks ≡ length l.initial.marks) × (length l.raw ≡ length l.initial.raw) × (length l.opened ≡ length l.initial.opened)
-
-abbrev pub decreases-loop-i : goal.decreases-loop-i
-decreases-loop-i l = l.i
+invariant-loop-i l = (f : Formula) × MarkedTo f l.s l.owner l.marks l.raw l.opened l.i l.t

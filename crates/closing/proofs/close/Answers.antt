@@ -10,20 +10,20 @@ use Rattle.closing.proofs.close.Goals as goal
 
 pub returns-then-second-length : goal.returns-then-second-length
 returns-then-second-length c =
-    let long-is : c.length.result ≡ state_length (form_in c.args.state.now) = c.length.ensures ∙ ap state_length c.of-form.ensures in
+    let long-is : c.length.result ≡ state_length (form_in c.args.state.now) = c.length.ensures ∙ ap state_length c.from-form.ensures in
     refused-length _ _ (λ e. c.if-second-length.true (e ∙ sym (long-is)))
 
 pub close_going-requires : goal.close_going-requires
 close_going-requires c =
     let found : (o : Opening) → c.open-opened.result ≡ o → Opens c.args.state.now o = λ o. λ e. subst (Opens c.args.state.now) e c.open-opened.ensures in
-    let long-is : c.length.result ≡ state_length (form_in c.args.state.now) = c.length.ensures ∙ ap state_length c.of-form.ensures in
+    let long-is : c.length.result ≡ state_length (form_in c.args.state.now) = c.length.ensures ∙ ap state_length c.from-form.ensures in
     let long : length c.args.second.now ≡ state_length (form_in c.args.state.now) = c.if-second-length.false ∙ long-is in
     let o = found _ c.in-Going.is in
     (o.0, o.1, long)
 
 pub returns-in-Broken : goal.returns-in-Broken
 returns-in-Broken c =
-    let long-is : c.length.result ≡ state_length (form_in c.args.state.now) = c.length.ensures ∙ ap state_length c.of-form.ensures in
+    let long-is : c.length.result ≡ state_length (form_in c.args.state.now) = c.length.ensures ∙ ap state_length c.from-form.ensures in
     let long : length c.args.second.now ≡ state_length (form_in c.args.state.now) = c.if-second-length.false ∙ long-is in
     let found : (o : Opening) → c.open-opened.result ≡ o → Opens c.args.state.now o = λ o. λ e. subst (Opens c.args.state.now) e c.open-opened.ensures in
     refused-state _ _ (long) (found _ c.in-Broken.is)
@@ -31,7 +31,7 @@ returns-in-Broken c =
 pub returns-in-Finished : goal.returns-in-Finished
 returns-in-Finished c =
     let found : (o : Opening) → c.open-opened.result ≡ o → Opens c.args.state.now o = λ o. λ e. subst (Opens c.args.state.now) e c.open-opened.ensures in
-    let long-is : c.length.result ≡ state_length (form_in c.args.state.now) = c.length.ensures ∙ ap state_length c.of-form.ensures in
+    let long-is : c.length.result ≡ state_length (form_in c.args.state.now) = c.length.ensures ∙ ap state_length c.from-form.ensures in
     let long : length c.args.second.now ≡ state_length (form_in c.args.state.now) = c.if-second-length.false ∙ long-is in
     let o = found _ c.in-Finished.is in
     refused-finished _ _ (long) o.0.passes o.1

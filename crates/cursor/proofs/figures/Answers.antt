@@ -1,31 +1,18 @@
-use Prim.Native.Nat.{◌-◌}
+-- By the digit that stands here, where one does. Assumes nothing.
+use mathlib.Core.Logic.{inl, inr}
 use native.Mathlib.Omega.{arith}
-use Rattle.cursor.proofs.Words.{figures-none, figures-end, figures-other, figures-zero, figures-large, figures-more}
+use Rattle.cursor.proofs.Words.{digit_here, figures-zero, figures-large, figures-more}
 use Rattle.cursor.proofs.figures.Goals as goal
 
-pub loop-cur-init : goal.loop-cur-init
-loop-cur-init c = figures-none _ _ _ c.requires.stands c.requires.below
-
-pub returns-then-m-gt9 : goal.returns-then-m-gt9
-returns-then-m-gt9 c = figures-other c.loop-cur.invariant (omega arith) c.digit_in-m.ensures c.of.ensures c.if-m-gt9.true
-
 pub returns-then-value-eq0 : goal.returns-then-value-eq0
-returns-then-value-eq0 c = figures-zero c.loop-cur.invariant (omega arith) c.digit_in-m.ensures c.of.ensures (omega arith) c.if-value-eq0.true
+returns-then-value-eq0 c =
+    let f = c.loop-b.invariant in
+    let l = c.in-Some.ensures.lookup.3 in
+    let d = digit_here c.args.text.now c.loop-b.cur.byte (l.1 0) c.from.ensures c.in-Digit.is c.from-in-loop-b.ensures in
+    elim c.then-value-eq0.either [ inl e ↦ figures-zero f l.0 d e c.wrong.ensures | inr e ↦ figures-large f l.0 d (omega arith) c.wrong.ensures ]
 
-pub overflow_mul-longer : goal.overflow_mul-longer
-overflow_mul-longer c = let v = c.loop-cur.invariant.few in omega arith
-
-pub overflow_add-longer : goal.overflow_add-longer
-overflow_add-longer c = let v = c.loop-cur.invariant.few in omega arith
-
-pub returns-then-longer-ge-PROPOSITIONS_MOST : goal.returns-then-longer-ge-PROPOSITIONS_MOST
-returns-then-longer-ge-PROPOSITIONS_MOST c = figures-large c.loop-cur.invariant (omega arith) c.digit_in-m.ensures c.of.ensures (omega arith) (omega arith)
-
-pub loop-cur-smaller : goal.loop-cur-smaller
-loop-cur-smaller c = let e = c.past-cur.ensures.next in omega arith
-
-pub loop-cur-preserved : goal.loop-cur-preserved
-loop-cur-preserved c = figures-more c.loop-cur.invariant (omega arith) c.digit_in-m.ensures c.of.ensures c.past-cur.ensures (omega arith) c.if-value-eq0.false (omega arith)
-
-pub returns : goal.returns
-returns c = figures-end c.loop-cur.invariant (omega arith)
+pub loop-b-preserved : goal.loop-b-preserved
+loop-b-preserved c =
+    let l = c.in-Some.ensures.lookup.3 in
+    let d = digit_here c.args.text.now c.loop-b.cur.byte (l.1 0) c.from.ensures c.in-Digit.is c.from-in-loop-b.ensures in
+    figures-more c.loop-b.invariant l.0 d c.past-cur.ensures c.if-value-eq0.false (omega arith)

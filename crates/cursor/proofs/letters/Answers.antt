@@ -1,23 +1,27 @@
-use mathlib.Core.Path.{sym, ◌∙◌}
-use Prim.Native.Nat.{◌-◌}
+-- By the letter that stands here, where one does. Assumes nothing.
+use mathlib.Core.List.{List}
+use mathlib.Core.Path.{sym, ap, ◌∙◌}
+use Prim.Native.Nat.{ℕ}
 use native.Mathlib.Omega.{arith}
-use Rattle.cursor.proofs.Words.{letters-none, letters-more, letters-other, letters-end, letters-done}
+use lib.ListN.{length, get_or}
+use Rattle.cursor.proofs.Words.{letters-more, letters-other, letters-end}
 use Rattle.cursor.proofs.letters.Goals as goal
+use Rattle.cursor.proofs.letters.Goals.{then-cur-text-via-then-cur-text, then-cur-text-via-else-cur-text+then-text-cur}
 
-pub loop-k-init : goal.loop-k-init
-loop-k-init c = (omega arith, letters-none _ _ _ c.requires)
+pub returns-then-cur-text : goal.returns-then-cur-text
+returns-then-cur-text c =
+    let l = c.loop-b in
+    let e = c.letters_of-b-items.ensures in
+    let n = ap length e in
+    elim c.then-cur-text.branch [
+      | then-cur-text-via-then-cur-text w ↦ letters-end l.invariant (omega arith) w.if-cur-text.true c.wrong.ensures
+      | then-cur-text-via-else-cur-text+then-text-cur w ↦
+          letters-other l.invariant (omega arith) w.if-cur-text.false (λ q. w.if-text-cur.true (q ∙ sym (ap (λ (s : List ℕ). get_or s l.b-index 0) e))) c.wrong.ensures
+    ]
 
-pub returns-then-at-text : goal.returns-then-at-text
-returns-then-at-text c = letters-end c.loop-k.invariant.1 (omega (arith, c.letters_of-n.ensures)) c.if-at-text.true
-
-pub letter-requires : goal.letter-requires
-letter-requires c = omega (arith, c.letters_of-n.ensures)
-
-pub returns-then-text-at : goal.returns-then-text-at
-returns-then-text-at c = letters-other c.loop-k.invariant.1 (omega (arith, c.letters_of-n.ensures)) c.if-at-text.false (λ e. c.if-text-at.true (e ∙ sym c.letter.ensures))
-
-pub loop-k-preserved : goal.loop-k-preserved
-loop-k-preserved c = (omega arith, letters-more c.loop-k.invariant.1 (omega (arith, c.letters_of-n.ensures)) c.past-cur.ensures c.if-at-text.false (c.if-text-at.false ∙ c.letter.ensures))
-
-pub returns : goal.returns
-returns c = letters-done c.loop-k.invariant.1 (omega (arith, c.letters_of-n.ensures))
+pub loop-b-preserved : goal.loop-b-preserved
+loop-b-preserved c =
+    let l = c.loop-b in
+    let e = c.letters_of-b-items.ensures in
+    let n = ap length e in
+    letters-more l.invariant (omega arith) c.past-cur.ensures c.if-cur-text.false (c.if-text-cur.false ∙ ap (λ (s : List ℕ). get_or s l.b-index 0) e)

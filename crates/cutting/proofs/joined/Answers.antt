@@ -7,8 +7,8 @@ use Rattle.cutting.proofs.Looking.{cut-few}
 use native.Mathlib.Omega.{arith}
 use Rattle.cutting.proofs.joined.Goals as goal
 
-pub choice_of-choice-requires : goal.choice_of-choice-requires
-choice_of-choice-requires c = rw c.plus-scores.ensures (sums-few _ _ c.requires.scores)
+pub choice_or_stays-choice-requires : goal.choice_or_stays-choice-requires
+choice_or_stays-choice-requires c = rw c.plus-scores.ensures (sums-few _ _ c.requires.scores)
 
 pub overflow_add-result : goal.overflow_add-result
 overflow_add-result c =
@@ -18,9 +18,9 @@ overflow_add-result c =
 pub returns : goal.returns
 returns c =
     let a = c.args in
-    let e = c.place_of-board.ensures ∙ ap (place_by _) c.choice_of-choice.ensures in
+    let e = c.place_of-board.ensures ∙ ap (place_by _) c.choice_or_stays-choice.ensures.0 in
     record {
       scores = c.plus-scores.ensures;
-      choice-is = c.choice_of-choice.ensures;
+      choice-is = c.choice_or_stays-choice.ensures.0;
       cuts = ap₂ ◌+◌ (c.looked.ensures ∙ ap (looked_cuts a.a) e) (c.looked-2.ensures ∙ ap (looked_cuts a.b) e);
     }

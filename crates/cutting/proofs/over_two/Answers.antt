@@ -9,9 +9,6 @@ use Rattle.cutting.proofs.over_two.Goals as goal
 pub plus-raw-requires : goal.plus-raw-requires
 plus-raw-requires c = raws-few c.requires
 
-pub overflow_add-read : goal.overflow_add-read
-overflow_add-read c = let p = c.requires in let w = p.walked-left.reads in let v = p.walked-right.reads in omega arith
-
 pub joined-requires : goal.joined-requires
 joined-requires c = both-joinable c.requires
 

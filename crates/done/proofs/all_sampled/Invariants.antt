@@ -1,12 +1,9 @@
--- The boards before i have sampled; the boards left fall. Assumes nothing.
-use Prim.Native.Nat.{◌-◌}
+use mathlib.Core.Path.{◌≡◌}
+use mathlib.Core.Bool.{true}
+use lib.Dec.{eqb}
 use Rattle.state.specs.Fields.{sampled_in}
-use Rattle.records.proofs.Each.{Through}
-use Rattle.done.proofs.Flags.{is_set}
+use Rattle.state.specs.Clauses.{each_below}
 use Rattle.done.proofs.all_sampled.Given as goal
 
 abbrev pub invariant-loop-i : goal.invariant-loop-i
-invariant-loop-i l = Through (is_set (sampled_in l.s)) l.n l.i
-
-abbrev pub decreases-loop-i : goal.decreases-loop-i
-decreases-loop-i l = l.n - l.i
+invariant-loop-i l = each_below l.i (λ k. eqb (sampled_in l.s k) 1) ≡ true

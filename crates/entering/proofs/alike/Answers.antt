@@ -1,10 +1,7 @@
 -- Each test tells that the tokens say the same, or do not; behind the third both are texts that can be read. Assumes nothing.
-use mathlib.Core.Path.{◌≡◌, refl, ◌∙◌}
-use Prim.Native.Nat.{ℕ}
+use mathlib.Core.Path.{refl, ◌∙◌}
 use native.Mathlib.Omega.{arith}
-use lib.ListN.{get_or}
-use Rattle.choices.specs.Marks.{length_in}
-use Rattle.entering.proofs.Telling.{TextRead, text-read, says-equal, says-low, says-high, texts-apart, texts-told}
+use Rattle.entering.proofs.Telling.{text-read, says-equal, says-low, says-high, texts-apart, texts-told}
 use Rattle.entering.proofs.alike.Goals as goal
 
 pub returns-then-t-u : goal.returns-then-t-u
@@ -18,30 +15,26 @@ returns-then-u-lt-TEXT c = says-high _ _ _ _ c.if-t-lt-TEXT.false c.if-u-lt-TEXT
 
 pub bounds-marks-a : goal.bounds-marks-a
 bounds-marks-a c =
-    let first : (n : ℕ) → n ≡ length_in (get_or c.args.marks.now c.wide-a.result 0) → TextRead c.args.bytes.now c.wide-a.result n = λ n e. text-read c.args.bytes.now c.args.marks.now c.args.t c.wide-a.result n c.requires.1 c.if-t-lt-TEXT.false c.wide-a.ensures e in
-    let e = c.requires.0 in let x = first _ refl in let s = x.some in let i = x.inside in omega arith
+    let x = text-read c.args.bytes.now c.args.marks.now c.args.t _ _ c.requires.1 c.if-t-lt-TEXT.false c.from-a.ensures refl in
+    let s = x.some in let i = x.inside in omega arith
 
 pub bounds-marks-b : goal.bounds-marks-b
 bounds-marks-b c =
-    let second : (n : ℕ) → n ≡ length_in (get_or c.args.marks.now c.wide-b.result 0) → TextRead c.args.bytes.now c.wide-b.result n = λ n e. text-read c.args.bytes.now c.args.marks.now c.args.u c.wide-b.result n c.requires.2 c.if-u-lt-TEXT.false c.wide-b.ensures e in
-    let e = c.requires.0 in let x = second _ refl in let s = x.some in let i = x.inside in omega arith
+    let x = text-read c.args.bytes.now c.args.marks.now c.args.u _ _ c.requires.2 c.if-u-lt-TEXT.false c.from-b.ensures refl in
+    let s = x.some in let i = x.inside in omega arith
 
 pub returns-then-n-m : goal.returns-then-n-m
 returns-then-n-m c =
-    texts-apart _ _ _ _ _ _ _ _ c.if-t-lt-TEXT.false c.if-u-lt-TEXT.false c.wide-a.ensures c.wide-b.ensures c.length_of-n.ensures.0 c.length_of-m.ensures.0
+    texts-apart _ _ _ _ _ _ _ _ c.if-t-lt-TEXT.false c.if-u-lt-TEXT.false c.from-a.ensures c.from-b.ensures c.length_of-n.ensures.0 c.length_of-m.ensures.0
     c.requires.1 c.requires.2 c.if-n-m.true
 
 pub same-requires : goal.same-requires
 same-requires c =
-    let first : (n : ℕ) → n ≡ length_in (get_or c.args.marks.now c.wide-a.result 0) → TextRead c.args.bytes.now c.wide-a.result n = λ n e. text-read c.args.bytes.now c.args.marks.now c.args.t c.wide-a.result n c.requires.1 c.if-t-lt-TEXT.false c.wide-a.ensures e in
-    let second : (n : ℕ) → n ≡ length_in (get_or c.args.marks.now c.wide-b.result 0) → TextRead c.args.bytes.now c.wide-b.result n = λ n e. text-read c.args.bytes.now c.args.marks.now c.args.u c.wide-b.result n c.requires.2 c.if-u-lt-TEXT.false c.wide-b.ensures e in
-    let x = first c.length_of-n.result c.length_of-n.ensures.0 in
-    let y = second c.length_of-n.result (c.if-n-m.false ∙ c.length_of-m.ensures.0) in
-    let i = x.inside in
-    let j = y.inside in
-    (x.some, omega arith, omega arith)
+    let x = text-read c.args.bytes.now c.args.marks.now c.args.t _ _ c.requires.1 c.if-t-lt-TEXT.false c.from-a.ensures c.length_of-n.ensures.0 in
+    let y = text-read c.args.bytes.now c.args.marks.now c.args.u _ _ c.requires.2 c.if-u-lt-TEXT.false c.from-b.ensures (c.if-n-m.false ∙ c.length_of-m.ensures.0) in
+    let i = x.inside in let j = y.inside in (x.some, omega arith, omega arith)
 
 pub returns : goal.returns
 returns c =
-    texts-told _ _ _ _ _ _ _ _ c.if-t-lt-TEXT.false c.if-u-lt-TEXT.false c.wide-a.ensures c.wide-b.ensures c.length_of-n.ensures.0 c.length_of-m.ensures.0
+    texts-told _ _ _ _ _ _ _ _ c.if-t-lt-TEXT.false c.if-u-lt-TEXT.false c.from-a.ensures c.from-b.ensures c.length_of-n.ensures.0 c.length_of-m.ensures.0
     c.if-n-m.false _ c.same.ensures

@@ -1,10 +1,6 @@
--- Up to i the tokens say the same; what is left of them falls. Assumes nothing.
-use Prim.Native.Nat.{◌-◌}
+-- Up to i the tokens say the same. Assumes nothing.
 use Rattle.entering.proofs.Telling.{Told}
 use Rattle.entering.proofs.same_tokens.Given as goal
 
 abbrev pub invariant-loop-i : goal.invariant-loop-i
 invariant-loop-i l = Told l.bytes l.marks l.bodies l.from l.tokens l.i
-
-abbrev pub decreases-loop-i : goal.decreases-loop-i
-decreases-loop-i l = l.n - l.i

@@ -6,14 +6,14 @@ use Rattle.printing.specs.Print.{said_print}
 use Rattle.exported.proofs.Values.{value-refused, value-accepted}
 use Rattle.exports.proofs.vydrulka_print.Goals as goal
 
-pub returns-in-Refused : goal.returns-in-Refused
-returns-in-Refused c =
+pub returns-in-Err : goal.returns-in-Err
+returns-in-Err c =
     let p = c.print-answer.ensures in
-    let e = sym (ap said_print c.in-Refused.is) ∙ p.says in
-    record { says = c.number.ensures ∙ ap (λ (s : Said). s.number) e; leaves = p.leaves; gives-length = value-refused c.in-Refused.why 0 _ e }
+    let e = sym (ap said_print c.in-Err.is) ∙ p.says in
+    record { says = c.from.ensures ∙ ap (λ (s : Said). s.number) e; leaves = p.leaves; gives-length = value-refused c.in-Err.why 0 _ e }
 
-pub returns-in-Printed : goal.returns-in-Printed
-returns-in-Printed c =
+pub returns-in-Ok : goal.returns-in-Ok
+returns-in-Ok c =
     let p = c.print-answer.ensures in
-    let e = sym (ap said_print c.in-Printed.is) ∙ p.says in
-    record { says = ap (λ (s : Said). s.number) e; leaves = p.leaves; gives-length = value-accepted (c.in-Printed.n ∷ []) 0 _ e }
+    let e = sym (ap said_print c.in-Ok.is) ∙ p.says in
+    record { says = ap (λ (s : Said). s.number) e; leaves = p.leaves; gives-length = value-accepted (c.in-Ok.n ∷ []) 0 _ e }

@@ -6,13 +6,13 @@ use Rattle.rules.specs.Read.{said_read}
 use Rattle.exported.proofs.Values.{value-refused, value-accepted}
 use Rattle.exports.proofs.vydrulka_read.Goals as goal
 
-pub returns-in-Refused : goal.returns-in-Refused
-returns-in-Refused c =
+pub returns-in-Err : goal.returns-in-Err
+returns-in-Err c =
     let r = c.read-answer.ensures in
-    let e = sym (ap said_read c.in-Refused.is) ∙ r.says in
-    let w = c.in-Refused.why in
+    let e = sym (ap said_read c.in-Err.is) ∙ r.says in
+    let w = c.in-Err.why in
     record {
-      says = c.number.ensures ∙ ap (λ (s : Said). s.number) e;
+      says = c.from.ensures ∙ ap (λ (s : Said). s.number) e;
       leaves-masks = r.leaves-masks;
       leaves-formula = r.leaves-formula;
       gives-boards = value-refused w 0 _ e;
@@ -20,11 +20,11 @@ returns-in-Refused c =
       gives-nodes = value-refused w 2 _ e;
     }
 
-pub returns-in-Rule : goal.returns-in-Rule
-returns-in-Rule c =
+pub returns-in-Ok : goal.returns-in-Ok
+returns-in-Ok c =
     let r = c.read-answer.ensures in
-    let e = sym (ap said_read c.in-Rule.is) ∙ r.says in
-    let n = c.in-Rule.c in
+    let e = sym (ap said_read c.in-Ok.is) ∙ r.says in
+    let n = c.in-Ok.c in
     let vs = n.boards ∷ n.propositions ∷ n.nodes ∷ [] in
     record {
       says = ap (λ (s : Said). s.number) e;

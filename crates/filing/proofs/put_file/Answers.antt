@@ -9,29 +9,11 @@ use Rattle.rules.specs.RuleFile.{masks_at, file_formula_at}
 use Rattle.rules.proofs.Files.{file-put}
 use Rattle.filing.proofs.put_file.Goals as goal
 
-pub overflow_add-total : goal.overflow_add-total
-overflow_add-total c = let p = c.requires in omega arith
-
-pub overflow_cast-b : goal.overflow_cast-b
-overflow_cast-b c = let p = c.requires in omega arith
-
-pub overflow_cast-p : goal.overflow_cast-p
-overflow_cast-p c = let p = c.requires in omega arith
-
-pub overflow_cast-n : goal.overflow_cast-n
-overflow_cast-n c = let p = c.requires in omega arith
-
 pub put_header-requires : goal.put_header-requires
 put_header-requires c = let p = c.requires in (omega arith, p.1, p.3)
 
 pub put_masks-requires : goal.put_masks-requires
 put_masks-requires c = let p = c.requires in let s = c.put_header.new.file in omega (arith, ap length (tail-is masks_at s), length-drop masks_at s)
-
-pub slice_bounds-copy-count : goal.slice_bounds-copy-count
-slice_bounds-copy-count c = let p = c.requires in omega arith
-
-pub slice_bounds-copy-start : goal.slice_bounds-copy-start
-slice_bounds-copy-start c = let p = c.requires in omega arith
 
 pub copy-requires : goal.copy-requires
 copy-requires c =
@@ -39,12 +21,6 @@ copy-requires c =
     let s = tail_as masks_at c.put_header.new.file c.put_masks.new.out in
     let at = file_formula_at (length c.args.masks.now) in
     omega (arith, ap length (tail-is at s), length-drop at s)
-
-pub slice_bounds-clear-count : goal.slice_bounds-clear-count
-slice_bounds-clear-count c = let p = c.requires in omega arith
-
-pub slice_bounds-clear-start : goal.slice_bounds-clear-start
-slice_bounds-clear-start c = let p = c.requires in omega arith
 
 pub returns : goal.returns
 returns c = (refl, file-put _ _ _ c.args.file.now _ _ _ _ c.requires.0 c.put_header.ensures c.put_masks.ensures c.copy.ensures c.clear.ensures)

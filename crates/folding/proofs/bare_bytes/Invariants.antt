@@ -1,11 +1,7 @@
--- What is left tells what all of it does (`BareTo`). Assumes nothing.
-use Prim.Native.Nat.{◌-◌}
-use lib.ListN.{length}
-use Rattle.folding.proofs.Bares.{BareTo}
+-- What is left tells what all of it does. Assumes nothing.
+use Rattle.std.proofs.Common.{◌≡◌, drop}
+use Rattle.folding.specs.Bare.{bare_from}
 use Rattle.folding.proofs.bare_bytes.Given as goal
 
-abbrev pub invariant-loop-i : goal.invariant-loop-i
-invariant-loop-i l = BareTo l.s l.last l.i
-
-abbrev pub decreases-loop-i : goal.decreases-loop-i
-decreases-loop-i l = length l.s - l.i
+abbrev pub invariant-loop-b : goal.invariant-loop-b
+invariant-loop-b l = bare_from 0 l.s ≡ bare_from l.last (drop l.b-index l.s)

@@ -1,11 +1,7 @@
--- What is left tells the lowest of all (`LowestTo`). Assumes nothing.
-use Prim.Native.Nat.{◌-◌}
-use lib.ListN.{length}
-use Rattle.folding.proofs.Bares.{LowestTo}
+-- What is left tells the lowest of all. Assumes nothing.
+use Rattle.std.proofs.Common.{◌≡◌, drop}
+use Rattle.folding.specs.Bare.{lowest_from}
 use Rattle.folding.proofs.lowest.Given as goal
 
-abbrev pub invariant-loop-i : goal.invariant-loop-i
-invariant-loop-i l = LowestTo l.s l.low l.i
-
-abbrev pub decreases-loop-i : goal.decreases-loop-i
-decreases-loop-i l = length l.s - l.i
+abbrev pub invariant-loop-b : goal.invariant-loop-b
+invariant-loop-b l = lowest_from 255 l.s ≡ lowest_from l.low (drop l.b-index l.s)

@@ -1,3 +1,4 @@
+use Rattle.std.proofs.lemmas.Result.{err_from_is_err_and}
 use mathlib.Core.Path.{refl, sym, ap, ◌∙◌}
 use Prim.Native.Nat.{ℕ}
 use lib.Bits.{bit_and}
@@ -15,21 +16,23 @@ loop-i-init c = let a = c.args in (c.requires, ap (λ (n : ℕ). sampled_from n 
 pub mask_of-requires : goal.mask_of-requires
 mask_of-requires c = let z = opened-sized c.loop-i.invariant.0.opened in let f = z.few-boards in let l = c.loop-i-test.true in (z.long, omega arith)
 
-pub sample_going-outcome-requires : goal.sample_going-outcome-requires
-sample_going-outcome-requires c = let g = c.loop-i.invariant.0 in (g.opened, g.unfinished)
+pub sample_going-requires : goal.sample_going-requires
+sample_going-requires c = let g = c.loop-i.invariant.0 in (g.opened, g.unfinished)
 
-pub returns-in_default : goal.returns-in_default
-returns-in_default c =
+pub returns-in_err-sample_going : goal.returns-in_err-sample_going
+returns-in_err-sample_going c =
     let a = c.args in let i = c.loop-i.invariant in
-    gives_same i.0 (sampled-same c.sample_going-outcome.ensures _ c.in_default.is)
-    (comes-by _ _ _ _ i.1 (sampled-ends _ _ _ _ _ _ c.loop-i-test.true (ap (bit_and a.event) c.mask_of.ensures) _ _ c.in_default.is c.sample_going-outcome.ensures))
+    let p = err_from_is_err_and c.from_residual.result c.from_residual.ensures.1 in
+    rw (p.1, p.2)
+    (gives_same i.0 (sampled-same c.in_err-sample_going.ensures _ refl)
+    (comes-by _ _ _ _ i.1 (sampled-ends _ _ _ _ _ _ c.loop-i-test.true (ap (bit_and a.event) c.mask_of.ensures) _ _ refl c.in_err-sample_going.ensures)))
 
 pub loop-i-preserved : goal.loop-i-preserved
 loop-i-preserved c =
     let a = c.args in let i = c.loop-i.invariant in (
-      sampled-going c.sample_going-outcome.ensures c.in-Done.is i.0,
-      sym (sampled-more _ _ _ _ _ _ c.loop-i-test.true (ap (bit_and a.event) c.mask_of.ensures) _ c.in-Done.is c.sample_going-outcome.ensures) ∙ i.1,
-      c.sample_going-outcome.auto.state ∙ i.2,
+      sampled-going c.in_ok-sample_going.ensures refl i.0,
+      sym (sampled-more _ _ _ _ _ _ c.loop-i-test.true (ap (bit_and a.event) c.mask_of.ensures) _ refl c.in_ok-sample_going.ensures) ∙ i.1,
+      c.sample_going.auto.state ∙ i.2,
     )
 
 pub returns : goal.returns

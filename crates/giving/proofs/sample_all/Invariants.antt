@@ -1,5 +1,4 @@
--- The boards from i on, sampled from here on, come to what all come to from the entry, and the watch goes on; the boards left fall. Assumes
--- nothing.
+-- The boards from i on, sampled from here on, come to what all come to from the entry, and the watch goes on. Assumes nothing.
 use mathlib.Core.Path.{◌≡◌}
 use Prim.Native.Nat.{◌-◌}
 use lib.ListN.{length}
@@ -8,7 +7,4 @@ use Rattle.giving.specs.Give.{GoingOn}
 use Rattle.giving.proofs.sample_all.Given as goal
 
 abbrev pub invariant-loop-i : goal.invariant-loop-i
-invariant-loop-i l = GoingOn l.state l.c × (sampled_from (l.n - l.i) l.event l.i l.state ≡ sampled_from l.n l.event 0 l.initial.state) × (length l.state ≡ length l.initial.state)
-
-abbrev pub decreases-loop-i : goal.decreases-loop-i
-decreases-loop-i l = l.n - l.i
+invariant-loop-i l = GoingOn l.state l.c × (sampled_from (l.c.boards - l.i) l.event l.i l.state ≡ sampled_from l.c.boards l.event 0 l.initial.state) × (length l.state ≡ length l.initial.state)

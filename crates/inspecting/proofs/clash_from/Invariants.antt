@@ -1,10 +1,6 @@
--- The records so far have no clash (`ClearTo`); the records left fall. A clash ends the loop with its place. Assumes nothing.
-use Prim.Native.Nat.{◌-◌}
+-- The records so far have no clash (`ClearTo`). A clash ends the loop with its place. Assumes nothing.
 use Rattle.inspecting.specs.Looked.{ClearTo}
 use Rattle.inspecting.proofs.clash_from.Given as goal
 
 abbrev pub invariant-loop-i : goal.invariant-loop-i
 invariant-loop-i l = ClearTo l.recording l.i
-
-abbrev pub decreases-loop-i : goal.decreases-loop-i
-decreases-loop-i l = l.n - l.i

@@ -6,14 +6,5 @@ use lib.Dec.{eqb}
 use Rattle.inspecting.proofs.Looking.{same_step}
 use Rattle.inspecting.proofs.same_at.Goals as goal
 
-pub overflow_sub-i : goal.overflow_sub-i
-overflow_sub-i c = let p = c.requires.some in omega arith
-
-pub counter_at-before-requires : goal.counter_at-before-requires
-counter_at-before-requires c = let p = c.requires.some in let r = c.requires.room in omega arith
-
-pub counter_at-counter-requires : goal.counter_at-counter-requires
-counter_at-counter-requires c = let r = c.requires.room in omega arith
-
 pub returns : goal.returns
 returns c = same_step c.counter_at-before.result c.counter_at-counter.result (omega arith) (omega arith) c.step.ensures ∙ ap₂ (λ (x y : ℕ). eqb x y) c.counter_at-counter.ensures c.counter_at-before.ensures

@@ -1,9 +1,7 @@
--- `out` has the first i numbers in front, then what it had before; the rows left fall. Row i stands before the end of the n rows
--- (`row_fits`). Assumes nothing.
+-- `out` has the first i numbers in front, then what it had before. Assumes nothing.
 use mathlib.Core.Path.{◌≡◌}
 use mathlib.Core.List.{List}
-use Prim.Native.Nat.{ℕ, ◌+◌, ◌-◌, ◌*◌, ◌≤◌}
-use lib.ListN.{length}
+use Prim.Native.Nat.{ℕ, ◌+◌, ◌*◌}
 use Rattle.lists.specs.Listed.{listed}
 use Rattle.lists.proofs.Overlay.{overlaid}
 use Rattle.le.specs.Le.{le_at}
@@ -14,7 +12,4 @@ abbrev pub row : List ℕ → ℕ → ℕ → ℕ → ℕ
 row s at step i = le_at s (at + step * i) 8
 
 abbrev pub invariant-loop-i : goal.invariant-loop-i
-invariant-loop-i l = (l.i ≤ l.n) × (l.out ≡ overlaid l.i (listed (row l.s l.at l.step) l.n) l.initial.out) × (length l.out ≡ length l.initial.out)
-
-abbrev pub decreases-loop-i : goal.decreases-loop-i
-decreases-loop-i l = l.n - l.i
+invariant-loop-i l = l.out ≡ overlaid l.i (listed (row l.s l.at l.step) l.n) l.initial.out

@@ -1,5 +1,5 @@
--- `masks::follow_rule` meets its contract: the two tests of the rule, one after the other. No loop. Assumes nothing.
-use mathlib.Core.Path.{sym, ◌∙◌}
+-- The two tests of the rule, one after the other. Assumes nothing.
+use Rattle.std.proofs.Common.{sym, ◌∙◌}
 use borrow.Author.Tests.{eq-eqb, ne_eqb}
 use Rattle.lists.specs.Tests.{both}
 use Rattle.masks.specs.Masks.{masks_rule}
@@ -11,4 +11,4 @@ returns-then-sum_ones-p c = rw (c.union.ensures, c.low_bits.ensures, eq-eqb _ _ 
 
 pub returns-else-sum_ones-p : goal.returns-else-sum_ones-p
 unfolding masks_rule both
-returns-else-sum_ones-p c = rw (ne_eqb _ _ (λ e. c.if-sum_ones-p.false (c.sum_ones.ensures ∙ e)))
+returns-else-sum_ones-p c = rw (c.sum_ones.ensures, ne_eqb _ _ (λ e. c.if-sum_ones-p.false (c.sum_ones.ensures ∙ e)))

@@ -1,16 +1,8 @@
-use mathlib.Core.Path.{refl, sym, ◌∙◌}
-use Prim.Native.Nat.{◌-◌}
-use native.Mathlib.Omega.{arith}
-use lib.ListN.{length}
-use Rattle.masks.proofs.Bits.{union_with-turn, union_with-done}
-use borrow.Author.Rules.{rules}
+use Rattle.std.proofs.Common.{◌≡◌, ◌∙◌, rules, bit_or, fold}
+use Rattle.masks.proofs.Bits.{union_is}
 use Rattle.masks.proofs.union.Goals as goal
 
-pub loop-i-init : goal.loop-i-init
-loop-i-init c = (search rules, refl)
-
-pub loop-i-preserved : goal.loop-i-preserved
-loop-i-preserved c = (omega arith, sym (union_with-turn _ _ _ c.loop-i-test.true) ∙ c.loop-i.invariant.1)
-
 pub returns : goal.returns
-returns c = sym (union_with-done _ _ _ c.loop-i-test.false) ∙ c.loop-i.invariant.1
+returns c =
+    let by_chain : c.fold.result ≡ fold bit_or 0 c.args.masks.now = search rules in
+    by_chain ∙ union_is 0 c.args.masks.now

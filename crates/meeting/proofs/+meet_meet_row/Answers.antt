@@ -2,7 +2,7 @@ use mathlib.Core.Path.{◌≡◌, sym, ◌∙◌}
 use mathlib.Core.Bool.{true, false}
 use Prim.Native.Nat.{◌+◌, ◌-◌, ◌<◌}
 use native.Mathlib.Omega.{arith}
-use lib.ListN.{get_or, set}
+use lib.ListN.{length, get_or, set}
 use Rattle.lists.specs.Tests.{bit}
 use Rattle.meeting.proofs.Entering.{lent-tokens, meets-seen, EntryMet, entered, entry-room, entry-ask, meets-new}
 use Rattle.meeting.proofs.Walking.{holds, walk_start, walk-past, entry-big, entry-less, walk-ask, walk-met, walk-as, walk-done}
@@ -36,30 +36,30 @@ meet-returns t c =
     meets-new c.requires unmet grown (lent-tokens a.bodies.now a.places.now a.k) c.meet_row.ensures
 
 -- ---- a row
-pub meet_row-loop-i-init : goal.meet_row-loop-i-init
-meet_row-loop-i-init t c = walk_start c.requires
+pub meet_row-loop-t-init : goal.meet_row-loop-t-init
+meet_row-loop-t-init t c = walk_start c.requires
 
 pub meet_row-overflow_sub-k : goal.meet_row-overflow_sub-k
-meet_row-overflow_sub-k t c = entry-big c.loop-i.invariant c.requires c.loop-i-test.true (sym c.is_holder.ensures ∙ c.if-is_holder.true)
+meet_row-overflow_sub-k t c = entry-big c.loop-t.invariant c.requires (omega arith) (sym c.is_holder.ensures ∙ c.if-is_holder.true)
 
 -- its entry's number is below the holder's
 pub meet_row-with_bit-held-requires : goal.meet_row-with_bit-held-requires
 meet_row-with_bit-held-requires t c =
-    let h = entry-less c.loop-i.invariant c.requires c.loop-i-test.true (sym c.is_holder.ensures ∙ c.if-is_holder.true) in
+    let h = entry-less c.loop-t.invariant c.requires (omega arith) (sym c.is_holder.ensures ∙ c.if-is_holder.true) in
     let f = c.requires.linked.few in
     omega arith
 
 pub meet_row-meet-so_far-requires : goal.meet_row-meet-so_far-requires
 meet_row-meet-so_far-requires t c =
-    let held : holds (get_or c.args.tokens.now c.loop-i.i 0) ≡ true = sym c.is_holder.ensures ∙ c.if-is_holder.true in
-    let h : get_or c.args.tokens.now c.loop-i.i 0 - 128 < c.args.own = entry-less c.loop-i.invariant c.requires c.loop-i-test.true held in
+    let held : holds (get_or c.args.tokens.now c.loop-t.t-index 0) ≡ true = sym c.is_holder.ensures ∙ c.if-is_holder.true in
+    let h : get_or c.args.tokens.now c.loop-t.t-index 0 - 128 < c.args.own = entry-less c.loop-t.invariant c.requires (omega arith) held in
     let e = c.decreases in
-    (omega arith, walk-ask c.loop-i.invariant c.requires c.loop-i-test.true held)
+    (omega arith, walk-ask c.loop-t.invariant c.requires (omega arith) held)
 
-pub meet_row-loop-i-preserved : goal.meet_row-loop-i-preserved
-meet_row-loop-i-preserved t c =
-    let k = c.loop-i.invariant in
-    let l = c.loop-i-test.true in
+pub meet_row-loop-t-preserved : goal.meet_row-loop-t-preserved
+meet_row-loop-t-preserved t c =
+    let k = c.loop-t.invariant in
+    let l : c.loop-t.t-index < length c.args.tokens.now = omega arith in
     let e = c.is_holder.ensures in
     elim c.if-is_holder.branch [
       | meet_row-then-is_holder w ↦
@@ -70,4 +70,4 @@ meet_row-loop-i-preserved t c =
     ]
 
 pub meet_row-returns : goal.meet_row-returns
-meet_row-returns t c = walk-done c.loop-i.invariant c.requires c.loop-i-test.false
+meet_row-returns t c = walk-done c.loop-t.invariant c.requires (omega arith)

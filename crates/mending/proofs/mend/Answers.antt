@@ -1,61 +1,31 @@
--- Each way out is one law of Outcomes, or the promise of what it calls. No loop. Assumes nothing.
-use mathlib.Core.Path.{◌≡◌, sym, ◌∙◌}
-use mathlib.Core.Bool.{true}
+-- Each way out is one law of Outcomes; what the inspection tells where it refuses nothing is `inspected`. No loop. Assumes nothing.
+use Rattle.std.proofs.lemmas.Result.{err_from_is_err_and}
 use native.Mathlib.Omega.{arith}
-use Rattle.recordings.specs.Recording.{total_ok, header_ok}
-use Rattle.inspecting.proofs.Fits.{total-long, header-long}
-use Rattle.inspecting.proofs.Looking.{looked-clear}
-use Rattle.mending.proofs.Outcomes.{total-wrong, room-wrong, list-wrong, header-wrong, clash-found}
+use borrow.Author.Rules.{rules}
+use Rattle.inspecting.proofs.Checks.{inspected}
+use Rattle.mending.proofs.Outcomes.{room_wrong, inspection_wrong, ready_long, sift_ask, header_ask, mended-ready}
 use Rattle.mending.proofs.mend.Goals as goal
 
-pub returns-then-not-total_fits : goal.returns-then-not-total_fits
-returns-then-not-total_fits c = total-wrong _ _ _ (sym c.total_fits.ensures ∙ c.if-not-total_fits.true)
-
 pub returns-then-mended-recording : goal.returns-then-mended-recording
-returns-then-mended-recording c =
-    let total : total_ok c.args.recording.now ≡ true = sym c.total_fits.ensures ∙ c.if-not-total_fits.false in
-    room-wrong _ _ _ total c.if-mended-recording.true
+returns-then-mended-recording c = room_wrong _ _ _ c.if-mended-recording.true
 
-pub count_in-n-requires : goal.count_in-n-requires
-count_in-n-requires c =
-    let total : total_ok c.args.recording.now ≡ true = sym c.total_fits.ensures ∙ c.if-not-total_fits.false in
-    total-long _ total
+pub returns-in_err-inspect : goal.returns-in_err-inspect
+returns-in_err-inspect c =
+    let p = err_from_is_err_and c.from_residual.result c.from_residual.ensures.1 in
+    rw (p.1, p.2) (inspection_wrong _ _ _ c.if-mended-recording.false _ c.in_err-inspect.ensures)
 
-pub returns-then-marks-n : goal.returns-then-marks-n
-returns-then-marks-n c =
-    let total : total_ok c.args.recording.now ≡ true = sym c.total_fits.ensures ∙ c.if-not-total_fits.false in
-    list-wrong _ _ _ total c.if-mended-recording.false (λ e. c.if-marks-n.true (e ∙ sym c.count_in-n.ensures.0))
+pub slice_bounds-sift-count : goal.slice_bounds-sift-count
+slice_bounds-sift-count c = ready_long _ _ _ c.if-mended-recording.false (inspected _ _ c.in_ok-inspect.ensures)
 
-pub header_fits-requires : goal.header_fits-requires
-header_fits-requires c =
-    let total : total_ok c.args.recording.now ≡ true = sym c.total_fits.ensures ∙ c.if-not-total_fits.false in
-    total-long _ total
+pub slice_bounds-sift-start : goal.slice_bounds-sift-start
+slice_bounds-sift-start c = let h = ready_long _ _ _ c.if-mended-recording.false (inspected _ _ c.in_ok-inspect.ensures) in search rules
 
-pub returns-then-not-header_fits : goal.returns-then-not-header_fits
-returns-then-not-header_fits c =
-    let total : total_ok c.args.recording.now ≡ true = sym c.total_fits.ensures ∙ c.if-not-total_fits.false in
-    header-wrong _ _ _ total c.if-mended-recording.false (c.if-marks-n.false ∙ c.count_in-n.ensures.0) (sym c.header_fits.ensures ∙ c.if-not-header_fits.true)
+pub sift-counts-requires : goal.sift-counts-requires
+sift-counts-requires c = sift_ask _ _ _ c.if-mended-recording.false (inspected _ _ c.in_ok-inspect.ensures)
 
-pub first_clash-requires : goal.first_clash-requires
-first_clash-requires c =
-    let total : total_ok c.args.recording.now ≡ true = sym c.total_fits.ensures ∙ c.if-not-total_fits.false in
-    let header : header_ok c.args.recording.now ≡ true = sym c.header_fits.ensures ∙ c.if-not-header_fits.false in
-    let k = c.count_in-n.ensures.0 in let l = header-long _ total header in omega arith
+pub put_header-requires : goal.put_header-requires
+put_header-requires c =
+    header_ask _ _ _ c.if-mended-recording.false (inspected _ _ c.in_ok-inspect.ensures) (λ i. let k = c.type_inv.recording i in omega arith) c.sift-counts.ensures c.sift-counts.auto.out
 
-pub returns-then-first_clash-n : goal.returns-then-first_clash-n
-returns-then-first_clash-n c =
-    let total : total_ok c.args.recording.now ≡ true = sym c.total_fits.ensures ∙ c.if-not-total_fits.false in
-    let header : header_ok c.args.recording.now ≡ true = sym c.header_fits.ensures ∙ c.if-not-header_fits.false in
-    clash-found _ _ _ total c.if-mended-recording.false (c.if-marks-n.false ∙ c.count_in-n.ensures.0) header c.first_clash.ensures c.count_in-n.ensures.0 c.if-first_clash-n.true
-
-pub mend_ready-requires : goal.mend_ready-requires
-mend_ready-requires c =
-    let total : total_ok c.args.recording.now ≡ true = sym c.total_fits.ensures ∙ c.if-not-total_fits.false in
-    let header : header_ok c.args.recording.now ≡ true = sym c.header_fits.ensures ∙ c.if-not-header_fits.false in
-    record {
-      total = total;
-      room = c.if-mended-recording.false;
-      list = c.if-marks-n.false ∙ c.count_in-n.ensures.0;
-      header = header;
-      clear = looked-clear c.first_clash.ensures c.count_in-n.ensures.0 c.if-first_clash-n.false;
-    }
+pub returns : goal.returns
+returns c = mended-ready _ _ _ c.if-mended-recording.false (inspected _ _ c.in_ok-inspect.ensures) c.sift-counts.ensures c.put_header.ensures

@@ -1,17 +1,8 @@
--- The first record comes after a counter one below its own, each other one after that of the record before it (`steps_next`). No loop. Assumes nothing.
-use Rattle.std.proofs.Common.{◌≡◌, ℕ, ◌+◌, ◌-◌, sym, subst, arith}
+-- A record after the first comes after the counter of the one before it (`steps_next`). No loop. Assumes nothing.
+use Rattle.std.proofs.Common.{◌≡◌, ℕ, ◌+◌, ◌-◌, subst, arith}
 use Rattle.neighbours.specs.Steps.{StepsTo}
 use Rattle.neighbours.proofs.Steps.{steps_next}
 use Rattle.neighbours.proofs.before_at.Goals as goal
-
-pub before_first-requires : goal.before_first-requires
-before_first-requires c = c.requires.0
-
-pub returns-then-i-eq0 : goal.returns-then-i-eq0
-returns-then-i-eq0 c = λ h. let a = c.args in subst (λ (k : ℕ). StepsTo a.recording.now k c.before_first.result) (sym c.if-i-eq0.true) (c.before_first.ensures (omega arith))
-
-pub counter_at-requires : goal.counter_at-requires
-counter_at-requires c = let n = c.if-i-eq0.false in let p = c.requires.0 in let l = c.requires.1 in omega arith
 
 pub returns : goal.returns
 returns c =

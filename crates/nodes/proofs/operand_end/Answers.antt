@@ -15,7 +15,7 @@ bounds-s-i c =
 pub overflow_add-owed : goal.overflow_add-owed
 overflow_add-owed c =
     let inside : c.loop-owed.i + c.loop-owed.owed ≤ length c.args.s.now = ending-few c.loop-owed.invariant c.requires in
-    let again : let l = c.loop-owed in Ending c.args.s.now (l.i + 1) (l.owed - 1 + c.operands.result) = let n = inside in let h = c.loop-owed-test.true in ending-more c.loop-owed.invariant (omega arith) (omega arith) c.of.ensures c.operands.ensures in
+    let again : let l = c.loop-owed in Ending c.args.s.now (l.i + 1) (l.owed - 1 + c.operands.result) = let n = inside in let h = c.loop-owed-test.true in ending-more c.loop-owed.invariant (omega arith) (omega arith) c.from.ensures c.operands.ensures in
     let n = ending-few (again) c.requires in omega arith
 
 pub overflow_add-i : goal.overflow_add-i
@@ -31,7 +31,7 @@ loop-owed-smaller c =
 pub loop-owed-preserved : goal.loop-owed-preserved
 loop-owed-preserved c =
     let inside : c.loop-owed.i + c.loop-owed.owed ≤ length c.args.s.now = ending-few c.loop-owed.invariant c.requires in
-    let again : let l = c.loop-owed in Ending c.args.s.now (l.i + 1) (l.owed - 1 + c.operands.result) = let n = inside in let h = c.loop-owed-test.true in ending-more c.loop-owed.invariant (omega arith) (omega arith) c.of.ensures c.operands.ensures in
+    let again : let l = c.loop-owed in Ending c.args.s.now (l.i + 1) (l.owed - 1 + c.operands.result) = let n = inside in let h = c.loop-owed-test.true in ending-more c.loop-owed.invariant (omega arith) (omega arith) c.from.ensures c.operands.ensures in
     again
 
 pub returns : goal.returns

@@ -6,7 +6,7 @@ pub returns-then-formula-ne-RULE_NODES_MOST : goal.returns-then-formula-ne-RULE_
 returns-then-formula-ne-RULE_NODES_MOST c = length-wrong c.if-formula-ne-RULE_NODES_MOST.true
 
 pub parse_text-requires : goal.parse_text-requires
-parse_text-requires c = record { accepted = rw c.in-Accepted.is at c.recognise-found.ensures; room = c.if-formula-ne-RULE_NODES_MOST.false }
+parse_text-requires c = record { accepted = rw c.in-Ok.is at c.recognise-found.ensures; room = c.if-formula-ne-RULE_NODES_MOST.false }
 
-pub returns-in-Refused : goal.returns-in-Refused
-returns-in-Refused c = no_text c.if-formula-ne-RULE_NODES_MOST.false _ (rw c.in-Refused.is at c.recognise-found.ensures)
+pub returns-in-Err : goal.returns-in-Err
+returns-in-Err c = no_text c.if-formula-ne-RULE_NODES_MOST.false _ (rw c.in-Err.is at c.recognise-found.ensures)

@@ -7,4 +7,4 @@ pub bounds-held-m : goal.bounds-held-m
 bounds-held-m c = let l = c.requires.2 in let i = hold-below _ _ c.in-Hold.is c.requires.1 in omega arith
 
 pub returns-in-Hold : goal.returns-in-Hold
-returns-in-Hold c = hold-token _ _ _ _ _ c.in-Hold.is c.token_of-in-Hold.ensures.0 c.token_of-in-Hold-2.ensures.0
+returns-in-Hold c = hold-token _ _ _ _ _ c.in-Hold.is c.from-in-Hold.ensures c.from-in-Hold-2.ensures

@@ -14,7 +14,7 @@ pub overflow_mul-at : goal.overflow_mul-at
 overflow_mul-at c = let i = part-inside _ _ _ _ _ c.requires.stands in let m = c.requires.source.few in omega arith
 
 pub returns-then-which-eq-LATER : goal.returns-then-which-eq-LATER
-returns-then-which-eq-LATER c = λ bytes u choose held f h p. part-top-later _ _ _ choose held f p _ _ c.if-which-eq-LATER.true c.token_of.ensures.0 c.between.ensures
+returns-then-which-eq-LATER c = λ bytes u choose held f h p. part-top-later _ _ _ choose held f p _ _ c.if-which-eq-LATER.true c.from.ensures c.between.ensures
 
 pub text_top-requires : goal.text_top-requires
 text_top-requires c =

@@ -1,35 +1,21 @@
-use native.Mathlib.Omega.{arith}
 use Rattle.popping.proofs.Pops.{popping-none, popping-more, popped-none, popped-other, popped-loose}
 use Rattle.popping.proofs.pop.Goals as goal
+use Rattle.popping.proofs.pop.Goals.{then-depths-i-via-then-depths-i, then-depths-i-via-else-depths-i+then-k-j}
 
-pub loop-top-init : goal.loop-top-init
-loop-top-init c = popping-none _ _ _ _ _ _ c.requires
+pub loop-i-init : goal.loop-i-init
+loop-i-init c = popping-none _ _ _ _ _ _ c.requires
 
-pub bounds-depths-top : goal.bounds-depths-top
-bounds-depths-top c = let p = c.loop-top.invariant in omega arith
+pub returns-then-depths-i : goal.returns-then-depths-i
+returns-then-depths-i c =
+    let p = c.loop-i.invariant in
+    let h = c.loop-i-test.true in
+    elim c.then-depths-i.branch [
+      | then-depths-i-via-then-depths-i w ↦ popped-other p h w.if-depths-i.true
+      | then-depths-i-via-else-depths-i+then-k-j w ↦ popped-loose p h w.if-depths-i.false w.if-k-j.true
+    ]
 
-pub returns-then-depths-top : goal.returns-then-depths-top
-returns-then-depths-top c = popped-other c.loop-top.invariant c.loop-top-test.true c.if-depths-top.true
-
-pub bounds-levels-top : goal.bounds-levels-top
-bounds-levels-top c = let p = c.loop-top.invariant in omega arith
-
-pub returns-then-k-j : goal.returns-then-k-j
-returns-then-k-j c = popped-loose c.loop-top.invariant c.loop-top-test.true c.if-depths-top.false c.if-k-j.true
-
-pub overflow_sub-out : goal.overflow_sub-out
-overflow_sub-out c = let p = c.loop-top.invariant in omega arith
-
-pub bounds-out-at : goal.bounds-out-at
-bounds-out-at c = let p = c.loop-top.invariant in omega arith
-
-pub overflow_sub-at : goal.overflow_sub-at
-overflow_sub-at c = let p = c.loop-top.invariant in omega arith
-
-pub loop-top-preserved : goal.loop-top-preserved
-loop-top-preserved c =
-    let p = c.loop-top.invariant in
-    popping-more p c.loop-top-test.true c.if-depths-top.false c.if-k-j.false _ c.code_at.ensures
+pub loop-i-preserved : goal.loop-i-preserved
+loop-i-preserved c = popping-more c.loop-i.invariant c.loop-i-test.true c.if-depths-i.false c.if-k-j.false _ c.code_at.ensures
 
 pub returns : goal.returns
-returns c = popped-none c.loop-top.invariant c.loop-top-test.false
+returns c = popped-none c.loop-i.invariant c.loop-i-test.false

@@ -2,8 +2,5 @@
 use Rattle.popping.proofs.Pops.{Popping}
 use Rattle.popping.proofs.pop.Given as goal
 
-abbrev pub invariant-loop-top : goal.invariant-loop-top
-invariant-loop-top l = Popping l.levels l.depths l.d l.k l.initial.top l.initial.at l.initial.out l.top l.at l.out
-
-abbrev pub decreases-loop-top : goal.decreases-loop-top
-decreases-loop-top l = l.top
+abbrev pub invariant-loop-i : goal.invariant-loop-i
+invariant-loop-i l = Popping l.levels l.depths l.d l.k l.fn.x.top l.fn.x.at l.initial.out l.i l.at l.out

@@ -1,5 +1,6 @@
 -- The header's refusals are those of `read_says`; behind it each check of the code decides one more, in the same order, and a refusal has
 -- written nothing: what is known behind each check stands at its place. Assumes nothing.
+use Rattle.std.proofs.lemmas.Result.{err_from_is_err_and}
 use mathlib.Core.Path.{◌≡◌, refl, sym, ap, ap₂, subst, ◌∙◌}
 use mathlib.Core.Bool.{Bool}
 use mathlib.Core.List.{List}
@@ -48,47 +49,47 @@ module _ {file : List ℕ} {m f : ℕ} {c : RuleCounts} (h : HeadPassed file m f
   formula-is : {x y : Bool} → x ≡ is_rule c.propositions (drop (file_formula_at c.boards) file) → x ≡ y → is_rule (propositions_in_file file) (formula_in_file file) ≡ y
   formula-is e q = rw (← h.propositions-are, ← h.boards-are) (sym e ∙ q)
 
-pub returns-in_default : goal.returns-in_default
-returns-in_default c = let e = c.in_default.is in subst (Reads _ _ _ _ _) (sym e) (read-refused _ _ _ _ (subst (HeadRead _ _ _) e c.head_of-head.ensures))
+pub returns-in_err-c : goal.returns-in_err-c
+returns-in_err-c c = let p = err_from_is_err_and c.from_residual.result c.from_residual.ensures.1 in rw (p.1, p.2) (read-refused _ _ _ _ c.in_err-c.ensures)
 
 pub masks_ok-requires : goal.masks_ok-requires
 masks_ok-requires c =
     let a = c.args in
-    let h : HeadPassed a.file.now (length a.masks.now) (length a.formula.now) c.in-Rule.c = subst (HeadRead _ _ _) c.in-Rule.is c.head_of-head.ensures in
+    let h = c.in_ok-c.ensures in
     let t = told h in
     (omega arith, refl, t.boards-few, t.propositions-few)
 
 pub returns-then-not-masks_ok : goal.returns-then-not-masks_ok
 returns-then-not-masks_ok c =
     let a = c.args in
-    let h : HeadPassed a.file.now (length a.masks.now) (length a.formula.now) c.in-Rule.c = subst (HeadRead _ _ _) c.in-Rule.is c.head_of-head.ensures in
+    let h = c.in_ok-c.ensures in
     read-masks _ _ _ h (masks-are h c.masks_ok.ensures.0 c.if-not-masks_ok.true)
 
 pub formula_ok-requires : goal.formula_ok-requires
 formula_ok-requires c =
     let a = c.args in
-    let h : HeadPassed a.file.now (length a.masks.now) (length a.formula.now) c.in-Rule.c = subst (HeadRead _ _ _) c.in-Rule.is c.head_of-head.ensures in
+    let h = c.in_ok-c.ensures in
     let t = told h in
     omega arith
 
 pub returns-then-not-formula_ok : goal.returns-then-not-formula_ok
 returns-then-not-formula_ok c =
     let a = c.args in
-    let h : HeadPassed a.file.now (length a.masks.now) (length a.formula.now) c.in-Rule.c = subst (HeadRead _ _ _) c.in-Rule.is c.head_of-head.ensures in
+    let h = c.in_ok-c.ensures in
     read-formula _ _ _ h (masks-are h c.masks_ok.ensures.0 c.if-not-masks_ok.false) (formula-is h c.formula_ok.ensures c.if-not-formula_ok.true)
 
 pub put_rule-requires : goal.put_rule-requires
 put_rule-requires c =
     let a = c.args in
-    let h : HeadPassed a.file.now (length a.masks.now) (length a.formula.now) c.in-Rule.c = subst (HeadRead _ _ _) c.in-Rule.is c.head_of-head.ensures in
+    let h = c.in_ok-c.ensures in
     let t = told h in
     let s = lengths h in
-    (found-length a.file.now _ c.in-Rule.c.boards c.masks_ok.ensures.1 t.boards-few ∙ sym s.masks-room, omega arith, omega arith)
+    (found-length a.file.now _ c.in_ok-c.c.boards c.masks_ok.ensures.1 t.boards-few ∙ sym s.masks-room, omega arith, omega arith)
 
 pub returns : goal.returns
 returns c =
     let a = c.args in
-    let h : HeadPassed a.file.now (length a.masks.now) (length a.formula.now) c.in-Rule.c = subst (HeadRead _ _ _) c.in-Rule.is c.head_of-head.ensures in
+    let h = c.in_ok-c.ensures in
     let f = a.file.now in
     let e = h.boards-are in
     read-rule _ _ _

@@ -29,26 +29,26 @@ cut_parts-loop-x-init t c = loop-first _ _ _ c.top_of-t.ensures c.put_top-rest.a
 
 pub cut_parts-slice_bounds-look-count : goal.cut_parts-slice_bounds-look-count
 cut_parts-slice_bounds-look-count t c =
-    let n = loop-ask c.loop-x.invariant c.loop-x-test.true c.requires.0 refl c.wide-p.result c.wide-p.ensures in
+    let n = loop-ask c.loop-x.invariant c.loop-x-test.true c.requires.0 refl c.from-p.result c.from-p.ensures in
     let i = next-inside n in omega arith
 
 pub cut_parts-slice_bounds-look-start : goal.cut_parts-slice_bounds-look-start
 cut_parts-slice_bounds-look-start t c =
-    let n = loop-ask c.loop-x.invariant c.loop-x-test.true c.requires.0 refl c.wide-p.result c.wide-p.ensures in
+    let n = loop-ask c.loop-x.invariant c.loop-x-test.true c.requires.0 refl c.from-p.result c.from-p.ensures in
     let i = next-inside n in omega arith
 
 pub cut_parts-look-x-requires : goal.cut_parts-look-x-requires
 cut_parts-look-x-requires t c =
-    let n = loop-ask c.loop-x.invariant c.loop-x-test.true c.requires.0 refl c.wide-p.result c.wide-p.ensures in
+    let n = loop-ask c.loop-x.invariant c.loop-x-test.true c.requires.0 refl c.from-p.result c.from-p.ensures in
     let g = c.requires.0.given in
     let f =
-    falls-part c.args.u.now c.args.bytes.now c.args.part c.wide-p.result t g.from (part-inside _ _ _ _ _ g.stands)
+    falls-part c.args.u.now c.args.bytes.now c.args.part c.from-p.result t g.from (part-inside _ _ _ _ _ g.stands)
     (next-inside n) (next-later n) c.decreases in
     (f, (next-asks n, c.requires.1, c.requires.2))
 
 pub cut_parts-loop-x-smaller : goal.cut_parts-loop-x-smaller
 cut_parts-loop-x-smaller t c =
-    let n = loop-ask c.loop-x.invariant c.loop-x-test.true c.requires.0 refl c.wide-p.result c.wide-p.ensures in
+    let n = loop-ask c.loop-x.invariant c.loop-x-test.true c.requires.0 refl c.from-p.result c.from-p.ensures in
     let w = next-written n in
     let d = c.loop-x.invariant.desk-long in
     let e = c.look-x.ensures.written_is in
@@ -57,7 +57,7 @@ cut_parts-loop-x-smaller t c =
 pub cut_parts-loop-x-preserved : goal.cut_parts-loop-x-preserved
 cut_parts-loop-x-preserved t c =
     let h = c.look-x.auto in
-    loop-turn c.loop-x.invariant c.loop-x-test.true _ c.wide-p.ensures _ _ _ _ _ c.look-x.ensures
+    loop-turn c.loop-x.invariant c.loop-x-test.true _ c.from-p.ensures _ _ _ _ _ c.look-x.ensures
     h.desk h.bodies h.places h.stamps
 
 pub cut_parts-returns : goal.cut_parts-returns

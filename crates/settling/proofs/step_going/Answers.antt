@@ -34,4 +34,4 @@ pub returns : goal.returns
 returns c =
     let there : let a = c.args in a.slot < slots_in a.state.now = let q = c.requires.0.header.slots-are in omega arith in
     let p = c.requires in
-    done _ _ p.0.passes p.1 (there) (sym c.mark_of.ensures ∙ c.if-mark_of-ne0.false) c.in-Sees.seen (sym c.sight_of-sight.ensures ∙ c.in-Sees.is) _ c.put_stepped.ensures
+    done _ _ p.0.passes p.1 (there) (sym c.mark_of.ensures ∙ c.if-mark_of-ne0.false) c.in-Some.seen (sym c.sight_of-sight.ensures ∙ c.in-Some.is) _ c.put_stepped.ensures

@@ -1,5 +1,5 @@
 use mathlib.Core.Path.{◌≡◌, sym, ap, ◌∙◌}
-use Prim.Native.Nat.{◌-◌, ◌<◌, ◌≤◌}
+use Prim.Native.Nat.{◌<◌, ◌≤◌}
 use native.Mathlib.Omega.{arith}
 use lib.ListN.{length, get_or}
 use Rattle.limits.specs.Limits.{nodes_room}
@@ -42,7 +42,7 @@ loop-count-smaller c =
 pub loop-count-preserved : goal.loop-count-preserved
 loop-count-preserved c =
     let room : let i = c.loop-count.i in (i < c.args.end) × (c.args.end ≤ length c.args.s.now) × (length c.args.s.now ≤ nodes_room) = part_room c.loop-count.invariant.0 in
-    let kind : c.is_ever.result ≡ ever_kind (kind_of (get_or c.args.s.now c.loop-count.i 0)) = c.is_ever.ensures ∙ ap ever_kind c.of.ensures in
+    let kind : c.is_ever.result ≡ ever_kind (kind_of (get_or c.args.s.now c.loop-count.i 0)) = c.is_ever.ensures ∙ ap ever_kind c.from.ensures in
     let l = c.loop-count.invariant in
     let r = room in
     let f = l.1 in
@@ -51,5 +51,5 @@ loop-count-preserved c =
 
 pub returns : goal.returns
 returns c =
-    let kind : c.is_ever.result ≡ ever_kind (kind_of (get_or c.args.s.now c.loop-count.i 0)) = c.is_ever.ensures ∙ ap ever_kind c.of.ensures in
+    let kind : c.is_ever.result ≡ ever_kind (kind_of (get_or c.args.s.now c.loop-count.i 0)) = c.is_ever.ensures ∙ ap ever_kind c.from.ensures in
     let l = c.loop-count.invariant in ever-done c.requires l.0 l.1 l.2 (sym (kind) ∙ c.loop-count-test.false)

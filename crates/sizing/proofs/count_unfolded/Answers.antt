@@ -1,5 +1,4 @@
 use mathlib.Core.Path.{◌≡◌, sym, ap, ◌∙◌}
-use Prim.Native.Nat.{◌-◌}
 use native.Mathlib.Omega.{arith}
 use lib.ListN.{get_or}
 use Rattle.kinds.specs.Kinds.{kind_of}
@@ -12,7 +11,7 @@ loop-i-init c = let f = c.requires.few in (sums-start c.requires, omega arith)
 
 pub count_whole-t-requires : goal.count_whole-t-requires
 count_whole-t-requires c =
-    let kind : c.stays_whole.result ≡ whole_kind (kind_of (get_or c.args.s.now c.loop-i.i 0)) = c.stays_whole.ensures ∙ ap whole_kind c.of.ensures in
+    let kind : c.stays_whole.result ≡ whole_kind (kind_of (get_or c.args.s.now c.loop-i.i 0)) = c.stays_whole.ensures ∙ ap whole_kind c.from.ensures in
     let l = c.loop-i.invariant in record { sums = l.0; below = c.loop-i-test.true; stays = sym (kind) ∙ c.if-stays_whole.true; small = l.1 }
 
 pub returns-then-count-gt-NODES_ROOM : goal.returns-then-count-gt-NODES_ROOM
@@ -29,7 +28,7 @@ loop-i-smaller c = let h = c.loop-i-test.true in omega arith
 
 pub loop-i-preserved : goal.loop-i-preserved
 loop-i-preserved c =
-    let kind : c.stays_whole.result ≡ whole_kind (kind_of (get_or c.args.s.now c.loop-i.i 0)) = c.stays_whole.ensures ∙ ap whole_kind c.of.ensures in
+    let kind : c.stays_whole.result ≡ whole_kind (kind_of (get_or c.args.s.now c.loop-i.i 0)) = c.stays_whole.ensures ∙ ap whole_kind c.from.ensures in
     let l = c.loop-i.invariant in (sums-plain l.0 c.loop-i-test.true (sym (kind) ∙ c.if-stays_whole.false), l.1)
 
 pub returns : goal.returns

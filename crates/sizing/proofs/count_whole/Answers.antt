@@ -21,15 +21,15 @@ returns-then-s-i-eq-NEXT c = whole-next c.requires c.operand_end.ensures c.if-s-
 
 pub count_ever-requires : goal.count_ever-requires
 count_ever-requires c =
-    let kind : c.is_ever.result ≡ ever_kind (kind_of (get_or c.args.s.now c.args.i 0)) = c.is_ever.ensures ∙ ap ever_kind c.of.ensures in
+    let kind : c.is_ever.result ≡ ever_kind (kind_of (get_or c.args.s.now c.args.i 0)) = c.is_ever.ensures ∙ ap ever_kind c.from.ensures in
     whole-ever c.requires c.operand_end.ensures (sym (kind) ∙ c.if-is_ever.true)
 
-pub overflow_add-more-2 : goal.overflow_add-more-2
-overflow_add-more-2 c =
+pub overflow_add-result-3 : goal.overflow_add-result-3
+overflow_add-result-3 c =
     let part : SumsPart c.args.s.now c.args.i (c.args.i + c.operand_end.result) c.args.count = whole_part c.requires c.operand_end.ensures in
     let r = part_room (part) in let l = c.requires.small in omega arith
 
 pub returns : goal.returns
 returns c =
-    let kind : c.is_ever.result ≡ ever_kind (kind_of (get_or c.args.s.now c.args.i 0)) = c.is_ever.ensures ∙ ap ever_kind c.of.ensures in
+    let kind : c.is_ever.result ≡ ever_kind (kind_of (get_or c.args.s.now c.args.i 0)) = c.is_ever.ensures ∙ ap ever_kind c.from.ensures in
     whole-until c.requires c.operand_end.ensures (sym (kind) ∙ c.if-is_ever.false) c.if-s-i-eq-NEXT.false

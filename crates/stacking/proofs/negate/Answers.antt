@@ -3,19 +3,15 @@ use mathlib.Core.Path.{refl, ap, ◌∙◌}
 use Prim.Native.Nat.{◌+◌, ◌-◌}
 use lib.ListN.{get_or}
 use lib.Seq.{take-set-le, get_or-set_other}
-use Rattle.stacking.proofs.Stacks.{Lowest, top_of, negate-constant, negate-pending}
+use Rattle.stacking.proofs.Stacks.{top_of, negate-constant, negate-pending}
 use native.Mathlib.Omega.{arith}
 use Rattle.stacking.proofs.negate.Goals as goal
 
 pub bounds-p-w : goal.bounds-p-w
-bounds-p-w c =
-    let top : Lowest c.requires.top c.requires.others c.args.p.now c.args.notes.now c.args.w = top_of c.requires.stack in
-    let t = top in omega arith
+bounds-p-w c = let t = top_of c.requires.stack in omega arith
 
 pub bounds-p-w-then-a-lt2 : goal.bounds-p-w-then-a-lt2
-bounds-p-w-then-a-lt2 c =
-    let top : Lowest c.requires.top c.requires.others c.args.p.now c.args.notes.now c.args.w = top_of c.requires.stack in
-    let t = top in omega arith
+bounds-p-w-then-a-lt2 c = let t = top_of c.requires.stack in omega arith
 
 pub returns-then-a-lt2 : goal.returns-then-a-lt2
 returns-then-a-lt2 c =
@@ -26,19 +22,13 @@ returns-then-a-lt2 c =
     }
 
 pub bounds-notes-w : goal.bounds-notes-w
-bounds-notes-w c =
-    let top : Lowest c.requires.top c.requires.others c.args.p.now c.args.notes.now c.args.w = top_of c.requires.stack in
-    let t = top in omega arith
+bounds-notes-w c = let t = top_of c.requires.stack in omega arith
 
 pub overflow_add-n : goal.overflow_add-n
-overflow_add-n c =
-    let top : Lowest c.requires.top c.requires.others c.args.p.now c.args.notes.now c.args.w = top_of c.requires.stack in
-    let t = top in let w = c.wide-n.ensures in omega arith
+overflow_add-n c = let t = top_of c.requires.stack in let w = c.from-n.ensures in omega arith
 
 pub narrow-requires : goal.narrow-requires
-narrow-requires c =
-    let top : Lowest c.requires.top c.requires.others c.args.p.now c.args.notes.now c.args.w = top_of c.requires.stack in
-    let t = top in let w = c.wide-n.ensures in omega arith
+narrow-requires c = let t = top_of c.requires.stack in let w = c.from-n.ensures in omega arith
 
 pub returns : goal.returns
 returns c =
@@ -47,5 +37,5 @@ returns c =
     let n = c.narrow in
     record {
       untouched = record { front = λ u h. take-set-le u a.p.now (a.w - 1) 2 (omega arith); notes-front = λ q h. get_or-set_other a.notes.now (a.w - 1) q n.result 0 (λ e. omega arith) };
-      means = λ f fs s. negate-pending s x c.if-a-lt2.false n.result (n.ensures ∙ ap (◌+ 1) c.wide-n.ensures);
+      means = λ f fs s. negate-pending s x c.if-a-lt2.false n.result (n.ensures ∙ ap (◌+ 1) c.from-n.ensures);
     }

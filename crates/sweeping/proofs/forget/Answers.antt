@@ -9,5 +9,5 @@ clear_notes-requires c = let a = c.requires in let x = a.1 in let y = a.2 in ome
 pub returns-then-is_join : goal.returns-then-is_join
 returns-then-is_join c = let a = c.requires in let x = a.1 in let y = a.2 in forgets-joined (omega arith) c.clear_notes.ensures
 
-pub returns : goal.returns
-returns c = forgets-plain (c.is_join.ensures c.if-is_join.false)
+pub returns-else-is_join : goal.returns-else-is_join
+returns-else-is_join c = forgets-plain (c.is_join.ensures c.if-is_join.false)

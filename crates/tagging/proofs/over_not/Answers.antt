@@ -7,9 +7,6 @@ use Rattle.tagging.proofs.Tops.{shown-few, over-scored}
 use native.Mathlib.Omega.{arith}
 use Rattle.tagging.proofs.over_not.Goals as goal
 
-pub overflow_add-a : goal.overflow_add-a
-overflow_add-a c = let n = c.requires in omega arith
-
 pub overflow_add-shown : goal.overflow_add-shown
 overflow_add-shown c =
     let few : c.shown.result ≤ c.args.a.read = shown-few _ c.requires.1.part c.shown.ensures in

@@ -8,17 +8,8 @@ use Rattle.tagging.proofs.Tops.{shown-few, over-scored}
 use native.Mathlib.Omega.{arith}
 use Rattle.tagging.proofs.over_pair.Goals as goal
 
-pub plus-scores-requires : goal.plus-scores-requires
-plus-scores-requires c = c.requires.1.scores
-
-pub choice_of-requires : goal.choice_of-requires
-choice_of-requires c = rw c.plus-scores.ensures (sums-few _ _ c.requires.1.scores)
-
-pub overflow_add-a : goal.overflow_add-a
-overflow_add-a c = let n = c.requires in omega arith
-
-pub overflow_add-a-2 : goal.overflow_add-a-2
-overflow_add-a-2 c = let n = c.requires in omega arith
+pub choice_or_stays-requires : goal.choice_or_stays-requires
+choice_or_stays-requires c = rw c.plus-scores.ensures (sums-few _ _ c.requires.1.scores)
 
 pub overflow_add-here : goal.overflow_add-here
 overflow_add-here c =
@@ -40,4 +31,4 @@ seal-requires c =
 pub returns : goal.returns
 returns c =
     let here = ap₂ (λ (x y : ℕ). 1 + x + y) c.shown.ensures c.shown-2.ensures in
-    over-scored c.plus-scores.ensures (c.place_of-board.ensures ∙ ap (place_by _) c.choice_of.ensures) here c.seal.ensures
+    over-scored c.plus-scores.ensures (c.place_of-board.ensures ∙ ap (place_by _) c.choice_or_stays.ensures.0) here c.seal.ensures

@@ -11,11 +11,8 @@ use Rattle.tagging.proofs.Walks.{asks-some}
 use native.Mathlib.Omega.{arith}
 use Rattle.tagging.proofs.tag_whole.Goals as goal
 
-pub tally-t-requires : goal.tally-t-requires
-tally-t-requires c = let p = c.requires in (p.0, p.1, p.3)
-
-pub choice_of-requires : goal.choice_of-requires
-choice_of-requires c =
+pub choice_or_stays-requires : goal.choice_or_stays-requires
+choice_or_stays-requires c =
     λ i. let few : size c.requires.0.formula ≤ nodes_room = let l = front_length _ _ _ c.requires.0.front in omega arith in
     let x = few in
     let n = (c.tally-t.ensures _ _ c.requires.0.front).1.few i in omega arith
@@ -29,4 +26,4 @@ seal-requires c =
 pub returns : goal.returns
 returns c =
     λ f rest y.
-    whole-over (c.tally-t.ensures f rest y) (c.place_of-board.ensures ∙ ap (place_by _) c.choice_of.ensures) c.seal.ensures
+    whole-over (c.tally-t.ensures f rest y) (c.place_of-board.ensures ∙ ap (place_by _) c.choice_or_stays.ensures.0) c.seal.ensures

@@ -1,46 +1,57 @@
 -- Giving refuses, or what it has left is closed back into the state: one law of proofs/Outcomes.antt for each. Assumes nothing.
-use mathlib.Core.Path.{◌≡◌, sym, ap, subst, ◌∙◌}
+use Rattle.std.specs.Prelude.{Result, ⊤}
+use Rattle.std.proofs.lemmas.Result.{err_from_is_err_and}
+use mathlib.Core.Path.{◌≡◌, refl, sym, ap, subst, ◌∙◌}
 use mathlib.Core.List.{List}
 use Prim.Native.Nat.{ℕ, ◌≤◌}
 use native.Mathlib.Omega.{arith}
 use lib.ListN.{length}
+use Rattle.answers.specs.declared.Refusal.{Refusal}
+use Rattle.state.specs.declared.Counts.{Counts}
 use Rattle.state.specs.Form.{form_in, form_of, state_length}
+use Rattle.state.specs.Opened.{Opened}
 use Rattle.records.proofs.Opened.{opened-sized}
 use Rattle.storing.specs.Stores.{ZeroFrom}
+use Rattle.course.specs.Given.{After}
 use Rattle.giving.specs.Give.{given_passing, GivesEvent}
+use Rattle.ticking.specs.Tick.{TickAsk}
 use Rattle.ticking.proofs.Lending.{end_of, ends-inside, rest-zeros, given-lent}
 use Rattle.ticking.proofs.Outcomes.{tick-refused, given-number, given-leaves, tick-closed}
 use Rattle.ticking.proofs.tick.Goals as goal
 
-pub give-given-requires : goal.give-given-requires
-give-given-requires c = let p = c.requires in rw p.copied p.going
+-- ---- what is known once the event was given to a copy of the state, which is t' now
+gives : {s t t' : List ℕ} {k : Counts} (event : ℕ) {x : Result ⊤ Refusal} → t ≡ s → GivesEvent (given_passing t event) k t' x → GivesEvent (given_passing s event) k t' x
+gives {t' = t'} {k = k} event {x = x} same = subst (λ u. GivesEvent (given_passing u event) k t' x) same
 
-pub returns-in_default : goal.returns-in_default
-returns-in_default c =
-    let gives : let a = c.args in GivesEvent (given_passing a.state.now a.event) a.c c.give-given.new.state c.give-given.result = let a = c.args in subst (λ (s : List ℕ). GivesEvent (given_passing s a.event) a.c c.give-given.new.state c.give-given.result) c.requires.copied c.give-given.ensures in
-    let same-long : length c.give-given.new.state ≡ length c.args.state.now = c.give-given.auto.state ∙ ap length c.requires.copied in
-    let long : length c.args.state.now ≡ state_length (form_in c.give-given.new.state) = (opened-sized c.requires.going.opened).long ∙ ap (λ (n : ℕ). state_length (form_of n)) (sym (same-long)) in
-    let inside : end_of c.args.c ≤ length c.args.state.now = ends-inside (opened-sized c.requires.going.opened) in
-    let zeros : ZeroFrom (end_of c.args.c) c.give-given.new.state = let g = gives in let l = same-long in let i = inside in rest-zeros g.header (omega arith) g.rest in
-    tick-refused _ _ _ _ (gives).comes _ c.in_default.is (long) (zeros)
+long : {s t : List ℕ} (t' : List ℕ) {k : Counts} → t ≡ s → Opened s k → length t' ≡ length t → length s ≡ state_length (form_in t')
+long t' same opened kept = (opened-sized opened).long ∙ ap (λ (n : ℕ). state_length (form_of n)) (sym (kept ∙ ap length same))
+
+zeros : {s t t' : List ℕ} {k : Counts} {a : After} {x : Result ⊤ Refusal} → t ≡ s → Opened s k → length t' ≡ length t → GivesEvent a k t' x → ZeroFrom (end_of k) t'
+zeros same opened kept h = let i = ends-inside (opened-sized opened) in let l = kept ∙ ap length same in rest-zeros h.header (omega arith) h.rest
+
+pub give-requires : goal.give-requires
+give-requires c = let p = c.requires in rw p.copied p.going
+
+pub returns-in_err-give : goal.returns-in_err-give
+returns-in_err-give c =
+    let q = c.requires in
+    let h = c.in_err-give.ensures in
+    let p = err_from_is_err_and c.from_residual.result c.from_residual.ensures.1 in
+    rw (p.1, p.2) (tick-refused _ _ _ _ (gives c.args.event q.copied h).comes _ refl (long _ q.copied q.going.opened c.give.auto.state) (zeros q.copied q.going.opened c.give.auto.state h))
 
 pub close_lent-requires : goal.close_lent-requires
 close_lent-requires c =
-    let gives : let a = c.args in GivesEvent (given_passing a.state.now a.event) a.c c.give-given.new.state c.give-given.result = let a = c.args in subst (λ (s : List ℕ). GivesEvent (given_passing s a.event) a.c c.give-given.new.state c.give-given.result) c.requires.copied c.give-given.ensures in
-    let same-long : length c.give-given.new.state ≡ length c.args.state.now = c.give-given.auto.state ∙ ap length c.requires.copied in
-    let long : length c.args.state.now ≡ state_length (form_in c.give-given.new.state) = (opened-sized c.requires.going.opened).long ∙ ap (λ (n : ℕ). state_length (form_of n)) (sym (same-long)) in
-    let g = gives in
-    given-lent c.requires _ (given-leaves _ _ _ _ g.comes c.in-Done.is) (given-number _ _ _ _ g.comes c.in-Done.is) (g.going c.in-Done.is) (long)
+    let q = c.requires in
+    let g = gives c.args.event q.copied c.in_ok-give.ensures in
+    given-lent q _ (given-leaves _ _ _ _ g.comes refl) (given-number _ _ _ _ g.comes refl) (g.going refl) (long _ q.copied q.going.opened c.give.auto.state)
 
 pub returns : goal.returns
 returns c =
-    let gives : let a = c.args in GivesEvent (given_passing a.state.now a.event) a.c c.give-given.new.state c.give-given.result = let a = c.args in subst (λ (s : List ℕ). GivesEvent (given_passing s a.event) a.c c.give-given.new.state c.give-given.result) c.requires.copied c.give-given.ensures in
-    let same-long : length c.give-given.new.state ≡ length c.args.state.now = c.give-given.auto.state ∙ ap length c.requires.copied in
-    let inside : end_of c.args.c ≤ length c.args.state.now = ends-inside (opened-sized c.requires.going.opened) in
-    let zeros : ZeroFrom (end_of c.args.c) c.give-given.new.state = let g = gives in let l = same-long in let i = inside in rest-zeros g.header (omega arith) g.rest in
-    tick-closed _ _ _ _ (gives).comes c.in-Done.is (zeros) c.close_lent.ensures
+    let q = c.requires in
+    let h = c.in_ok-give.ensures in
+    tick-closed _ _ _ _ (gives c.args.event q.copied h).comes refl (zeros q.copied q.going.opened c.give.auto.state h) c.close_lent.ensures
 
 pub overflow_add-c : goal.overflow_add-c
 overflow_add-c c =
-    let inside : end_of c.args.c ≤ length c.args.state.now = ends-inside (opened-sized c.requires.going.opened) in
-    let i = inside in let l = c.well_formed in omega arith
+    let i : end_of c.args.c ≤ length c.args.state.now = ends-inside (opened-sized c.requires.going.opened) in
+    let l = c.well_formed in omega arith

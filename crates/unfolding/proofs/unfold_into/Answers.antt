@@ -5,5 +5,5 @@ use Rattle.unfolding.proofs.unfold_into.Goals as goal
 pub count_unfolded-requires : goal.count_unfolded-requires
 count_unfolded-requires c = ask-size c.requires
 
-pub unfold_small-requires : goal.unfold_small-requires
-unfold_small-requires c = ask-small _ c.count_unfolded.ensures c.if-count_unfolded-le-SMALL_NODES.true c.requires
+pub unfold_with-requires-clause-asks : goal.unfold_with-requires-clause-asks
+unfold_with-requires-clause-asks c = ask-small _ c.count_unfolded.ensures c.if-count_unfolded-le-SMALL_NODES.true c.requires

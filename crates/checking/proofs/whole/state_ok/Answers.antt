@@ -16,17 +16,17 @@ use Rattle.checking.proofs.whole.state_ok.Goals as goal
 
 pub returns-then-s-length : goal.returns-then-s-length
 returns-then-s-length c =
-    let long-is : c.length.result ≡ state_length (form_in c.args.s.now) = c.length.ensures ∙ ap state_length c.of-form.ensures in
+    let long-is : c.length.result ≡ state_length (form_in c.args.s.now) = c.length.ensures ∙ ap state_length c.from-form.ensures in
     sym (clause-fails _ 0 (ne_eqb _ _ (λ e. c.if-s-length.true (e ∙ sym (long-is)))))
 
 pub counts_of-c-requires : goal.counts_of-c-requires
 counts_of-c-requires c =
-    let long-is : c.length.result ≡ state_length (form_in c.args.s.now) = c.length.ensures ∙ ap state_length c.of-form.ensures in
+    let long-is : c.length.result ≡ state_length (form_in c.args.s.now) = c.length.ensures ∙ ap state_length c.from-form.ensures in
     c.if-s-length.false ∙ long-is
 
 pub header_ok-requires : goal.header_ok-requires
 header_ok-requires c =
-    let long-is : c.length.result ≡ state_length (form_in c.args.s.now) = c.length.ensures ∙ ap state_length c.of-form.ensures in
+    let long-is : c.length.result ≡ state_length (form_in c.args.s.now) = c.length.ensures ∙ ap state_length c.from-form.ensures in
     (c.if-s-length.false ∙ long-is, c.counts_of-c.ensures)
 
 pub returns-then-not-header_ok : goal.returns-then-not-header_ok
@@ -34,7 +34,7 @@ returns-then-not-header_ok c = sym (clause-fails _ 1 (sym c.header_ok.ensures �
 
 pub propositions-p-requires : goal.propositions-p-requires
 propositions-p-requires c =
-    let long-is : c.length.result ≡ state_length (form_in c.args.s.now) = c.length.ensures ∙ ap state_length c.of-form.ensures in
+    let long-is : c.length.result ≡ state_length (form_in c.args.s.now) = c.length.ensures ∙ ap state_length c.from-form.ensures in
     let long : Formed c.args.s.now = c.if-s-length.false ∙ long-is in
     let header : Header c.args.s.now c.counts_of-c.result = c.counts_of-c.ensures in
     let header_ok : header_ok c.args.s.now ≡ true = sym c.header_ok.ensures ∙ c.if-not-header_ok.false in
@@ -46,7 +46,7 @@ returns-then-p-lt1 c = let e = c.propositions-p.ensures in sym (clause-fails _ 2
 
 pub boards_ok-requires : goal.boards_ok-requires
 boards_ok-requires c =
-    let long-is : c.length.result ≡ state_length (form_in c.args.s.now) = c.length.ensures ∙ ap state_length c.of-form.ensures in
+    let long-is : c.length.result ≡ state_length (form_in c.args.s.now) = c.length.ensures ∙ ap state_length c.from-form.ensures in
     let long : Formed c.args.s.now = c.if-s-length.false ∙ long-is in
     let header : Header c.args.s.now c.counts_of-c.result = c.counts_of-c.ensures in
     let header_ok : header_ok c.args.s.now ≡ true = sym c.header_ok.ensures ∙ c.if-not-header_ok.false in
@@ -61,7 +61,7 @@ returns-then-not-boards_ok c =
 pub start_of-requires : goal.start_of-requires
 start_of-requires c =
     let header : Header c.args.s.now c.counts_of-c.result = c.counts_of-c.ensures in
-    let long-is : c.length.result ≡ state_length (form_in c.args.s.now) = c.length.ensures ∙ ap state_length c.of-form.ensures in
+    let long-is : c.length.result ≡ state_length (form_in c.args.s.now) = c.length.ensures ∙ ap state_length c.from-form.ensures in
     let long : Formed c.args.s.now = c.if-s-length.false ∙ long-is in
     let header_ok : header_ok c.args.s.now ≡ true = sym c.header_ok.ensures ∙ c.if-not-header_ok.false in
     let sized : Sized c.args.s.now c.counts_of-c.result = header-sized _ _ (header) (long) (header_ok) in
@@ -73,7 +73,7 @@ returns-then-start_of-ne0 c = sym (clause-fails _ 4 (ne_eqb _ _ (λ q. c.if-star
 pub records_ok-requires : goal.records_ok-requires
 records_ok-requires c =
     let header : Header c.args.s.now c.counts_of-c.result = c.counts_of-c.ensures in
-    let long-is : c.length.result ≡ state_length (form_in c.args.s.now) = c.length.ensures ∙ ap state_length c.of-form.ensures in
+    let long-is : c.length.result ≡ state_length (form_in c.args.s.now) = c.length.ensures ∙ ap state_length c.from-form.ensures in
     let long : Formed c.args.s.now = c.if-s-length.false ∙ long-is in
     let header_ok : header_ok c.args.s.now ≡ true = sym c.header_ok.ensures ∙ c.if-not-header_ok.false in
     let sized : Sized c.args.s.now c.counts_of-c.result = header-sized _ _ (header) (long) (header_ok) in
@@ -87,7 +87,7 @@ returns-then-not-records_ok c =
 pub formulas_ok-requires : goal.formulas_ok-requires
 formulas_ok-requires c =
     let header : Header c.args.s.now c.counts_of-c.result = c.counts_of-c.ensures in
-    let long-is : c.length.result ≡ state_length (form_in c.args.s.now) = c.length.ensures ∙ ap state_length c.of-form.ensures in
+    let long-is : c.length.result ≡ state_length (form_in c.args.s.now) = c.length.ensures ∙ ap state_length c.from-form.ensures in
     let long : Formed c.args.s.now = c.if-s-length.false ∙ long-is in
     let header_ok : header_ok c.args.s.now ≡ true = sym c.header_ok.ensures ∙ c.if-not-header_ok.false in
     let sized : Sized c.args.s.now c.counts_of-c.result = header-sized _ _ (header) (long) (header_ok) in
@@ -104,7 +104,7 @@ returns-then-not-formulas_ok c =
 pub gaps_ok-requires : goal.gaps_ok-requires
 gaps_ok-requires c =
     let header : Header c.args.s.now c.counts_of-c.result = c.counts_of-c.ensures in
-    let long-is : c.length.result ≡ state_length (form_in c.args.s.now) = c.length.ensures ∙ ap state_length c.of-form.ensures in
+    let long-is : c.length.result ≡ state_length (form_in c.args.s.now) = c.length.ensures ∙ ap state_length c.from-form.ensures in
     let long : Formed c.args.s.now = c.if-s-length.false ∙ long-is in
     let header_ok : header_ok c.args.s.now ≡ true = sym c.header_ok.ensures ∙ c.if-not-header_ok.false in
     let sized : Sized c.args.s.now c.counts_of-c.result = header-sized _ _ (header) (long) (header_ok) in
@@ -119,7 +119,7 @@ returns-then-not-gaps_ok c =
 pub rest_ok-requires : goal.rest_ok-requires
 rest_ok-requires c =
     let header : Header c.args.s.now c.counts_of-c.result = c.counts_of-c.ensures in
-    let long-is : c.length.result ≡ state_length (form_in c.args.s.now) = c.length.ensures ∙ ap state_length c.of-form.ensures in
+    let long-is : c.length.result ≡ state_length (form_in c.args.s.now) = c.length.ensures ∙ ap state_length c.from-form.ensures in
     let long : Formed c.args.s.now = c.if-s-length.false ∙ long-is in
     let header_ok : header_ok c.args.s.now ≡ true = sym c.header_ok.ensures ∙ c.if-not-header_ok.false in
     let sized : Sized c.args.s.now c.counts_of-c.result = header-sized _ _ (header) (long) (header_ok) in
@@ -129,7 +129,7 @@ pub returns : goal.returns
 returns c =
     let ruled : MasksRuled c.args.s.now c.propositions-p.result = propositions-some _ _ c.propositions-p.ensures c.if-p-lt1.false in
     let header : Header c.args.s.now c.counts_of-c.result = c.counts_of-c.ensures in
-    let long-is : c.length.result ≡ state_length (form_in c.args.s.now) = c.length.ensures ∙ ap state_length c.of-form.ensures in
+    let long-is : c.length.result ≡ state_length (form_in c.args.s.now) = c.length.ensures ∙ ap state_length c.from-form.ensures in
     let long : Formed c.args.s.now = c.if-s-length.false ∙ long-is in
     let header_ok : header_ok c.args.s.now ≡ true = sym c.header_ok.ensures ∙ c.if-not-header_ok.false in
     let boards-ok : each_below c.counts_of-c.result.boards (board_ok c.args.s.now) ≡ true = sym c.boards_ok.ensures ∙ c.if-not-boards_ok.false in

@@ -3,26 +3,8 @@ use Rattle.choices.proofs.Made.{choice-fits, again-fits, length-fits, ever-sums,
 use native.Mathlib.Omega.{arith}
 use Rattle.choices.proofs.over.over_ever.Goals as goal
 
-pub raw_at-scores-requires : goal.raw_at-scores-requires
-raw_at-scores-requires c = c.requires.raw-fits
-
-pub opened_at-first-requires : goal.opened_at-first-requires
-opened_at-first-requires c = c.before.requires.opened-fits
-
 pub plus-sums-requires : goal.plus-sums-requires
 plus-sums-requires c = ever-sums c.before.requires c.raw_at-scores.ensures c.opened_at-first.ensures
-
-pub put_opened-requires : goal.put_opened-requires
-put_opened-requires c = c.requires.opened-fits
-
-pub again_of-again-requires : goal.again_of-again-requires
-again_of-again-requires c = tt
-
-pub length_of-requires : goal.length_of-requires
-length_of-requires c = tt
-
-pub choice_of-requires : goal.choice_of-requires
-choice_of-requires c = tt
 
 pub together-requires : goal.together-requires
 together-requires c = (choice-fits _ c.choice_of.ensures.0, again-fits _ c.again_of-again.ensures.0, ever-few c.requires c.raw_at-scores.ensures c.opened_at-first.ensures c.plus-sums.ensures)

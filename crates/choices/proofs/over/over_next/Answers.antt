@@ -2,18 +2,6 @@
 use Rattle.choices.proofs.Made.{next_fits, next-made}
 use Rattle.choices.proofs.over.over_next.Goals as goal
 
-pub raw_at-scores-requires : goal.raw_at-scores-requires
-raw_at-scores-requires c = c.requires.raw-fits
-
-pub put_opened-requires : goal.put_opened-requires
-put_opened-requires c = c.requires.opened-fits
-
-pub again_of-again-requires : goal.again_of-again-requires
-again_of-again-requires c = tt
-
-pub length_of-requires : goal.length_of-requires
-length_of-requires c = tt
-
 pub mark_of-requires : goal.mark_of-requires
 mark_of-requires c = next_fits c.requires c.length_of.ensures.0 c.again_of-again.ensures.0
 

@@ -4,12 +4,6 @@ use Rattle.choices.proofs.Packing.{more-fits}
 use native.Mathlib.Omega.{arith}
 use Rattle.choices.proofs.over.over_one.Goals as goal
 
-pub over_next-requires : goal.over_next-requires
-over_next-requires c = c.requires
-
-pub over_ever-requires : goal.over_ever-requires
-over_ever-requires c = c.requires
-
 pub returns-in-Not : goal.returns-in-Not
 returns-in-Not c = one-not c.requires c.in-Not.is
 

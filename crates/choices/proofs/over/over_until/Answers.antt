@@ -3,29 +3,17 @@ use Rattle.choices.proofs.Made.{until-laters, until-later-few, until-sums, until
 use native.Mathlib.Omega.{arith}
 use Rattle.choices.proofs.over.over_until.Goals as goal
 
-pub opened_at-left-requires : goal.opened_at-left-requires
-opened_at-left-requires c = let p = c.before.requires.pair.fits in omega arith
-
 pub plus-laters-requires : goal.plus-laters-requires
 plus-laters-requires c = until-laters c.before.requires c.opened_at-left.ensures
 
 pub together-later-requires : goal.together-later-requires
 together-later-requires c = let p = c.before.requires.pair in (omega arith, omega arith, until-later-few c.before.requires c.opened_at-left.ensures c.plus-laters.ensures)
 
-pub opened_at-right-requires : goal.opened_at-right-requires
-opened_at-right-requires c = c.requires.pair.fits
-
 pub plus-sums-requires : goal.plus-sums-requires
 plus-sums-requires c = until-sums c.requires c.opened_at-left.ensures c.plus-laters.ensures c.opened_at-right.ensures
 
-pub put_opened-requires : goal.put_opened-requires
-put_opened-requires c = c.requires.pair.fits
-
 pub together-requires : goal.together-requires
 together-requires c = let p = c.requires.pair in (omega arith, c.together-later.ensures.0, until-few c.requires c.opened_at-left.ensures c.plus-laters.ensures c.opened_at-right.ensures c.plus-sums.ensures)
-
-pub mark_of-requires : goal.mark_of-requires
-mark_of-requires c = let p = c.requires.pair in (p.short, c.together.ensures.0, c.together-later.ensures.0, omega arith)
 
 pub returns : goal.returns
 returns c = until-made c.requires c.opened_at-left.ensures c.plus-laters.ensures c.opened_at-right.ensures c.plus-sums.ensures c.put_opened.ensures c.together-later.ensures c.together.ensures c.mark_of.ensures

@@ -14,4 +14,4 @@ pub returns-then-a-eq-STAYS : goal.returns-then-a-eq-STAYS
 returns-then-a-eq-STAYS c = (search rules, together-right _ _ _ c.if-a-eq-STAYS.true)
 
 pub returns : goal.returns
-returns c = (let l = c.picked.ensures.1 in omega arith, λ xs ys h k s p q. c.picked.ensures.0)
+returns c = (let l = c.choice_or_stays.ensures.1 in omega arith, λ xs ys h k s p q. c.choice_or_stays.ensures.0)

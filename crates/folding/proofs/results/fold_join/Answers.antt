@@ -3,20 +3,8 @@ use Rattle.folding.proofs.Pairs.{two-room, join-left-done, join-right-done, join
 use native.Mathlib.Omega.{arith}
 use Rattle.folding.proofs.results.fold_join.Goals as goal
 
-pub bounds-notes-t : goal.bounds-notes-t
-bounds-notes-t c = let r = two-room c.requires in omega arith
-
-pub bounds-notes-t-2 : goal.bounds-notes-t-2
-bounds-notes-t-2 c = let r = two-room c.requires in omega arith
-
-pub bounds-notes-t-then-l-d : goal.bounds-notes-t-then-l-d
-bounds-notes-t-then-l-d c = let r = two-room c.requires in omega arith
-
 pub returns-then-l-d : goal.returns-then-l-d
 returns-then-l-d c = λ f g fs e s. join-left-done s _ _ _ c.deciding-d.ensures c.if-l-d.true (omega (arith, c.note_length.ensures))
-
-pub overflow_add-result-then-r-d : goal.overflow_add-result-then-r-d
-overflow_add-result-then-r-d c = let r = two-room c.requires in let n = c.note_length-then-r-d.ensures in omega arith
 
 pub returns-then-r-d : goal.returns-then-r-d
 returns-then-r-d c = λ f g fs e s. join-right-done s _ _ _ c.deciding-d.ensures c.if-r-d.true (omega (arith, c.note_length-then-r-d.ensures))
@@ -24,14 +12,8 @@ returns-then-r-d c = λ f g fs e s. join-right-done s _ _ _ c.deciding-d.ensures
 pub returns-then-l-lt2 : goal.returns-then-l-lt2
 returns-then-l-lt2 c = λ f g fs e s. join-skip-done s _ _ c.deciding-d.ensures c.if-l-d.false c.if-l-lt2.true
 
-pub offset_bounds-notes-t-then-r-lt2 : goal.offset_bounds-notes-t-then-r-lt2
-offset_bounds-notes-t-then-r-lt2 c = let r = two-room c.requires in omega arith
-
 pub returns-then-r-lt2 : goal.returns-then-r-lt2
 returns-then-r-lt2 c = λ f g fs e s. join-keep-done s _ _ c.deciding-d.ensures c.if-r-d.false c.if-l-lt2.false c.if-r-lt2.true
-
-pub bounds-p-v : goal.bounds-p-v
-bounds-p-v c = let r = two-room c.requires in omega arith
 
 pub returns : goal.returns
 returns c = λ f g fs e s. join-made s _ (two-room c.requires).low _ _ e c.if-l-lt2.false c.if-r-lt2.false (omega arith)

@@ -3,12 +3,6 @@ use Rattle.folding.proofs.Made.{one-room, one-fixed, one-made}
 use native.Mathlib.Omega.{arith}
 use Rattle.folding.proofs.results.fold_one.Goals as goal
 
-pub bounds-notes-t : goal.bounds-notes-t
-bounds-notes-t c = let r = one-room c.requires in omega arith
-
-pub offset_bounds-notes-t-then-n-lt2 : goal.offset_bounds-notes-t-then-n-lt2
-offset_bounds-notes-t-then-n-lt2 c = let r = one-room c.requires in omega arith
-
 pub returns-then-n-lt2 : goal.returns-then-n-lt2
 returns-then-n-lt2 c = λ f fs e s. one-fixed s _ _ c.if-n-lt2.true c.of_constant.ensures
 

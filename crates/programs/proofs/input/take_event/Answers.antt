@@ -5,5 +5,5 @@ use Rattle.programs.proofs.input.take_event.Goals as goal
 
 pub returns-in-Event : goal.returns-in-Event
 returns-in-Event g c =
-    let w = c.in-Bytes.ensures in
+    let w = c.in_ok-now.ensures in
     event-takes _ _ _ _ w.within.0 w.within.1 (sym c.in-Event.ensures) _ w

@@ -11,19 +11,19 @@ use Rattle.scores.proofs.Scores.choice.Goals as goal
 use Rattle.scores.proofs.Scores.choice.Goals.{then-most-key, else-most-key}
 
 pub loop-b-init : goal.loop-b-init
-loop-b-init c = (search rules, search rules, inl (omega arith), key-first _)
+loop-b-init c = (inl (omega arith), key-first _)
 
-pub returns-then-most-lt-KEY_BOARDS : goal.returns-then-most-lt-KEY_BOARDS
-returns-then-most-lt-KEY_BOARDS c =
+pub returns-then-most-lt-KEY_BOARDS-clause-is : goal.returns-then-most-lt-KEY_BOARDS-clause-is
+returns-then-most-lt-KEY_BOARDS-clause-is c =
     let d = c.loop-b in
     let e : d.b ≡ boards_most = omega arith in
-    key-none d.most c.args.self.counts (omega arith) c.if-most-lt-KEY_BOARDS.true ∙ rw e at d.invariant.3
+    key-none d.most c.args.self.counts (omega arith) c.if-most-lt-KEY_BOARDS.true ∙ rw e at d.invariant.1
 
-pub returns : goal.returns
-returns c =
+pub returns-clause-is : goal.returns-clause-is
+returns-clause-is c =
     let d = c.loop-b in
     let e : d.b ≡ boards_most = omega arith in
-    key-board d.most c.args.self.counts (omega arith) c.if-most-lt-KEY_BOARDS.false ∙ rw e at d.invariant.3
+    key-board d.most c.args.self.counts (omega arith) c.if-most-lt-KEY_BOARDS.false ∙ rw e at d.invariant.1
 
 pub loop-b-preserved : goal.loop-b-preserved
 loop-b-preserved c =
@@ -32,17 +32,16 @@ loop-b-preserved c =
     let most = c.loop-b.most in
     let counts = c.args.self.counts in
     let l = c.requires b in
+    let long : length counts ≡ boards_most = search rules in
     let i : b < length counts = omega arith in
     let key = get_or counts b 0 % counts_below * boards_most + (last_board - b) in
     let e : key ≡ get_or counts b 0 * boards_most + (last_board - b) = omega arith in (
-      omega arith,
-      k.1,
       elim c.if-most-key.branch [
         | then-most-key w ↦ rw w.most-is (before-key b (get_or counts b 0) key (omega arith) e)
-        | else-most-key w ↦ rw w.most-is (before_more b most k.2)
+        | else-most-key w ↦ rw w.most-is (before_more b most k.0)
       ],
       elim c.if-most-key.branch [
-        | then-most-key w ↦ rw w.most-is (key-higher most b counts i k.1 key e k.2 w.if-most-key.true ∙ k.3)
-        | else-most-key w ↦ rw w.most-is (key-not most b counts i k.1 key e w.if-most-key.false ∙ k.3)
+        | then-most-key w ↦ rw w.most-is (key-higher most b counts i long key e k.0 w.if-most-key.true ∙ k.1)
+        | else-most-key w ↦ rw w.most-is (key-not most b counts i long key e w.if-most-key.false ∙ k.1)
       ],
     )

@@ -1,13 +1,9 @@
 -- After b turns the first b counts are added (`added_to`), and those behind are as they were, so that no sum wraps. Assumes nothing.
 use mathlib.Core.Path.{◌≡◌}
-use Prim.Native.Nat.{◌-◌, ◌≤◌}
 use lib.ListN.{length}
 use Rattle.limits.specs.Limits.{boards_most}
 use Rattle.scores.proofs.Added.{added_to}
 use Rattle.scores.proofs.Scores.plus.Given as goal
 
 abbrev pub invariant-loop-b : goal.invariant-loop-b
-invariant-loop-b l = (l.b ≤ boards_most) × (length l.initial.sums ≡ boards_most) × (length l.more ≡ boards_most) × (l.sums ≡ added_to l.b l.initial.sums l.more)
-
-abbrev pub decreases-loop-b : goal.decreases-loop-b
-decreases-loop-b l = boards_most - l.b
+invariant-loop-b l = (length l.initial.sums ≡ boards_most) × (length l.more ≡ boards_most) × (l.sums ≡ added_to l.b l.initial.sums l.more)

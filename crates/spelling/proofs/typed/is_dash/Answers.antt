@@ -1,13 +1,11 @@
--- The tests in the order of the definition. Assumes nothing.
-use borrow.Author.Tests.{eq-eqb, ne_eqb}
-use Rattle.lists.specs.Tests.{both}
-use Rattle.spelling.specs.Reading.{is_dash}
+-- The text is the one byte. Assumes nothing.
+use mathlib.Core.Path.{ap, ◌∙◌}
+use mathlib.Core.List.{List}
+use Prim.Native.Nat.{ℕ}
+use lib.Pointwise.{pointwise}
+use lib.Dec.{eqb}
+use Rattle.spelling.proofs.Spelled.{dash_same}
 use Rattle.spelling.proofs.typed.is_dash.Goals as goal
 
-pub returns-then-text-ne1 : goal.returns-then-text-ne1
-unfolding is_dash both
-returns-then-text-ne1 c = rw (ne_eqb _ _ c.if-text-ne1.true)
-
 pub returns : goal.returns
-unfolding is_dash both
-returns c = rw (eq-eqb _ _ c.if-text-ne1.false)
+returns c = let e = c.as_slice.ensures in c.eq.ensures ∙ ap (λ (x : List ℕ). pointwise eqb c.args.text.now x) e ∙ dash_same c.args.text.now

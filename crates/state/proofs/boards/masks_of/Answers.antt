@@ -7,11 +7,11 @@ use Rattle.state.proofs.boards.masks_of.Goals as goal
 
 pub column-requires : goal.column-requires
 column-requires c =
-    let row_is : c.board_row.result ≡ board_row (form_in c.args.s.now) = c.board_row.ensures ∙ ap board_row c.of-form.ensures in
+    let row_is : c.board_row.result ≡ board_row (form_in c.args.s.now) = c.board_row.ensures ∙ ap board_row c.from-form.ensures in
     column-ask c.args.s.now c.requires.0 _ c.requires.1 (row_is) c.requires.2
 
 pub returns : goal.returns
 returns c =
-    let row_is : c.board_row.result ≡ board_row (form_in c.args.s.now) = c.board_row.ensures ∙ ap board_row c.of-form.ensures in
+    let row_is : c.board_row.result ≡ board_row (form_in c.args.s.now) = c.board_row.ensures ∙ ap board_row c.from-form.ensures in
     let a = c.args in
     masks-are a.s.now a.n (drop a.n a.out.now) (row_is) c.column.ensures

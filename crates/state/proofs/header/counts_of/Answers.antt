@@ -26,13 +26,13 @@ u16_at-requires c =
 pub overflow_add-result : goal.overflow_add-result
 overflow_add-result c =
     let e = c.board_at-records.ensures in let r = c.rows.ensures in
-    let f = board-few c.of-form.result c.u16_at-boards.result in
+    let f = board-few c.from-form.result c.u16_at-boards.result in
     record { fits = omega arith }
 
 pub returns : goal.returns
 returns c =
     let b = c.u16_at-boards.ensures in
     let s = c.args.s.now in
-    let e = place_is s _ c.of-form.ensures c.board_at-records.ensures ∙ ap (board_at (form_in s)) b in
+    let e = place_is s _ c.from-form.ensures c.board_at-records.ensures ∙ ap (board_at (form_in s)) b in
     let p = ap₂ ◌+◌ e (c.rows.ensures ∙ ap (slot_rows) c.u16_at-slots.ensures) in
     record { boards-are = b; slots-are = c.u16_at-slots.ensures; nodes-are = c.u16_at.ensures; records-at = e; stretches-at = p }

@@ -18,7 +18,7 @@ overflow_cast-slots c =
 pub overflow_cast-records : goal.overflow_cast-records
 overflow_cast-records c =
     let room : FrontRoom c.args.s.now (length c.args.masks.now) c.args.slots = front-room _ c.requires.0 c.requires.1 c.requires.2 in
-    let records-at : c.board_at-records.result ≡ slots_at (form_in c.args.s.now) (length c.args.masks.now) = place_is c.args.s.now (length c.args.masks.now) c.of-form.ensures c.board_at-records.ensures in
+    let records-at : c.board_at-records.result ≡ slots_at (form_in c.args.s.now) (length c.args.masks.now) = place_is c.args.s.now (length c.args.masks.now) c.from-form.ensures c.board_at-records.ensures in
     record { fits = omega arith }
 
 pub rows-requires : goal.rows-requires
@@ -29,14 +29,14 @@ rows-requires c =
 pub overflow_add-records : goal.overflow_add-records
 overflow_add-records c =
     let room : FrontRoom c.args.s.now (length c.args.masks.now) c.args.slots = front-room _ c.requires.0 c.requires.1 c.requires.2 in
-    let records-at : c.board_at-records.result ≡ slots_at (form_in c.args.s.now) (length c.args.masks.now) = place_is c.args.s.now (length c.args.masks.now) c.of-form.ensures c.board_at-records.ensures in
+    let records-at : c.board_at-records.result ≡ slots_at (form_in c.args.s.now) (length c.args.masks.now) = place_is c.args.s.now (length c.args.masks.now) c.from-form.ensures c.board_at-records.ensures in
     let nodes-at : c.board_at-records.result + c.rows.result < 65536 = let q = c.rows.ensures in omega arith in
     record { fits = omega arith }
 
 pub overflow_cast-records-2 : goal.overflow_cast-records-2
 overflow_cast-records-2 c =
     let room : FrontRoom c.args.s.now (length c.args.masks.now) c.args.slots = front-room _ c.requires.0 c.requires.1 c.requires.2 in
-    let records-at : c.board_at-records.result ≡ slots_at (form_in c.args.s.now) (length c.args.masks.now) = place_is c.args.s.now (length c.args.masks.now) c.of-form.ensures c.board_at-records.ensures in
+    let records-at : c.board_at-records.result ≡ slots_at (form_in c.args.s.now) (length c.args.masks.now) = place_is c.args.s.now (length c.args.masks.now) c.from-form.ensures c.board_at-records.ensures in
     let nodes-at : c.board_at-records.result + c.rows.result < 65536 = let q = c.rows.ensures in omega arith in
     record { fits = omega arith }
 
@@ -49,12 +49,12 @@ pub put_boards-requires : goal.put_boards-requires
 put_boards-requires c =
     let room : FrontRoom c.args.s.now (length c.args.masks.now) c.args.slots = front-room _ c.requires.0 c.requires.1 c.requires.2 in
     let head : boards_at ≤ length c.put_header.new.s = let k = c.put_header.auto.s in omega arith in
-    let t = tail-length boards_at c.put_header.new.s in let k = c.put_header.auto.s in (c.requires.1, boards-fit c.args.s.now (length c.args.masks.now) c.of-form.ensures (room).boards (omega arith))
+    let t = tail-length boards_at c.put_header.new.s in let k = c.put_header.auto.s in (c.requires.1, boards-fit c.args.s.now (length c.args.masks.now) c.from-form.ensures (room).boards (omega arith))
 
 pub returns : goal.returns
 returns c =
     let g = c.args in
-    let e = place_is g.s.now (length g.masks.now) c.of-form.ensures c.board_at-records.ensures in (
+    let e = place_is g.s.now (length g.masks.now) c.from-form.ensures c.board_at-records.ensures in (
       e,
-      front-done g.s.now g.masks.now g.slots g.nodes g.ticks c.of-form.ensures e c.rows.ensures c.put_header.ensures c.put_boards.ensures,
+      front-done g.s.now g.masks.now g.slots g.nodes g.ticks c.from-form.ensures e c.rows.ensures c.put_header.ensures c.put_boards.ensures,
     )

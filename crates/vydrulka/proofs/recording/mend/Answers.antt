@@ -6,11 +6,11 @@ use Rattle.vydrulka.proofs.recording.mend.Goals as goal
 pub refused-requires : goal.refused-requires
 refused-requires c why =
     let long = c.mend-answer.auto.marks in
-    let within = clash-within _ _ _ _ _ _ _ refl why c.in-Refused.ensures in
+    let within = clash-within _ _ _ _ _ _ _ refl why c.in-Err.ensures in
     omega arith
 
-pub returns-in-Mended : goal.returns-in-Mended
-returns-in-Mended c =
+pub returns-in-Ok : goal.returns-in-Ok
+returns-in-Ok c =
     let long = c.mend-answer.auto.marks in
-    let few = kept-within _ _ _ _ _ _ _ refl c.in-Mended.ensures in
+    let few = kept-within _ _ _ _ _ _ _ refl c.in-Ok.ensures in
     (omega arith, omega arith)

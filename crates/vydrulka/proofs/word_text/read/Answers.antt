@@ -5,12 +5,12 @@ use Rattle.vydrulka.proofs.word_text.read.Goals as goal
 
 pub slice_bounds-print-end : goal.slice_bounds-print-end
 slice_bounds-print-end c =
-    let few = read-few _ _ _ _ _ _ _ refl c.in-Rule.ensures in
+    let few = read-few _ _ _ _ _ _ _ refl c.in-Ok.ensures in
     let long = c.read-answer.auto.masks in
     omega arith
 
-pub slice_bounds-print-end-in-Rule : goal.slice_bounds-print-end-in-Rule
-slice_bounds-print-end-in-Rule c =
-    let few = read-few _ _ _ _ _ _ _ refl c.in-Rule.ensures in
+pub slice_bounds-print-end-in-Ok : goal.slice_bounds-print-end-in-Ok
+slice_bounds-print-end-in-Ok c =
+    let few = read-few _ _ _ _ _ _ _ refl c.in-Ok.ensures in
     let long = c.read-answer.auto.formula in
     omega arith

@@ -5,6 +5,6 @@ use Rattle.vydrulka.proofs.word_watch.take_events.Goals as goal
 
 pub slice_bounds-watch-end : goal.slice_bounds-watch-end
 slice_bounds-watch-end c =
-    let few = taken-within _ _ _ _ _ refl c.in-Taken.ensures in
+    let few = taken-within _ _ _ _ _ refl c.in-Ok.ensures in
     let long = c.stretch-answer.auto.events in
     omega arith

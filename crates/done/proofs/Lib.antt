@@ -1,2 +1,0 @@
--- Laws of the flags that say a tick is done.
-pub mod Flags

@@ -1,2 +1,0 @@
--- Laws of bytes that were read.
-pub mod Reached
