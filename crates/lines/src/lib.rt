@@ -6,9 +6,9 @@ ghost use Rattle.lines.specs.Lines.{decimal_of, field_of, verdict_text, standing
 
 use answers::{Refusal, Verdict};
 
-mod built;
+mod text_buffer;
 
-pub use built::TextBuffer;
+pub use text_buffer::TextBuffer;
 
 // Room for the longest line: a number of 20 digits, a verdict in 8 bytes, two further numbers in 21 bytes each, the line feed.
 pub const LINE: usize = 71;

@@ -5,7 +5,6 @@
 pub mod shown;
 pub mod window;
 
-ghost use Rattle.std.specs.Prelude.{◌≡◌, min};
 ghost use Rattle.pointing.specs.Points.{Points};
 
 use lines::TextBuffer;
@@ -13,18 +12,11 @@ use lines::TextBuffer;
 // Room for the two lines: a window, a line feed, what stands before the place, the mark and a line feed.
 pub const POINT_ROOM: usize = 141;
 
-// The smaller of two numbers.
-pub fn least(a: usize, b: usize) -> usize
-    ensures { result ≡ min a b }
-{
-    a.min(b)
-}
-
 // The two lines for a place of a text, which is its end where it has no such byte.
 pub fn put(text: &[u8], place: usize) -> TextBuffer<POINT_ROOM>
     ensures { Points text.now place result }
 {
-    let at = least(place, text.len());
+    let at = place.min(text.len());
     let from = window::from(text, at);
     let to = window::to(text, at);
     let mut lines = TextBuffer::new();

@@ -1,4 +1,6 @@
 // The header of a request: which call, and how much is given and lent to it.
+ghost use Rattle.requests.specs.Calls.{Numbers};
+
 use crate::{BYTES_MOST, EVENTS_GIVEN_MOST, FILE_BYTES_MOST, MASKS_MOST, RUNS_BYTES_MOST};
 
 // Three numbers of 32 bits stand behind the call's, and one of 64 bits behind those.
@@ -42,6 +44,8 @@ pub struct NoCall(pub u32);
 
 impl TryFrom<u32> for Call {
     type Error = NoCall;
+
+    ghost try_from_gives = { Numbers };
 
     fn try_from(number: u32) -> Result<Call, NoCall> {
         match number {

@@ -1,0 +1,2 @@
+-- What the contracts of `requests` cite.
+pub mod Calls
