@@ -12,12 +12,15 @@ pub fn narrow(x: usize) -> u16
     x as u16
 }
 
-// Copies s to the front of `to`.
+// Copies s to the front of `to`. A loop, as in the two below: compilers turn it into moves of many bytes at a time, or into memcpy where
+// they see that the two cannot overlap. The slice's own copy calls memmove, which the archive for C would need from outside too.
 pub fn copy(to: &mut [u8], s: &[u8])
     requires { length s.now ≤ length to.old }
     ensures { to.new ≡ s.now ++ drop (length s.now) to.old }
 {
-    to[..s.len()].copy_from_slice(s);
+    for i in 0..s.len() {
+        to[i] = s[i];
+    }
 }
 
 // Copies s, of the same length, over `to`.
@@ -25,7 +28,9 @@ pub fn copy_masks(to: &mut [u64], s: &[u64])
     requires { length s.now ≡ length to.old }
     ensures { to.new ≡ s.now }
 {
-    to.copy_from_slice(s);
+    for i in 0..s.len() {
+        to[i] = s[i];
+    }
 }
 
 // Copies n bytes of s, from `from` on, to the place `to` of p; all else stays.
@@ -33,7 +38,9 @@ pub fn put(p: &mut [u8], to: usize, s: &[u8], from: usize, n: usize)
     requires { (to + n ≤ length p.old) × (from + n ≤ length s.now) }
     ensures { p.new ≡ take to p.old ++ (take n (drop from s.now) ++ drop (to + n) p.old) }
 {
-    p[to..to + n].copy_from_slice(&s[from..from + n]);
+    for i in 0..n {
+        p[to + i] = s[from + i];
+    }
 }
 
 // Moves eight bytes from `from` to `to`. All are read before one is stored, so that the two runs may overlap.
@@ -89,7 +96,10 @@ pub fn raise_notes(notes: &mut [u16], from: usize, n: usize, up: usize)
     requires { from + n + up ≤ length notes.old }
     ensures { notes.new ≡ take (from + up) notes.old ++ (take n (drop from notes.old) ++ drop (from + up + n) notes.old) }
 {
-    notes.copy_within(from..from + n, from + up);
+    // A loop: `copy_within` calls memmove too.
+    for i in (0..n).rev() {
+        notes[from + up + i] = notes[from + i];
+    }
 }
 
 // Sets n notes from `from` on to 0. A loop, because `fill` stores the last one apart and takes half as long again for a few notes.
