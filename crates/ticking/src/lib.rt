@@ -20,15 +20,18 @@ pub fn tick(
     requires { TickAsk state.old c second.old masks.now owner.now u.old tags.old }
     ensures { TicksOnce state.old c event state.new second.new result }
 {
-    giving::give(second, c, event)?;
-    closing::close_lent(
-        second,
-        c,
-        state,
-        c.stretches + c.nodes,
-        masks,
-        owner,
-        u,
-        tags,
-    )
+    // A `match` and no `?`: what is told of a refusal stands here, where an edit can turn it.
+    match giving::give(second, c, event) {
+        Err(why) => Err(why),
+        Ok(()) => closing::close_lent(
+            second,
+            c,
+            state,
+            c.stretches + c.nodes,
+            masks,
+            owner,
+            u,
+            tags,
+        ),
+    }
 }
