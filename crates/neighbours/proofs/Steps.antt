@@ -1,6 +1,6 @@
--- Steps and marks: the step to the next record (`steps_next`), and the mark as a pass reads it, where nothing clashes (`mark-read`).
--- Assumes nothing.
-use Rattle.std.proofs.Common.{◌≡◌, ℕ, zero, suc, ◌+◌, ◌^◌, ◌<◌, ◌≤◌, Bool, true, false, eqb, List, sym, refl, ap, ◌∙◌, add-one, arith, eqb-true}
+-- Steps and marks: the subtraction is the step (`step-wraps`), a counter one below the first (`one-before`), the step to the next record
+-- (`steps_next`), and the mark as a pass reads it, where nothing clashes (`mark-read`). Assumes nothing.
+use Rattle.std.proofs.Common.{◌≡◌, ℕ, zero, suc, ◌+◌, ◌%◌, ◌^◌, ◌<◌, ◌≤◌, Bool, true, false, eqb, List, sym, refl, ap, ◌∙◌, add-one, arith, eqb-true}
 use borrow.Author.Tests.{eqb-false}
 use Rattle.lists.specs.Tests.{pick}
 use Rattle.le.proofs.Laws.{Bytes}
@@ -12,6 +12,14 @@ use Rattle.recordings.proofs.Bytes.{record-fits}
 use Rattle.neighbours.specs.Steps.{step_by, mark_of_step, StepsTo}
 
 -- ---- the step
+pub step-wraps : (a b d : ℕ) → a < 2 ^ 32 → b < 2 ^ 32 → d < 2 ^ 32 → (d + a) % 2 ^ 32 ≡ b → d ≡ step_from a b
+unfolding step_from
+step-wraps a b d h k l e = omega arith
+
+pub one-before : (s : List ℕ) (a b : ℕ) → a < 2 ^ 32 → b < 2 ^ 32 → a ≡ (record_in s 0).counter → (b + 1) % 2 ^ 32 ≡ a → StepsTo s 0 b
+unfolding step_by step_from
+one-before s a b h k x e = let y = x in omega arith
+
 -- the next record comes after this one
 pub steps_next : (s : List ℕ) (i : ℕ) {c : ℕ} → c ≡ (record_in s i).counter → StepsTo s (i + 1) c
 unfolding step_by

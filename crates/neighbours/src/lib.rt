@@ -8,7 +8,7 @@ ghost use Rattle.recordings.specs.Records.{mark_byte, step_from, dropped};
 ghost use Rattle.recordings.specs.Recording.{record_length, recording_length, record_in};
 ghost use Rattle.neighbours.specs.Steps.{mark_of_step, StepsTo, StepsToFirst};
 
-use recordings::{Mark, RECORD_LENGTH, RECORDS_AT};
+use recordings::{DROPPED, Mark, RECORD_LENGTH, RECORDS_AT};
 
 #[tactic(auto, unfolding(recordings::specs::Recording::record_in))]
 pub fn counter_at(recording: &[u8], i: usize) -> u32
@@ -69,10 +69,10 @@ pub fn mark_of(step: u32) -> Mark
     }
 }
 
-// How many records this mark keeps.
+// How many records this mark keeps, which is told by its byte: any byte but that of a dropped record keeps one.
 #[tactic(auto, unfolding(lists::specs::Tests::pick))]
-pub fn kept_by(mark: Mark) -> usize
-    ensures { result ≡ pick (mark_byte mark == dropped) 0 1 }
+pub fn kept_by(mark: u8) -> usize
+    ensures { result ≡ pick (mark == dropped) 0 1 }
 {
-    usize::from(mark != Mark::Dropped)
+    usize::from(mark != DROPPED)
 }

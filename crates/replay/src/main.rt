@@ -26,7 +26,7 @@ fn prepare<I: Read>(
 ) -> io::Result<bool> {
     lent::fill_masks(numbers);
     lent::fill_bytes(fresh);
-    payload::take(input, call, numbers, given)
+    payload::take(input, u32::from(call), numbers, given)
 }
 
 // Answers a request over the parts that are given and lent.
@@ -47,7 +47,7 @@ fn answer_over<I: Read, W: Write>(
         });
     }
     let answered = calls::make(call, value, given, numbers, fresh, kept);
-    line::write(out, call, answered, numbers, kept, fresh)?;
+    line::write(out, u32::from(call), answered, numbers, kept, fresh)?;
     Ok(Made {
         good: true,
         keep: answered.number == 0 && call.keeps(),

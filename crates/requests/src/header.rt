@@ -1,5 +1,7 @@
 // The header of a request: which call, and how much is given and lent to it.
-ghost use Rattle.requests.specs.Calls.{Numbers};
+ghost use Rattle.std.specs.Prelude.{◌≡◌, ◌⊎◌, ◌<◌, false};
+ghost use Rattle.requests.specs.Calls.{Numbers, number_of};
+ghost use Rattle.requests.specs.declared.header.Call.TheVariants.{Stretch};
 
 use crate::{BYTES_MOST, EVENTS_GIVEN_MOST, FILE_BYTES_MOST, MASKS_MOST, RUNS_BYTES_MOST};
 
@@ -70,6 +72,31 @@ impl TryFrom<u32> for Call {
     }
 }
 
+impl From<Call> for u32 {
+    ghost from_gives = { λ call number. number ≡ number_of call };
+
+    fn from(call: Call) -> u32 {
+        match call {
+            Call::Read => 1,
+            Call::Write => 2,
+            Call::Central => 3,
+            Call::Load => 4,
+            Call::Sample => 5,
+            Call::Step => 6,
+            Call::Close => 7,
+            Call::Ask => 8,
+            Call::Poke => 9,
+            Call::Capture => 10,
+            Call::Parse => 11,
+            Call::Print => 12,
+            Call::Report => 13,
+            Call::Add => 14,
+            Call::Mend => 15,
+            Call::Stretch => 16,
+        }
+    }
+}
+
 // What is given and lent to a call. What is lent is hashed behind it.
 impl Call {
     // Write is given masks, and capture events.
@@ -112,6 +139,37 @@ impl Call {
     pub fn keeps(self) -> bool {
         matches!(self, Call::Load | Call::Close | Call::Report)
     }
+}
+
+// The same by the call's number. By a number that no call has nothing is lent, and nothing kept.
+pub fn lends_numbers(call: u32) -> bool
+    ensures { (call ≡ 0) ⊎ (number_of Stretch < call) → result ≡ false }
+{
+    Call::try_from(call).is_ok_and(|call| call.lends_numbers())
+}
+
+pub fn lends_kept(call: u32) -> bool
+    ensures { (call ≡ 0) ⊎ (number_of Stretch < call) → result ≡ false }
+{
+    Call::try_from(call).is_ok_and(|call| call.lends_kept())
+}
+
+pub fn lends_fresh(call: u32) -> bool
+    ensures { (call ≡ 0) ⊎ (number_of Stretch < call) → result ≡ false }
+{
+    Call::try_from(call).is_ok_and(|call| call.lends_fresh())
+}
+
+pub fn lends_marks(call: u32) -> bool
+    ensures { (call ≡ 0) ⊎ (number_of Stretch < call) → result ≡ false }
+{
+    Call::try_from(call).is_ok_and(|call| call.lends_marks())
+}
+
+pub fn keeps(call: u32) -> bool
+    ensures { (call ≡ 0) ⊎ (number_of Stretch < call) → result ≡ false }
+{
+    Call::try_from(call).is_ok_and(|call| call.keeps())
 }
 
 // ---- the request

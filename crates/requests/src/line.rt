@@ -1,8 +1,7 @@
 // The line that answers a request: fields parted by one space, and a line feed, built as a text and written at once.
-ghost use Rattle.std.specs.Prelude.{◌≡◌, ◌+◌, ◌≤◌, length};
+ghost use Rattle.std.specs.Prelude.{◌≡◌, ◌+◌, ◌≤◌, ◌∷◌, length, replicate};
 
-use crate::header::Call;
-use crate::lent;
+use crate::{header, lent};
 use answers::Refusal;
 use lines::TextBuffer;
 use std::io;
@@ -20,7 +19,9 @@ pub struct Answered {
 
 impl Answered {
     // Accepted, without a value.
-    pub fn done() -> Answered {
+    pub fn done() -> Answered
+        ensures { (result.number ≡ 0) × (result.values ≡ replicate 4 0) × (result.count ≡ 0) × (result.marks ≡ 0) }
+    {
         Answered {
             number: 0,
             values: [0; 4],
@@ -30,12 +31,16 @@ impl Answered {
     }
 
     // Accepted, with one value.
-    pub fn one(value: u64) -> Answered {
+    pub fn one(value: u64) -> Answered
+        ensures { (result.number ≡ 0) × (result.values ≡ value ∷ replicate 3 0) × (result.count ≡ 1) × (result.marks ≡ 0) }
+    {
         Answered::accepted(1, [value, 0, 0, 0])
     }
 
     // Accepted, with the first `count` of the values.
-    pub fn accepted(count: usize, values: [u64; 4]) -> Answered {
+    pub fn accepted(count: usize, values: [u64; 4]) -> Answered
+        ensures { (result.number ≡ 0) × (result.values ≡ values) × (result.count ≡ count) × (result.marks ≡ 0) }
+    {
         Answered {
             values,
             count,
@@ -89,7 +94,7 @@ fn begun(answered: Answered) -> TextBuffer<LINE>
 // The hashes of what was lent to the call, and the line feed.
 fn put_hashes(
     line: &mut TextBuffer<LINE>,
-    call: Call,
+    call: u32,
     numbers: u64,
     kept: u64,
     fresh: u64,
@@ -97,16 +102,16 @@ fn put_hashes(
 )
     requires { length line.old ≤ 104 }
 {
-    if call.lends_numbers() {
+    if header::lends_numbers(call) {
         line.field(numbers);
     }
-    if call.lends_kept() {
+    if header::lends_kept(call) {
         line.field(kept);
     }
-    if call.lends_fresh() {
+    if header::lends_fresh(call) {
         line.field(fresh);
     }
-    if call.lends_marks() {
+    if header::lends_marks(call) {
         line.field(marks);
     }
     line.put(b"\n");
@@ -114,7 +119,7 @@ fn put_hashes(
 
 pub fn write<W: Write>(
     out: &mut W,
-    call: Call,
+    call: u32,
     answered: Answered,
     numbers: &[u64],
     kept: &[u8],

@@ -37,14 +37,19 @@ fn take_numbers<I: Read>(input: &mut I, numbers: &mut [u64]) -> io::Result<bool>
     Ok(true)
 }
 
+// A number that no call has is given none.
+fn is_given_numbers(call: u32) -> bool {
+    Call::try_from(call).is_ok_and(|call| call.is_given_numbers())
+}
+
 // The numbers come first.
 pub fn take<I: Read>(
     input: &mut I,
-    call: Call,
+    call: u32,
     numbers: &mut [u64],
     given: &mut [u8],
 ) -> io::Result<bool> {
-    if call.is_given_numbers() && !take_numbers(input, numbers)? {
+    if is_given_numbers(call) && !take_numbers(input, numbers)? {
         return Ok(false);
     }
     take_bytes(input, given)

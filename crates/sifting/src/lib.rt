@@ -62,8 +62,9 @@ fn sift_from(
         let mark = neighbours::mark_of(step);
         let event = neighbours::event_at(recording, i);
         put_record(out, kept, counter, event);
-        marks[i] = u8::from(mark);
-        kept += neighbours::kept_by(mark);
+        let byte = u8::from(mark);
+        marks[i] = byte;
+        kept += neighbours::kept_by(byte);
         before = counter;
     }
     Reached { place: n, kept }

@@ -23,7 +23,7 @@ fn gather(recording: &[u8], events: &mut [u64]) -> usize
             return kept;
         }
         events[kept] = neighbours::event_at(recording, i);
-        kept += neighbours::kept_by(mark);
+        kept += neighbours::kept_by(u8::from(mark));
         before = counter;
     }
     kept

@@ -1,9 +1,6 @@
-use mathlib.Core.Path.{◌≡◌, refl, sym, ap, ◌∙◌}
-use Prim.Native.Nat.{ℕ}
+use mathlib.Core.Path.{◌≡◌, refl, sym, ◌∙◌}
 use native.Mathlib.Omega.{arith}
-use lib.Dec.{eqb}
-use Rattle.lists.specs.Tests.{pick}
-use Rattle.recordings.specs.Records.{Record, dropped}
+use Rattle.recordings.specs.Records.{Record}
 use Rattle.recordings.specs.Recording.{record_in}
 use Rattle.neighbours.proofs.Steps.{steps_next, mark-read, kept-most}
 use Rattle.sifting.proofs.Turning.{kept-least, sift-more, none_more, reach-stop, reach-end}
@@ -34,8 +31,7 @@ loop-i-preserved c =
     let same : ◌≡◌ {A = Record} (record { counter = c.counter_at-counter.result; event = c.event_at-event.result }) (record_in s i) =
     λ z. record { counter = c.counter_at-counter.ensures z; event = c.event_at-event.ensures z } in
     record {
-      sifted = sift-more t.sifted (c.from.ensures ∙ c.mark_of-mark.ensures ∙ m) (omega arith) same c.put_record.ensures (omega arith)
-          (c.kept_by-kept.ensures ∙ ap (λ (b : ℕ). pick (eqb b dropped) 0 1) (sym c.from.ensures));
+      sifted = sift-more t.sifted (c.from-byte.ensures ∙ c.mark_of-mark.ensures ∙ m) (omega arith) same c.put_record.ensures (omega arith) c.kept_by-kept.ensures;
       steps = λ x. steps_next s i c.counter_at-counter.ensures;
       none = none_more s t.none m (sym c.stops_at.ensures ∙ c.if-stops_at.false);
       bytes = t.bytes;

@@ -1,6 +1,9 @@
-use mathlib.Core.Path.{ap}
+use mathlib.Core.Path.{ap, ◌∙◌}
+use Prim.Native.Nat.{ℕ}
 use native.Mathlib.Omega.{arith}
-use Rattle.recordings.specs.Records.{mark_byte}
+use lib.Dec.{eqb}
+use Rattle.lists.specs.Tests.{pick}
+use Rattle.recordings.specs.Records.{mark_byte, dropped}
 use Rattle.neighbours.proofs.Steps.{steps_next, mark-read, kept-most}
 use Rattle.stretching.proofs.Gathering.{unbroken, gather_none, gather-few, gather-more, gather-stops, gather-done}
 use Rattle.stretching.proofs.gather.Goals as goal
@@ -29,7 +32,7 @@ loop-i-preserved c =
     let k = gather-few t.gathered in
     let m = mark-read s c.loop-i.before t.bytes c.requires.clear h (t.steps h) c.counter_at-counter.ensures c.step.ensures c.mark_of-mark.ensures in
     record {
-      gathered = gather-more t.gathered m (unbroken _ c.in_default.not-Broken) (omega arith) c.event_at.ensures c.kept_by-kept.ensures;
+      gathered = gather-more t.gathered m (unbroken _ c.in_default.not-Broken) (omega arith) c.event_at.ensures (c.kept_by-kept.ensures ∙ ap (λ (b : ℕ). pick (eqb b dropped) 0 1) c.from.ensures);
       steps = λ l. steps_next s c.loop-i.i c.counter_at-counter.ensures;
       bytes = t.bytes;
     }
