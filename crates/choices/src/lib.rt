@@ -4,7 +4,7 @@
 
 pub mod marks;
 mod over;
-mod picks;
+pub mod picks;
 mod rows;
 
 ghost use Rattle.std.specs.Prelude.{◌≡◌};

@@ -59,6 +59,15 @@ ends-here t i s h e =
 pub ends-end : (t : List ℕ) (i : ℕ) (s : Mode) → length t ≤ i → final s ≡ false → Ends t i s i
 ends-end t i s h e = record { refuses = rw (drop_of_length-le t h) e; place = rw (drop_of_length-le t h) (omega arith) }
 
+-- two modes that the next byte leads to the same one
+pub moves-alike : (t : List ℕ) (i : ℕ) (s u : Mode) → i < length t → step s (get_or t i 0) ≡ step u (get_or t i 0) → Moves t i s i u
+unfolding pick
+moves-alike t i s u h e =
+    record {
+      same = rw (drop-cons t i 0 h) (ap (λ (x : Mode). final (run (drop (suc i) t) x)) e);
+      place = rw (drop-cons t i 0 h) (ap (λ (x : Mode). i + pick (alive x) (suc (passed (drop (suc i) t) x)) 0) e);
+    }
+
 -- the byte behind which x stands leads from s to u
 pub moves-past : (t : List ℕ) (c x : TextCursor) (s u : Mode) → Behind t c x → c.byte < length t → step s (get_or t c.byte 0) ≡ u → alive u ≡ true
     → Moves t c.byte s x.byte u

@@ -25,11 +25,11 @@ use Rattle.folded.proofs.Again.{Bare, bare-folded}
 use Rattle.folding.specs.Bare.{bare_byte, bare_from, lowest_from}
 
 -- ---- one byte
-byte_high : (last b : ℕ) → 2 ≤ b → true ≡ bare_byte last b
+pub byte_high : (last b : ℕ) → 2 ≤ b → true ≡ bare_byte last b
 unfolding bare_byte either
 byte_high last b h = sym (ap (λ (x : Bool). either x (both (eqb last 6) (eqb b 1))) (le-leb 2 b h))
 
-byte_low : (last b : ℕ) → b < 2 → bare_byte last b ≡ both (eqb last 6) (eqb b 1)
+pub byte_low : (last b : ℕ) → b < 2 → bare_byte last b ≡ both (eqb last 6) (eqb b 1)
 unfolding bare_byte either
 byte_low last b h = ap (λ (x : Bool). either x (both (eqb last 6) (eqb b 1))) (lt-leb 2 b h)
 

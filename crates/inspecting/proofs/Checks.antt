@@ -26,7 +26,7 @@ module _ (lengths : Bool) (s : List ℕ) (answer : Said) where
   abbrev later : List Check
   later = check 4 (header_ok s) ∷ last
 
-  abbrev says_of : Said
+  abbrev pub says_of : Said
   says_of = inspect_says lengths s answer
 
   -- ---- one that fails

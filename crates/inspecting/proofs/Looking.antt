@@ -28,7 +28,7 @@ same_step a b h k {d} e = go (ℕ_discrete b a)
 
 module _ (f : ℕ → Record) (i : ℕ) where
   -- another counter is no clash
-  clash-other : same_by f i ≡ false → clash_by f i ≡ false
+  pub clash-other : same_by f i ≡ false → clash_by f i ≡ false
   unfolding clashes both
   clash-other e = rw e refl
 

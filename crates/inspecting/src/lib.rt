@@ -29,7 +29,7 @@ pub fn count_in(recording: &[u8]) -> usize
 
 // Whether the numbers of the header agree.
 #[tactic(auto, unfolding(recordings::specs::Recording::header_ok, lists::specs::Tests::both))]
-fn header_fits(recording: &[u8]) -> bool
+pub fn header_fits(recording: &[u8]) -> bool
     requires { records_at ≤ length recording.now }
     ensures { result ≡ header_ok recording.now }
 {

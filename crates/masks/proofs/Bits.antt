@@ -58,6 +58,10 @@ pub ones_is : (m : ℕ) → m < 2 ^ 64 → ones m ≡ ones_of m
 unfolding ones_of
 ones_is m h = ones-bits 64 m h
 
+pub ones-few : (m : ℕ) → ones_of m ≤ propositions_most
+unfolding ones_of
+ones-few m = sum-few propositions_most (bit_at m) (bit-less m)
+
 -- ---- the machine's count of trailing zeros
 pub trailing-is : (k n : ℕ) → 0 < n → n < 2 ^ k
     → (count_trailing_zeros k n < k) × (bit_at n (count_trailing_zeros k n) ≡ 1) × ((j : ℕ) → j < count_trailing_zeros k n → bit_at n j ≡ 0)

@@ -62,7 +62,7 @@ parts s (two o f g) rest x =
     let q : drop (1 + size f) s ≡ encode g ++ rest = ap (drop (1 + size f)) b ∙ drop_at (binary_code o ∷ encode f) (encode g ++ rest) (1 + size f) (let l = length-encode f in omega arith) in
     rw e (is_two (b ∙ ap (binary_code o ∷◌) (sym d)) (record { coded = x.coded.0; bytes = d }) (record { coded = x.coded.1; bytes = q }))
 
--- the same at a place of the code: the kind that `Kind::of` gave, and the variant that it was matched with
+-- the same at a place of the code: the kind that `Kind::from` gave, and the variant that it was matched with
 pub parts-as : (s : List ℕ) (f : Formula) (rest : List ℕ) → Front s f rest → {r k : Kind} → r ≡ kind_of (get_or s 0 0) → r ≡ k → Parts s rest f k
 parts-as s f rest x e h = subst (λ (k : Kind). Parts s rest f k) (sym e ∙ h) (parts s f rest x)
 

@@ -1,4 +1,4 @@
--- The operands of the formula in front, at a place of the code: `one_of` and `two-of` take the kind that `Kind::of` gave and the
+-- The operands of the formula in front, at a place of the code: `one_of` and `two-of` take the kind that `Kind::from` gave and the
 -- variant that it was matched with, `single-as` and `double-as` what the operator in that was matched with; `left-read` is what is
 -- known of the right operand once the left one was read. Assumes nothing.
 use mathlib.Core.Path.{◌≡◌, refl, sym, ap, ◌∙◌, subst}

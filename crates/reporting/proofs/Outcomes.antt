@@ -53,7 +53,7 @@ module _ (s report : List ℕ) (right : run_lengths_ok s (length report) ≡ tru
   unfolding report_says
   says-told = order-ok 1 (run_lengths_ok s (length report)) [] (told_of s) right ∙ order-done (told_of s)
 
-  runs-few : run_count s ≤ runs_most
+  pub runs-few : run_count s ≤ runs_most
   unfolding run_lengths_ok
   runs-few = let h = leb-true (length s) (run_length * runs_most) (both-1 _ _ (both-1 _ _ right)) in omega arith
 

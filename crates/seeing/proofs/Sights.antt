@@ -46,7 +46,7 @@ module _ (s : List ℕ) where
   over-cons b l x = refl
 
   -- ---- behind one node
-  after-low : (b : ℕ) (x : Seen) → b < hold_code → sight_after s b x ≡ Some x
+  pub after-low : (b : ℕ) (x : Seen) → b < hold_code → sight_after s b x ≡ Some x
   unfolding sight_after pick
   after-low b x h = rw (lt-ltb b hold_code h)
 

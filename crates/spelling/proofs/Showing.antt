@@ -104,7 +104,7 @@ list-more (i ∷ is) k start at e =
     rw (ne_eqb at start (λ same. omega arith))
     (ap (λ (x : List ℕ). name_of i ++ x) (more-text is k) ∙ sym (append_assoc (name_of i) (more_text is) (44 ∷ name_of k)))
 
-below_more : (m i start at : ℕ) → at ≡ start + length (list_text (seen_below m i)) → list_text (seen_below m (i + 1)) ≡ list_text (seen_below m i) ++ next_text m start at i
+pub below_more : (m i start at : ℕ) → at ≡ start + length (list_text (seen_below m i)) → list_text (seen_below m (i + 1)) ≡ list_text (seen_below m i) ++ next_text m start at i
 unfolding next_text pick
 below_more m i start at e = ap (λ (k : ℕ). list_text (seen_below m k)) (add-one i) ∙ go (bit m i)
   where

@@ -158,7 +158,7 @@ ends-within s a h b ends =
     let t = tail-length a s in
     omega arith
 
--- ---- at a place of the code: the kind that `Kind::of` gave, and the variants that it was matched with
+-- ---- at a place of the code: the kind that `Kind::from` gave, and the variants that it was matched with
 module _ {s : List ℕ} {r : ℕ} {ts : List Task} {bs : List ℕ} (t : Todo s r (here ∷ ts) bs) {k : Kind} (is : k ≡ kind_of (get_or s r 0)) where
   abbrev H : HereAt s r ts bs
   H = here-at t
