@@ -1,7 +1,6 @@
 // The header of a request: which call, and how much is given and lent to it.
-ghost use Rattle.std.specs.Prelude.{◌≡◌, ◌⊎◌, ◌<◌, false};
-ghost use Rattle.requests.specs.Calls.{Numbers, number_of};
-ghost use Rattle.requests.specs.declared.header.Call.TheVariants.{Stretch};
+ghost use Rattle.std.specs.Prelude.{◌≡◌};
+ghost use Rattle.requests.specs.Calls.{Numbers, number_of, is_given_numbers, lends_numbers, lends_kept, lends_fresh, lends_marks, keeps, ByNumber};
 
 use crate::{BYTES_MOST, EVENTS_GIVEN_MOST, FILE_BYTES_MOST, MASKS_MOST, RUNS_BYTES_MOST};
 
@@ -100,22 +99,30 @@ impl From<Call> for u32 {
 // What is given and lent to a call. What is lent is hashed behind it.
 impl Call {
     // Write is given masks, and capture events.
-    pub fn is_given_numbers(self) -> bool {
+    pub fn is_given_numbers(self) -> bool
+        ensures { result ≡ is_given_numbers self }
+    {
         matches!(self, Call::Write | Call::Capture)
     }
 
-    pub fn lends_numbers(self) -> bool {
+    pub fn lends_numbers(self) -> bool
+        ensures { result ≡ lends_numbers self }
+    {
         matches!(self, Call::Read | Call::Stretch)
     }
 
-    pub fn lends_kept(self) -> bool {
+    pub fn lends_kept(self) -> bool
+        ensures { result ≡ lends_kept self }
+    {
         matches!(
             self,
             Call::Sample | Call::Step | Call::Close | Call::Ask | Call::Capture | Call::Add
         )
     }
 
-    pub fn lends_fresh(self) -> bool {
+    pub fn lends_fresh(self) -> bool
+        ensures { result ≡ lends_fresh self }
+    {
         matches!(
             self,
             Call::Read
@@ -131,43 +138,47 @@ impl Call {
         )
     }
 
-    pub fn lends_marks(self) -> bool {
+    pub fn lends_marks(self) -> bool
+        ensures { result ≡ lends_marks self }
+    {
         self == Call::Mend
     }
 
     // What is lent afresh becomes the kept state where the call is accepted.
-    pub fn keeps(self) -> bool {
+    pub fn keeps(self) -> bool
+        ensures { result ≡ keeps self }
+    {
         matches!(self, Call::Load | Call::Close | Call::Report)
     }
 }
 
 // The same by the call's number. By a number that no call has nothing is lent, and nothing kept.
 pub fn lends_numbers(call: u32) -> bool
-    ensures { (call ≡ 0) ⊎ (number_of Stretch < call) → result ≡ false }
+    ensures { ByNumber lends_numbers call result }
 {
     Call::try_from(call).is_ok_and(|call| call.lends_numbers())
 }
 
 pub fn lends_kept(call: u32) -> bool
-    ensures { (call ≡ 0) ⊎ (number_of Stretch < call) → result ≡ false }
+    ensures { ByNumber lends_kept call result }
 {
     Call::try_from(call).is_ok_and(|call| call.lends_kept())
 }
 
 pub fn lends_fresh(call: u32) -> bool
-    ensures { (call ≡ 0) ⊎ (number_of Stretch < call) → result ≡ false }
+    ensures { ByNumber lends_fresh call result }
 {
     Call::try_from(call).is_ok_and(|call| call.lends_fresh())
 }
 
 pub fn lends_marks(call: u32) -> bool
-    ensures { (call ≡ 0) ⊎ (number_of Stretch < call) → result ≡ false }
+    ensures { ByNumber lends_marks call result }
 {
     Call::try_from(call).is_ok_and(|call| call.lends_marks())
 }
 
 pub fn keeps(call: u32) -> bool
-    ensures { (call ≡ 0) ⊎ (number_of Stretch < call) → result ≡ false }
+    ensures { ByNumber keeps call result }
 {
     Call::try_from(call).is_ok_and(|call| call.keeps())
 }

@@ -1,5 +1,6 @@
 // A request's payload, taken from the input: whether it was not cut short.
 ghost use Rattle.std.specs.Prelude.{◌≤◌, length, IfOk};
+ghost use Rattle.requests.specs.Calls.{is_given_numbers, ByNumber};
 
 use crate::header::Call;
 use std::io;
@@ -38,7 +39,9 @@ fn take_numbers<I: Read>(input: &mut I, numbers: &mut [u64]) -> io::Result<bool>
 }
 
 // A number that no call has is given none.
-fn is_given_numbers(call: u32) -> bool {
+fn is_given_numbers(call: u32) -> bool
+    ensures { ByNumber is_given_numbers call result }
+{
     Call::try_from(call).is_ok_and(|call| call.is_given_numbers())
 }
 
